@@ -1,0 +1,79 @@
+-- The steps of an addition, each with what it leaves.
+use Rattle.std.proofs.Common.{◌≡◌, ℕ, ◌<◌, ◌/◌, ◌*◌, ℤ, pos, to_z, of_z, ap, ◌∙◌, arith, Bool, true, false, Some, None, refl}
+use Rattle.std.specs.Prelude.{◌+ℤ◌, ◌*ℤ◌, if◌then◌else◌}
+use Rattle.std.specs.Int.{w128}
+use Rattle.fraction.specs.Gcd.{gcd}
+use Rattle.fraction.specs.Rational.{ℚ, frac, +ℚ_over, quotient_positive}
+use Rattle.std.proofs.Math.Nat.{mul-pos}
+use Rattle.fraction.specs.Checked.{small, held, is_small, add_fits, add_checked}
+use Rattle.fraction.proofs.Casts.{back}
+
+pub none_guard : {A : Type 0} (b : Bool) (v : A) → None ≡ (if b then Some v else None) → b ≡ false
+none_guard true v e = cc
+none_guard false v e = refl
+
+pub some_guard : {A : Type 0} (b : Bool) (v w : A) → Some w ≡ (if b then Some v else None) → (b ≡ true) × (w ≡ v)
+some_guard true v w e = (refl, cc)
+some_guard false v w e = cc
+
+pub small_of : (w z : ℤ) → Some w ≡ small z → (is_small z ≡ true) × (w ≡ z)
+small_of w z e = some_guard (is_small z) z w e
+
+-- what was found small is so after a cast to bits and back
+pub back_small : (w z : ℤ) → Some w ≡ small z → to_z w128 (of_z w128 w) ≡ z
+back_small w z e =
+    let s = small_of w z e in
+    ap (λ v. to_z w128 (of_z w128 v)) s.1 ∙ back z (grind (arith, s.0))
+
+module _ (x y : ℚ) (n m : ℤ) (g : ℕ) (en : n ≡ x.num) (em : m ≡ y.num) (eg : g ≡ gcd x.den y.den) where
+  first : n *ℤ pos (y.den / g) ≡ x.num *ℤ pos (y.den / gcd x.den y.den)
+  first = λ i. en i *ℤ pos (y.den / eg i)
+
+  second : m *ℤ pos (x.den / g) ≡ y.num *ℤ pos (x.den / gcd x.den y.den)
+  second = λ i. em i *ℤ pos (x.den / eg i)
+
+  pub none_left : None ≡ small (n *ℤ pos (y.den / g)) → None ≡ add_checked x y
+  unfolding add_checked add_fits
+  none_left e = let h = none_guard _ _ (rw first at e) in rw h
+
+  pub none_right : (l : ℤ) → Some l ≡ small (n *ℤ pos (y.den / g)) → None ≡ small (m *ℤ pos (x.den / g)) → None ≡ add_checked x y
+  unfolding add_checked add_fits
+  none_right l d e = let k = (some_guard _ _ _ (rw first at d)).0 in let h = none_guard _ _ (rw second at e) in rw (k, h)
+
+  module _ (l r : ℤ) (hl : Some l ≡ small (n *ℤ pos (y.den / g))) (hr : Some r ≡ small (m *ℤ pos (x.den / g))) where
+    left_is : (is_small (x.num *ℤ pos (y.den / gcd x.den y.den)) ≡ true) × (to_z w128 (of_z w128 l) ≡ x.num *ℤ pos (y.den / gcd x.den y.den))
+    left_is =
+        let e : Some l ≡ small (x.num *ℤ pos (y.den / gcd x.den y.den)) = rw first at hl in
+        let z = x.num *ℤ pos (y.den / gcd x.den y.den) in ((small_of l z e).0, back_small l z e)
+
+    right_is : (is_small (y.num *ℤ pos (x.den / gcd x.den y.den)) ≡ true) × (to_z w128 (of_z w128 r) ≡ y.num *ℤ pos (x.den / gcd x.den y.den))
+    right_is =
+        let e : Some r ≡ small (y.num *ℤ pos (x.den / gcd x.den y.den)) = rw second at hr in
+        let z = y.num *ℤ pos (x.den / gcd x.den y.den) in ((small_of r z e).0, back_small r z e)
+
+    sum_is : to_z w128 (of_z w128 l) +ℤ to_z w128 (of_z w128 r) ≡ x.num *ℤ pos (y.den / gcd x.den y.den) +ℤ y.num *ℤ pos (x.den / gcd x.den y.den)
+    sum_is = λ i. left_is.1 i +ℤ right_is.1 i
+
+    pub none_num : None ≡ small (to_z w128 (of_z w128 l) +ℤ to_z w128 (of_z w128 r)) → None ≡ add_checked x y
+    unfolding add_checked add_fits
+    none_num e = let h = none_guard _ _ (rw sum_is at e) in rw (left_is.0, right_is.0, h)
+
+    module _ (s : ℤ) (hs : Some s ≡ small (to_z w128 (of_z w128 l) +ℤ to_z w128 (of_z w128 r))) where
+      total : (is_small (x.num *ℤ pos (y.den / gcd x.den y.den) +ℤ y.num *ℤ pos (x.den / gcd x.den y.den)) ≡ true)
+          × (to_z w128 (of_z w128 s) ≡ x.num *ℤ pos (y.den / gcd x.den y.den) +ℤ y.num *ℤ pos (x.den / gcd x.den y.den))
+      total =
+          let z = x.num *ℤ pos (y.den / gcd x.den y.den) +ℤ y.num *ℤ pos (x.den / gcd x.den y.den) in
+          let e : Some s ≡ small z = rw sum_is at hs in ((small_of s z e).0, back_small s z e)
+
+      pub none_den : None ≡ held (x.den * (y.den / g)) → None ≡ add_checked x y
+      unfolding add_checked add_fits
+      none_den e = let h = none_guard _ _ (rw eg at e) in rw (left_is.0, right_is.0, total.0, h)
+
+      pub some_sum : (d : ℕ) → Some d ≡ held (x.den * (y.den / g)) → Some (frac (to_z w128 (of_z w128 s)) d) ≡ add_checked x y
+      unfolding add_checked add_fits
+      some_sum d e =
+          let h = some_guard _ _ _ (rw eg at e) in
+          rw (left_is.0, right_is.0, total.0, h.0) (ap Some (rw (total.1, h.1) (+ℚ_over x y)))
+
+pub den_positive : (b p g d : ℕ) → 0 < b → 0 < p → g ≡ gcd b p → Some d ≡ held (b * (p / g)) → 0 < d
+den_positive b p g d hb hp e h = rw ((some_guard _ _ _ h).1, e) (mul-pos hb (quotient_positive b p hp))

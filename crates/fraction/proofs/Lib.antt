@@ -1,0 +1,4 @@
+pub mod Casts
+pub mod Adding
+pub mod Multiplying
+pub mod ShortWays

@@ -1,0 +1,44 @@
+-- The steps of a multiplication, each with what it leaves.
+use Rattle.std.proofs.Common.{◌≡◌, ℕ, ◌/◌, ◌*◌, ℤ, pos, to_z, of_z, ap, ◌∙◌, true, Some, None}
+use Rattle.std.specs.Prelude.{nat_abs, ◌*ℤ◌, int_div}
+use Rattle.std.specs.Int.{w128}
+use Rattle.fraction.specs.Gcd.{gcd}
+use Rattle.fraction.specs.Rational.{ℚ, frac, IsLowest, *ℚ_over, *ℚ_lowest}
+use Rattle.fraction.specs.Checked.{small, held, is_small, mul_fits, mul_checked}
+use Rattle.fraction.proofs.Adding.{none_guard, some_guard, small_of, back_small}
+
+module _ (x y : ℚ) (n m : ℤ) (a b g h : ℕ) (q r s t : ℤ) (en : n ≡ x.num) (em : m ≡ y.num) (ea : a ≡ nat_abs n) (eb : b ≡ nat_abs m)
+    (eg : g ≡ gcd a y.den) (eh : h ≡ gcd b x.den) (eq : q ≡ int_div n (pos g)) (er : r ≡ int_div m (pos h)) (es : s ≡ q) (et : t ≡ r) where
+  left : ℕ
+  left = gcd (nat_abs x.num) y.den
+
+  g_is : g ≡ gcd (nat_abs x.num) y.den
+  g_is = eg ∙ ap (λ k. gcd k y.den) (ea ∙ ap nat_abs en)
+
+  h_is : h ≡ gcd (nat_abs y.num) x.den
+  h_is = eh ∙ ap (λ k. gcd k x.den) (eb ∙ ap nat_abs em)
+
+  abbrev whole_product : ℤ
+  whole_product = int_div x.num (pos (gcd (nat_abs x.num) y.den)) *ℤ int_div y.num (pos (gcd (nat_abs y.num) x.den))
+
+  product_is : s *ℤ t ≡ whole_product
+  product_is = λ i. (es ∙ eq ∙ (λ j. int_div (en j) (pos (g_is j)))) i *ℤ (et ∙ er ∙ (λ j. int_div (em j) (pos (h_is j)))) i
+
+  pub none_num : None ≡ small (s *ℤ t) → None ≡ mul_checked x y
+  unfolding mul_checked mul_fits
+  none_num e = let k = none_guard _ _ (rw product_is at e) in rw k
+
+  module _ (p : ℤ) (hp : Some p ≡ small (s *ℤ t)) where
+    num : (is_small whole_product ≡ true) × (to_z w128 (of_z w128 p) ≡ whole_product)
+    num = let e : Some p ≡ small whole_product = rw product_is at hp in ((small_of p whole_product e).0, back_small p whole_product e)
+
+    pub none_den : None ≡ held (x.den / h * (y.den / g)) → None ≡ mul_checked x y
+    unfolding mul_checked mul_fits
+    none_den e = let k = none_guard _ _ (rw (g_is, h_is) at e) in rw (num.0, k)
+
+    pub lowest : (d : ℕ) → Some d ≡ held (x.den / h * (y.den / g)) → IsLowest (to_z w128 (of_z w128 p)) d
+    lowest d e = let k = some_guard _ _ _ (rw (g_is, h_is) at e) in rw (num.1, k.1) (*ℚ_lowest x y)
+
+    pub some_product : (d : ℕ) → Some d ≡ held (x.den / h * (y.den / g)) → Some (frac (to_z w128 (of_z w128 p)) d) ≡ mul_checked x y
+    unfolding mul_checked mul_fits
+    some_product d e = let k = some_guard _ _ _ (rw (g_is, h_is) at e) in rw (num.0, k.0) (ap Some (rw (num.1, k.1) (*ℚ_over x y)))

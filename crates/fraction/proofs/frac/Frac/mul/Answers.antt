@@ -1,0 +1,11 @@
+use Rattle.std.proofs.Common.{◌∙◌, arith}
+use Rattle.fraction.specs.Checked.{mul_checked}
+use Rattle.fraction.proofs.Casts.{back}
+use Rattle.fraction.proofs.ShortWays.{mul_whole}
+use Rattle.fraction.proofs.frac.Frac.mul.Goals as goal
+
+pub returns-then-other-eq1 : goal.returns-then-other-eq1
+returns-then-other-eq1 c =
+    c.whole_product.ensures
+    ∙ mul_whole _ _ (omega arith) (omega arith) _ _ (back _ c.self.invariant.0) (back _ c.other.invariant.0)
+    ∙ (λ i. mul_checked (c.self.view_is i) (c.other.view_is i))

@@ -1,0 +1,10 @@
+pub mod Gcd
+pub mod Integers
+pub mod Rational
+pub mod Whole
+pub mod Ring
+pub mod Checked
+pub mod Order
+pub mod Bounds
+pub mod Code
+pub mod Spelling

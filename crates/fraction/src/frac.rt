@@ -1,0 +1,228 @@
+//! A fraction of 128 bits, and its operations.
+
+ghost use Rattle.std.specs.Prelude.{◌≡◌, ◌↔◌, ◌<◌, ◌^◌, ◌<ℤ◌, IsTrue, pos, nat_abs, neg_ℤ, ◌+ℤ◌, ◌*ℤ◌};
+ghost use Rattle.fraction.specs.Rational.{IsLowest, frac, neg_ℚ, whole, inv_ℚ, floor, ceil};
+ghost use Rattle.std.specs.Option.{option_map};
+ghost use Rattle.fraction.specs.Checked.{small, add_checked, sub_checked, mul_checked, div_checked, abs_ℚ, compare};
+
+use crate::divisors::gcd;
+use crate::numbers::{
+    floor_quotient, held_product, quotient, scaled, small_product, small_sum, with_sign,
+};
+use crate::products::compared;
+use std::cmp::Ordering;
+use std::marker::Model;
+
+/// A rational number, kept in lowest terms: the denominator is at least 1, and both parts are at most 2^127 - 1 in size. Zero is 0/1.
+///
+/// An operation that answers `Option` gives the exact value, or `None` exactly where one of the numbers that it multiplies or adds up
+/// on its way is larger than that. Contracts see the rational number itself.
+#[derive(Clone, Copy, PartialEq, Eq)]
+pub struct Frac {
+    num: i128,
+    den: u128,
+    ghost lowest: { IsLowest num den },
+}
+
+impl Model for Frac {
+    ghost use Rattle.std.specs.Prelude.{◌<◌, ◌^◌, nat_abs};
+    ghost use Rattle.fraction.specs.Rational.{ℚ};
+    ghost use Rattle.fraction.specs.Code.{code_ℚ};
+
+    ghost Value = { ℚ };
+
+    ghost coded = { code_ℚ };
+
+    ghost view = { λ f. record { num = f.num; den = f.den; lowest = f.lowest } };
+
+    ghost invariant = { λ f. (nat_abs f.num < 2 ^ 127) × (f.den < 2 ^ 127) };
+
+    ghost inverse = { λ q. record { num = q.num; den = q.den; lowest = q.lowest } };
+}
+
+/// The fraction of two numbers that are in lowest terms.
+fn made(num: i128, den: u128) -> Frac
+    requires lowest { IsLowest num den }
+    requires num_small { nat_abs num < 2 ^ 127 }
+    requires den_small { den < 2 ^ 127 }
+    ensures value { result ≡ frac num den }
+    ensures numerator { result.num ≡ num }
+    ensures denominator { result.den ≡ den }
+{
+    Frac { num, den }
+}
+
+/// The fraction `num / den`, brought to lowest terms.
+fn reduced(num: i128, den: u128) -> Frac
+    requires positive { 0 < den }
+    requires num_small { nat_abs num < 2 ^ 127 }
+    requires den_small { den < 2 ^ 127 }
+    ensures { result ≡ frac num den }
+{
+    let divisor = gcd(num.unsigned_abs(), den);
+    made(quotient(num, divisor), den / divisor)
+}
+
+/// The sum of two whole numbers.
+fn whole_sum(a: i128, b: i128) -> Option<Frac>
+    ensures { result ≡ option_map whole (small (a +ℤ b)) }
+{
+    Some(Frac::of(small_sum(a, b)?))
+}
+
+/// The product of two whole numbers.
+fn whole_product(a: i128, b: i128) -> Option<Frac>
+    ensures { result ≡ option_map whole (small (a *ℤ b)) }
+{
+    Some(Frac::of(small_product(a, b)?))
+}
+
+impl Frac {
+    /// The whole number `n`, which isn't the least `i128`.
+    pub fn of(n: i128) -> Frac
+        requires { nat_abs n < 2 ^ 127 }
+        ensures { result ≡ whole n }
+    {
+        made(n, 1)
+    }
+
+    /// The numerator, whose sign is that of the number.
+    pub fn numer(&self) -> i128
+        ensures { result ≡ self.now.num }
+    {
+        self.num
+    }
+
+    /// The denominator, at least 1.
+    pub fn denom(&self) -> u128
+        ensures { result ≡ self.now.den }
+    {
+        self.den
+    }
+
+    /// The number with the other sign. It is always there.
+    pub fn neg(self) -> Frac
+        ensures value { result ≡ neg_ℚ self }
+        ensures numerator { result.num ≡ neg_ℤ self.num }
+        ensures denominator { result.den ≡ self.den }
+    {
+        made(-self.num, self.den)
+    }
+
+    /// The fraction `num / den` in lowest terms. `den` is at least 1, and `num` isn't the least `i128`.
+    pub fn make(num: i128, den: i128) -> Frac
+        requires num_small { nat_abs num < 2 ^ 127 }
+        requires den_positive { pos 0 <ℤ den }
+        ensures { result ≡ frac num (nat_abs den) }
+    {
+        reduced(num, den.unsigned_abs())
+    }
+
+    /// The absolute value. It is always there.
+    pub fn abs(self) -> Frac
+        ensures value { result ≡ abs_ℚ self }
+        ensures size { nat_abs result.num ≡ nat_abs self.num }
+    {
+        if self.num < 0 { self.neg() } else { self }
+    }
+
+    /// The difference, as the sum with `other.neg()`. `None` exactly where that sum is.
+    pub fn sub(self, other: Frac) -> Option<Frac>
+        ensures { result ≡ sub_checked self other }
+    {
+        self.add(other.neg())
+    }
+
+    /// The reciprocal, with the sign on its numerator.
+    fn recip(self) -> Frac
+        requires { 0 < nat_abs self.num }
+        ensures { result ≡ inv_ℚ self }
+    {
+        made(with_sign(self.num, self.den), self.num.unsigned_abs())
+    }
+
+    /// The quotient, as the product with the reciprocal. `other` isn't 0. `None` exactly where that product is.
+    pub fn div(self, other: Frac) -> Option<Frac>
+        requires { 0 < nat_abs other.num }
+        ensures { result ≡ div_checked self other }
+    {
+        self.mul(other.recip())
+    }
+
+    /// The greatest whole number that is at most this one.
+    pub fn floor(self) -> i128
+        ensures { result ≡ floor self }
+    {
+        floor_quotient(self.num, self.den)
+    }
+
+    /// The least whole number that is at least this one.
+    pub fn ceil(self) -> i128
+        ensures { result ≡ ceil self }
+    {
+        -floor_quotient(-self.num, self.den)
+    }
+
+    /// Whether this is a whole number.
+    pub fn is_whole(self) -> bool
+        ensures { IsTrue result ↔ (self.den ≡ 1) }
+    {
+        self.den == 1
+    }
+
+    /// The sum of a/b and c/d, reduced. With g the greatest common divisor of b and d, it is `None` exactly where a(d/g), c(b/g), their
+    /// sum or b(d/g) is above 2^127 - 1 in size.
+    pub fn add(self, other: Frac) -> Option<Frac>
+        ensures { result ≡ add_checked self other }
+    {
+        if self.den == 1 && other.den == 1 {
+            return whole_sum(self.num, other.num);
+        }
+        self.add_over(other)
+    }
+
+    /// The sum over the least common denominator.
+    fn add_over(self, other: Frac) -> Option<Frac>
+        ensures { result ≡ add_checked self other }
+    {
+        let divisor = gcd(self.den, other.den);
+        let left = scaled(self.num, other.den / divisor)?;
+        let right = scaled(other.num, self.den / divisor)?;
+        let num = small_sum(left, right)?;
+        let den = held_product(self.den, other.den / divisor)?;
+        Some(reduced(num, den))
+    }
+
+    /// The product of a/b and c/d. Each numerator is reduced against the other's denominator first; it is `None` exactly where then the
+    /// product of the numerators or that of the denominators is above 2^127 - 1 in size.
+    pub fn mul(self, other: Frac) -> Option<Frac>
+        ensures { result ≡ mul_checked self other }
+    {
+        if self.den == 1 && other.den == 1 {
+            return whole_product(self.num, other.num);
+        }
+        self.mul_over(other)
+    }
+
+    /// The product, each numerator reduced against the other's denominator.
+    fn mul_over(self, other: Frac) -> Option<Frac>
+        ensures { result ≡ mul_checked self other }
+    {
+        let left = gcd(self.num.unsigned_abs(), other.den);
+        let right = gcd(other.num.unsigned_abs(), self.den);
+        let num = small_product(quotient(self.num, left), quotient(other.num, right))?;
+        let den = held_product(self.den / right, other.den / left)?;
+        Some(made(num, den))
+    }
+
+    /// How this number compares with another. The answer is always there: where 128 bits are too few it multiplies in 256.
+    pub fn cmp(self, other: Frac) -> Ordering
+        ensures { result ≡ compare self other }
+    {
+        if self.den == other.den {
+            self.num.cmp(&other.num)
+        } else {
+            compared(self.num, other.den, other.num, self.den)
+        }
+    }
+}
