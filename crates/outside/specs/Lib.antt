@@ -1,0 +1,9 @@
+pub mod Choice
+pub mod Faults
+pub mod Images
+pub mod InMemory
+pub mod OnDisk
+pub mod Passing
+pub mod Replay
+pub mod SeenIsImage
+pub mod Stream

@@ -1,0 +1,37 @@
+-- What a disk in memory tells.
+use Rattle.std.specs.Prelude.{◌≡◌, ℕ, List, Option, length}
+use Rattle.outside.specs.Images.{IsImage, resting}
+use Rattle.outside.specs.Replay.{replay, moments, length-moments}
+use Rattle.outside.specs.SeenIsImage.{rests, replay_is}
+use Rattle.outside.specs.declared.moment.Moment.{Moment}
+use Rattle.outside.specs.declared.mem_disk.MemDisk.{MemDisk}
+
+abbrev pub disk_past : MemDisk → List Moment
+disk_past d = moments (resting d.first.items) d.calls.items
+
+abbrev pub disk_now : MemDisk → Moment
+disk_now d = replay (resting d.first.items) d.calls.items
+
+abbrev pub disk_ticks : MemDisk → ℕ
+disk_ticks d = length d.calls.items
+
+abbrev pub disk_count : MemDisk → ℕ
+disk_count d = d.faults
+
+-- how many calls were tried
+abbrev pub disk_calls : MemDisk → ℕ
+disk_calls d = d.tried
+
+-- the calls that are to fail
+abbrev pub disk_failing : MemDisk → List ℕ
+disk_failing d = d.failing.items
+
+-- the call from which on each fails
+abbrev pub disk_stop : MemDisk → Option ℕ
+disk_stop d = d.stop
+
+pub ticks_are : (d : MemDisk) → disk_ticks d ≡ length (disk_past d)
+ticks_are d = length-moments (resting d.first.items) d.calls.items
+
+pub seen_is : (d : MemDisk) → IsImage (disk_now d) (disk_now d).seen
+seen_is d = replay_is (resting d.first.items) d.calls.items (rests d.first.items)

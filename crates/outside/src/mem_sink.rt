@@ -1,0 +1,114 @@
+// A sink in memory, for tests.
+ghost use Rattle.std.specs.Prelude.{◌≡◌, ◌<◌, ℕ, List, [], IfOk};
+
+use crate::{Put, Sink};
+use std::alloc::{AllocError, Global};
+
+/// A sink in memory, which tells all. It takes at most `most` bytes at a call, and fails at the calls that are listed,
+/// counted from 0, and for want of memory.
+#[derive(Drop)]
+pub struct MemSink {
+    bytes: Vec<u8>,
+    most: usize,
+    failing: Vec<u64>,
+    calls: u64,
+    faults: u64,
+    ghost some: { 0 < most },
+}
+
+impl MemSink {
+    ghost use Rattle.outside.specs.InMemory.{sink_taken, sink_faults, sink_failing, sink_calls, sink_most};
+
+    /// A sink that has taken nothing, of which no call is to fail.
+    pub fn new(alloc: Global) -> MemSink
+        ensures taken { sink_taken result ≡ [] }
+        ensures faults { sink_faults result ≡ 0 }
+        ensures calls { sink_calls result ≡ 0 }
+        ensures failing { sink_failing result ≡ [] }
+    {
+        MemSink {
+            bytes: Vec::new(alloc),
+            most: usize::MAX,
+            failing: Vec::new(alloc),
+            calls: 0,
+            faults: 0,
+        }
+    }
+
+    /// A sink that has taken nothing and fails at the calls listed.
+    pub fn failing(alloc: Global, failing: &[u64]) -> Result<MemSink, AllocError>
+        ensures taken { IfOk result (λ s. sink_taken s ≡ []) }
+        ensures faults { IfOk result (λ s. sink_faults s ≡ 0) }
+        ensures calls { IfOk result (λ s. sink_calls s ≡ 0) }
+        ensures failing { IfOk result (λ s. sink_failing s ≡ failing.now) }
+    {
+        Ok(MemSink {
+            bytes: Vec::new(alloc),
+            most: usize::MAX,
+            failing: failing.to_vec(alloc)?,
+            calls: 0,
+            faults: 0,
+        })
+    }
+
+    /// The same sink, which from now on takes at most `most` bytes at a call.
+    pub fn in_pieces(self, most: usize) -> MemSink
+        requires { 0 < most }
+        ensures taken { sink_taken result ≡ sink_taken self }
+        ensures faults { sink_faults result ≡ sink_faults self }
+        ensures calls { sink_calls result ≡ sink_calls self }
+        ensures failing { sink_failing result ≡ sink_failing self }
+        ensures most { sink_most result ≡ most }
+    {
+        let MemSink {
+            bytes,
+            most: _,
+            failing,
+            calls,
+            faults,
+        } = self;
+        MemSink {
+            bytes,
+            most,
+            failing,
+            calls,
+            faults,
+        }
+    }
+
+    /// The bytes that were taken.
+    pub fn bytes(&self) -> &[u8]
+        ensures { result.now ≡ sink_taken self.now }
+    {
+        &self.bytes
+    }
+
+    /// How many writes have failed.
+    pub fn faults(&self) -> u64
+        ensures { result ≡ sink_faults self.now }
+    {
+        self.faults
+    }
+}
+
+impl Sink for MemSink {
+    ghost use Rattle.std.specs.Prelude.{true};
+    ghost use Rattle.outside.specs.InMemory.{sink_taken, sink_faults};
+
+    ghost tells = { true };
+
+    ghost taken = { sink_taken };
+
+    ghost faults = { sink_faults };
+
+    fn write(&mut self, piece: &[u8]) -> Put {
+        let call = self.calls;
+        self.calls = self.calls.saturating_add(1);
+        let count = piece.len().min(self.most);
+        if self.failing.contains(&call) || self.bytes.extend_from_slice(&piece[..count]).is_err() {
+            self.faults = self.faults.saturating_add(1);
+            return Put::Failed;
+        }
+        Put::Took(count)
+    }
+}

@@ -1,0 +1,9 @@
+pub mod Linear
+pub mod Rows
+pub mod Program
+pub mod Feasible
+pub mod Best
+pub mod Checked
+pub mod Modest
+pub mod Limited
+pub mod Rising

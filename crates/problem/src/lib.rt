@@ -1,0 +1,16 @@
+//! Integer programs over a box: minimise an objective over the whole points of the box that satisfy the rows.
+#![tactic(auto)]
+
+mod names;
+mod point;
+mod program;
+mod row;
+mod terms;
+#[cfg(test)]
+mod tests;
+
+pub use names::Names;
+pub use point::Point;
+pub use program::Problem;
+pub use row::{Row, Sense};
+pub use terms::Terms;

@@ -1,0 +1,179 @@
+// Integer programs.
+ghost use Rattle.std.specs.Prelude.{◌≡◌, ◌<◌, ◌↔◌, IsTrue, IfOk, All, length, slice_get, Some};
+ghost use Rattle.problem_box.specs.Boxes.{IsInBox};
+ghost use Rattle.problem.specs.Rows.{Satisfies};
+ghost use Rattle.problem.specs.Feasible.{IsFeasible, HasWholeObjective, objective_at};
+ghost use Rattle.problem.specs.Modest.{AreModest, IsModestPoint};
+ghost use Rattle.problem.specs.Limited.{IsLimited};
+
+use crate::names::Names;
+use crate::row::Row;
+use crate::terms::Terms;
+use fraction::Frac;
+use problem_box::IntBox;
+use std::alloc::{AllocError, Global};
+use std::marker::Model;
+
+/// A problem within the limits, seen as its integer program: minimise the objective over the whole points of the box that satisfy the rows.
+///
+/// The limits: at most 1,000 columns and 1,000 rows; bounds of size at most 10^9; coefficients that are multiples of 10^-15 of size at
+/// most 10^9; right sides that are such multiples of size at most 2 * 10^9. Under them no sum over a point of the box is cramped.
+#[derive(Drop)]
+pub struct Problem {
+    names: Names,
+    rows: Vec<Row>,
+    objective: Terms,
+    root: IntBox,
+}
+
+impl Model for Problem {
+    ghost use Rattle.problem.specs.Program.{Program};
+
+    ghost Value = { Program };
+
+    ghost use Rattle.problem.specs.Limited.{IsLimited};
+
+    ghost view = { λ p. record { names = p.names; rows = p.rows.items; objective = p.objective; spans = p.root } };
+
+    ghost invariant = { λ p. IsLimited (record { names = p.names; rows = p.rows.items; objective = p.objective; spans = p.root }) };
+}
+
+impl Problem {
+    /// The problem of these parts. Its condition is that they keep to the limits.
+    pub fn make(names: Names, rows: Vec<Row>, objective: Terms, root: IntBox) -> Problem
+        requires { IsLimited (record { names = names; rows = rows.items; objective = objective; spans = root }) }
+        ensures { result ≡ record { names = names; rows = rows.items; objective = objective; spans = root } }
+    {
+        Problem {
+            names,
+            rows,
+            objective,
+            root,
+        }
+    }
+
+    /// How many columns there are.
+    pub fn columns(&self) -> usize
+        ensures { result ≡ length self.now.spans }
+    {
+        self.root.len()
+    }
+
+    /// How many rows there are.
+    pub fn rows(&self) -> usize
+        ensures { result ≡ length self.now.rows }
+    {
+        self.rows.len()
+    }
+
+    /// A row that is there.
+    pub fn row(&self, index: usize) -> &Row
+        requires { index < length self.now.rows }
+        ensures { slice_get self.now.rows index ≡ Some result.now }
+    {
+        &self.rows[index]
+    }
+
+    /// The names of the columns.
+    pub fn names(&self) -> &Names
+        ensures { result.now ≡ self.now.names }
+    {
+        &self.names
+    }
+
+    /// The bytes of the name of a column that is there.
+    pub fn name(&self, column: usize) -> &[u8]
+        requires { column < length self.now.names }
+        ensures { slice_get self.now.names column ≡ Some result.now }
+    {
+        self.names.name(column)
+    }
+
+    /// The objective's terms.
+    pub fn objective(&self) -> &Terms
+        ensures { result.now ≡ self.now.objective }
+    {
+        &self.objective
+    }
+
+    /// The box of the columns' bounds.
+    pub fn root(&self) -> &IntBox
+        ensures { result.now ≡ self.now.spans }
+    {
+        &self.root
+    }
+
+    /// Whether each coefficient of the objective is a whole number.
+    pub fn whole_objective(&self) -> bool
+        ensures { IsTrue result ↔ HasWholeObjective self.now }
+    {
+        self.objective.are_whole()
+    }
+
+    /// Whether the point is feasible: one number per column, each within its bounds, and each row satisfied.
+    pub fn is_feasible(&self, point: &[i64]) -> bool
+        ensures { IsTrue result ↔ IsFeasible self.now point.now }
+    {
+        if !self.root.holds(point) {
+            return false;
+        }
+        are_satisfied(&self.rows, point)
+    }
+
+    /// The objective at a point of the box.
+    pub fn value(&self, point: &[i64]) -> Frac
+        requires { IsInBox self.now.spans point.now }
+        ensures { result ≡ objective_at self.now point.now }
+    {
+        self.objective.value(point)
+    }
+
+    /// Each problem keeps to the limits. This computes nothing: its contract is for callers' proofs.
+    pub fn limits_hold(&self)
+        ensures { IsLimited self.now }
+    {
+        let _names = &self.names;
+    }
+
+    /// An equal problem. The one error is want of memory.
+    pub fn copy(&self, alloc: Global) -> Result<Problem, AllocError>
+        ensures { IfOk result (λ p. p ≡ self.now) }
+    {
+        let names = self.names.copy(alloc)?;
+        let rows = copied(alloc, &self.rows)?;
+        let objective = self.objective.copy(alloc)?;
+        let root = self.root.copy(alloc)?;
+        Ok(Problem {
+            names,
+            rows,
+            objective,
+            root,
+        })
+    }
+}
+
+/// Equal rows.
+fn copied(alloc: Global, rows: &[Row]) -> Result<Vec<Row>, AllocError>
+    ensures { IfOk result (λ v. v.items ≡ rows.now) }
+{
+    let mut copies = Vec::new(alloc);
+    for row in rows {
+        copies.push(row.copy(alloc)?)?;
+    }
+    Ok(copies)
+}
+
+/// Whether each row is satisfied.
+fn are_satisfied(rows: &[Row], point: &[i64]) -> bool
+    requires columns { All (λ r. All (λ t. t.0 < length point.now) r.terms) rows.now }
+    requires modest { All (λ r. AreModest r.terms) rows.now }
+    requires modest_point { IsModestPoint point.now }
+    ensures { IsTrue result ↔ All (Satisfies point.now) rows.now }
+{
+    for row in rows {
+        if !row.is_satisfied(point) {
+            return false;
+        }
+    }
+    true
+}

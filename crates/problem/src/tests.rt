@@ -1,0 +1,26 @@
+//! Copies, and a value with a term that is no whole number.
+
+use crate::{Names, Point, Row, Sense, Terms};
+use fraction::Frac;
+use std::alloc::AllocError;
+
+#[test]
+fn copies(rt: HostRuntime) -> Result<(), AllocError> {
+    let alloc = rt.alloc();
+    let names = Names::make(vec![in alloc; String::from_str(alloc, "x")?]?).copy(alloc)?;
+    assert_eq!(rt; names.len(), 1);
+    let point = Point::make(vec![in alloc; 3, -4]?).copy(alloc)?;
+    assert!(rt; point.as_slice() == [3, -4].as_slice());
+    let terms = Terms::make(vec![in alloc; (0, Frac::of(2)), (1, Frac::make(1, 2))]?);
+    let row = Row {
+        sense: Sense::L,
+        rhs: Frac::of(4),
+        terms,
+    }
+    .copy(alloc)?;
+    assert_eq!(rt; row.sense, Sense::L);
+    assert!(rt;
+        row.rhs == Frac::of(4) && row.terms.as_slice().len() == 2 && !row.terms.are_whole()
+    );
+    Ok(())
+}
