@@ -1,0 +1,9 @@
+pub mod Parts
+pub mod Claims
+pub mod FixedSearch
+pub mod Merging
+pub mod Filling
+pub mod Closings
+pub mod TreeLemmas
+pub mod WorkedTree
+pub mod WorkedTables

@@ -1,0 +1,113 @@
+// The problem part of a certificate.
+ghost use Rattle.std.specs.Prelude.{◌≡◌, ◌<◌, ◌≤◌, ◌++◌, ◌^◌, [], ◌∷◌, pos, IfOk, OnOk, ℕ, take, length, codes, map};
+ghost use Rattle.std.specs.Fmt.{decimal};
+ghost use Rattle.fraction.specs.Rational.{whole};
+ghost use Rattle.cert_rows.specs.Validity.{lower_row, upper_row};
+ghost use Rattle.cert_merge.specs.Merged.{label_of, labelled, row_lines, bound_lines, part_of};
+
+use cert_rows::{CertRow, CertRows, Label, Part};
+use fraction::Frac;
+use itoa::Buffer;
+use problem::{Problem, Row, Sense, Terms};
+use problem_box::{IntBox, Span};
+use std::alloc::{AllocError, Global};
+
+/// A letter with a number.
+pub fn label(alloc: Global, letter: &str, number: usize) -> Result<Label, AllocError>
+    ensures { IfOk result (λ l. l ≡ label_of letter.now number) }
+{
+    let mut text = String::new(alloc);
+    text.push_str(letter)?;
+    let mut buffer = Buffer::new();
+    text.push_str(buffer.format(number))?;
+    Ok(Label::make(text))
+}
+
+/// One column with the coefficient 1.
+fn unit_terms(alloc: Global, column: usize) -> Result<Terms, AllocError>
+    requires { column < 2 ^ 32 }
+    ensures { IfOk result (λ t. t ≡ (column, whole (pos 1)) ∷ []) }
+{
+    let mut items = Vec::new(alloc);
+    items.push((column as u32, Frac::of(1)))?;
+    Ok(Terms::make(items))
+}
+
+fn labelled_row(alloc: Global, number: usize, row: &Row) -> Result<CertRow, AllocError>
+    ensures { IfOk result (λ r. r ≡ labelled (label_of (codes "R") number) row.now) }
+{
+    let label = label(alloc, "R", number)?;
+    let terms = row.terms.copy(alloc)?;
+    Ok(CertRow {
+        label,
+        sense: row.sense,
+        rhs: row.rhs,
+        terms,
+    })
+}
+
+fn lower_line(alloc: Global, column: usize, span: Span) -> Result<CertRow, AllocError>
+    requires { column < 2 ^ 32 }
+    ensures { IfOk result (λ r. r ≡ labelled (label_of (codes "L") column) (lower_row column span)) }
+{
+    let label = label(alloc, "L", column)?;
+    let terms = unit_terms(alloc, column)?;
+    Ok(CertRow {
+        label,
+        sense: Sense::G,
+        rhs: Frac::of(span.lo as i128),
+        terms,
+    })
+}
+
+fn upper_line(alloc: Global, column: usize, span: Span) -> Result<CertRow, AllocError>
+    requires { column < 2 ^ 32 }
+    ensures { IfOk result (λ r. r ≡ labelled (label_of (codes "U") column) (upper_row column span)) }
+{
+    let label = label(alloc, "U", column)?;
+    let terms = unit_terms(alloc, column)?;
+    Ok(CertRow {
+        label,
+        sense: Sense::L,
+        rhs: Frac::of(span.hi as i128),
+        terms,
+    })
+}
+
+fn push_rows(alloc: Global, lines: &mut Vec<CertRow>, problem: &Problem) -> Result<(), AllocError>
+    ensures { OnOk result (lines.new.items ≡ lines.old.items ++ row_lines 0 problem.now.rows) }
+{
+    for i in 0..problem.rows() {
+        lines.push(labelled_row(alloc, i, problem.row(i))?)?;
+    }
+    Ok(())
+}
+
+fn push_bounds(alloc: Global, lines: &mut Vec<CertRow>, root: &IntBox) -> Result<(), AllocError>
+    requires { length root.now ≤ 1000 }
+    ensures { OnOk result (lines.new.items ≡ lines.old.items ++ bound_lines 0 root.now) }
+{
+    for j in 0..root.len() {
+        let span = root.span(j);
+        lines.push(lower_line(alloc, j, span)?)?;
+        lines.push(upper_line(alloc, j, span)?)?;
+    }
+    Ok(())
+}
+
+/// The problem part of a problem's certificates.
+pub fn problem_part(alloc: Global, problem: &Problem) -> Result<Part, AllocError>
+    ensures { IfOk result (λ p. p ≡ part_of problem.now) }
+{
+    problem.limits_hold();
+    let names = problem.names().copy(alloc)?;
+    let objective = problem.objective().copy(alloc)?;
+    let mut lines = Vec::new(alloc);
+    push_rows(alloc, &mut lines, problem)?;
+    push_bounds(alloc, &mut lines, problem.root())?;
+    Ok(Part {
+        names,
+        objective,
+        rows: CertRows::make(lines),
+    })
+}

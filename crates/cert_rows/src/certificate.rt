@@ -1,0 +1,78 @@
+// Certificates.
+ghost use Rattle.std.specs.Prelude.{◌≡◌, IfOk};
+
+use crate::line::{CertRows, Derived};
+use fraction::Frac;
+use problem::{Names, Point, Terms};
+use std::alloc::{AllocError, Global};
+use std::marker::Model;
+
+/// What is claimed of the problem.
+#[derive(Clone, Copy)]
+pub enum Goal {
+    /// No point is feasible.
+    Infeas,
+    /// No feasible point has an objective below `lb`, and some feasible one has an objective of at most `ub`.
+    Range { lb: Frac, ub: Frac },
+}
+
+/// Points, seen as a list.
+#[derive(Debug, Drop)]
+pub struct Points {
+    items: Vec<Point>,
+}
+
+impl Model for Points {
+    ghost use Rattle.std.specs.Prelude.{List, ℤ};
+
+    ghost Value = { List (List ℤ) };
+
+    ghost view = { λ p. p.items.items };
+}
+
+impl Points {
+    /// The list of these points.
+    pub fn make(items: Vec<Point>) -> Points
+        ensures { result ≡ items.items }
+    {
+        Points { items }
+    }
+
+    /// The points.
+    pub fn as_slice(&self) -> &[Point]
+        ensures { result.now ≡ self.now }
+    {
+        self.items.as_slice()
+    }
+}
+
+/// The problem part: the columns' names, the objective, and the rows with the bounds of the columns behind them.
+#[derive(Drop)]
+pub struct Part {
+    pub names: Names,
+    pub objective: Terms,
+    pub rows: CertRows,
+}
+
+/// A certificate: a problem, a claim about it, some of its feasible points, and the lines that prove the claim.
+#[derive(Drop)]
+pub struct Cert {
+    pub part: Part,
+    pub claim: Goal,
+    pub points: Points,
+    pub lines: Derived,
+}
+
+impl Cert {
+    /// The certificate of these parts.
+    pub fn make(part: Part, claim: Goal, points: Points, lines: Derived) -> Cert
+        ensures { result ≡ record { part = part; claim = claim; points = points; lines = lines } }
+    {
+        Cert {
+            part,
+            claim,
+            points,
+            lines,
+        }
+    }
+}

@@ -1,0 +1,68 @@
+-- The four calls of an append, one after another, over what a disk tells.
+use Rattle.std.proofs.Common.{◌≡◌, ℕ, ◌+◌, List, [], ◌∷◌, ◌++◌, length, refl, sym, ◌∙◌, ap, subst}
+use Rattle.outside.specs.Images.{IsImage, LeavesOnly, Goes, Fails, written, resting, synced, overwritten}
+use Rattle.node_journal.specs.Gate.{IsBeforeOrWith}
+use Rattle.outside.specs.declared.moment.Moment.{Moment}
+use Rattle.outside.specs.Passing.{started, goes_on, fails_on}
+use Rattle.node_journal.proofs.Torn.{before_all, first_write, first_sync, second_write, second_sync}
+
+module _ (payload : List ℕ) (end : ℕ) (p : List Moment) (n : Moment) (rest : n ≡ resting n.seen) (len : length n.seen ≡ end + 1) where
+  file : List ℕ
+  file = n.seen
+
+  Only : List Moment → Moment → Type 0
+  Only past now = LeavesOnly p n past now (IsBeforeOrWith n.seen end payload)
+
+  at_first : (c : List ℕ) → IsImage n c → IsBeforeOrWith n.seen end payload c
+  at_first c is = before_all n.seen payload end len c (subst (λ m. IsImage m c) rest is)
+
+  one : (c : List ℕ) → IsImage (written (end + 1) payload n) c → IsBeforeOrWith n.seen end payload c
+  one c is = first_write n.seen payload end len c (subst (λ m. IsImage (written (end + 1) payload m) c) rest is)
+
+  pub fails_1 : (p1 : List Moment) (n1 : Moment) → Fails p n p1 n1 (written (end + 1) payload n) → LeavesOnly p n p1 n1 (IsBeforeOrWith n.seen end payload)
+  fails_1 p1 n1 f = fails_on p p p1 n n n1 _ _ (started p n _ at_first) f at_first one
+
+  module _ (p1 : List Moment) (n1 : Moment) (g1 : Goes p n p1 n1 (written (end + 1) payload n)) where
+    so_far_1 : LeavesOnly p n p1 n1 (IsBeforeOrWith n.seen end payload)
+    so_far_1 = goes_on p p p1 n n n1 _ _ (started p n _ at_first) g1 one
+
+    one' : (c : List ℕ) → IsImage n1 c → IsBeforeOrWith n.seen end payload c
+    one' c is = one c (subst (λ m. IsImage m c) g1.came is)
+
+    two : (c : List ℕ) → IsImage (synced n1) c → IsBeforeOrWith n.seen end payload c
+    two c is = first_sync n.seen payload end len c (subst (λ m. IsImage (synced m) c) g1.came is)
+
+    pub fails_2 : (p2 : List Moment) (n2 : Moment) → Fails p1 n1 p2 n2 (synced n1) → LeavesOnly p n p2 n2 (IsBeforeOrWith n.seen end payload)
+    fails_2 p2 n2 f = fails_on p p1 p2 n n1 n2 _ _ so_far_1 f one' two
+
+    module _ (p2 : List Moment) (n2 : Moment) (g2 : Goes p1 n1 p2 n2 (synced n1)) where
+      so_far_2 : LeavesOnly p n p2 n2 (IsBeforeOrWith n.seen end payload)
+      so_far_2 = goes_on p p1 p2 n n1 n2 _ _ so_far_1 g2 two
+
+      is_2 : n2 ≡ resting (overwritten (end + 1) payload n.seen)
+      is_2 = g2.came ∙ ap synced g1.came
+
+      two' : (c : List ℕ) → IsImage n2 c → IsBeforeOrWith n.seen end payload c
+      two' c is = two c (subst (λ m. IsImage m c) g2.came is)
+
+      three : (c : List ℕ) → IsImage (written end (1 ∷ []) n2) c → IsBeforeOrWith n.seen end payload c
+      three c is = second_write n.seen payload end len c (subst (λ m. IsImage (written end (1 ∷ []) m) c) is_2 is)
+
+      pub fails_3 : (p3 : List Moment) (n3 : Moment) → Fails p2 n2 p3 n3 (written end (1 ∷ []) n2) → LeavesOnly p n p3 n3 (IsBeforeOrWith n.seen end payload)
+      fails_3 p3 n3 f = fails_on p p2 p3 n n2 n3 _ _ so_far_2 f two' three
+
+      module _ (p3 : List Moment) (n3 : Moment) (g3 : Goes p2 n2 p3 n3 (written end (1 ∷ []) n2)) where
+        so_far_3 : LeavesOnly p n p3 n3 (IsBeforeOrWith n.seen end payload)
+        so_far_3 = goes_on p p2 p3 n n2 n3 _ _ so_far_2 g3 three
+
+        three' : (c : List ℕ) → IsImage n3 c → IsBeforeOrWith n.seen end payload c
+        three' c is = three c (subst (λ m. IsImage m c) g3.came is)
+
+        four : (c : List ℕ) → IsImage (synced n3) c → IsBeforeOrWith n.seen end payload c
+        four c is = second_sync n.seen payload end len c (subst (λ m. IsImage (synced m) c) (g3.came ∙ ap (written end (1 ∷ [])) is_2) is)
+
+        pub fails_4 : (p4 : List Moment) (n4 : Moment) → Fails p3 n3 p4 n4 (synced n3) → LeavesOnly p n p4 n4 (IsBeforeOrWith n.seen end payload)
+        fails_4 p4 n4 f = fails_on p p3 p4 n n3 n4 _ _ so_far_3 f three' four
+
+        pub ends : (p4 : List Moment) (n4 : Moment) → Goes p3 n3 p4 n4 (synced n3) → LeavesOnly p n p4 n4 (IsBeforeOrWith n.seen end payload)
+        ends p4 n4 g = goes_on p p3 p4 n n3 n4 _ _ so_far_3 g four

@@ -1,0 +1,10 @@
+pub mod Added
+pub mod Appending
+pub mod Either
+pub mod Ends
+pub mod Repairing
+pub mod Rested
+pub mod Steps
+pub mod Torn
+pub mod Whole
+pub mod Written

@@ -1,0 +1,26 @@
+use Rattle.std.proofs.Common.{◌≡◌, ℕ, ◌+◌, ◌<◌, List, length, take, ap, subst, sym, ◌∙◌, arith}
+use Rattle.outside.specs.Passing.{started, weaker}
+use Rattle.node_journal.specs.Gate.{IsBefore}
+use Rattle.node_journal.specs.Records.{records, Holds}
+use Rattle.node_journal.specs.Index.{EndsAt}
+use Rattle.node_journal.specs.Views.{payloads_of}
+use Rattle.node_journal.specs.Frames.{end_of}
+use Rattle.node_journal.proofs.Ends.{cut_records, end_records}
+use Rattle.node_journal.proofs.Repairing.{file_rests}
+use Rattle.node_journal.proofs.repair.trim.Goals as goal
+
+pub returns-then-end-size-clause-any_moment : goal.returns-then-end-size-clause-any_moment
+returns-then-end-size-clause-any_moment g c told =
+    let n = g.D.Disk.now c.args.disk.now in
+    let ps = payloads_of c.args.payloads.now in
+    let ends = subst (λ (e : ℕ). EndsAt n.seen ps e) (sym c.end-end.ensures.place) (c.requires.ends told) in
+    weaker (g.D.Disk.past c.args.disk.now) n (g.D.Disk.past c.cut_behind.new.disk) (g.D.Disk.now c.cut_behind.new.disk) (IsBefore (take (c.end-end.result + 1) n.seen)) (λ f. records f ≡ Holds ps)
+    (cut_records ps n.seen c.end-end.result c.args.payloads.now.small ends (omega (arith, c.if-end-size.true, c.requires.sized told)))
+    (c.cut_behind.ensures.any_moment told)
+
+pub returns-clause-any_moment : goal.returns-clause-any_moment
+returns-clause-any_moment g c told =
+    let n = g.D.Disk.now c.args.disk.now in
+    let ps = payloads_of c.args.payloads.now in
+    started (g.D.Disk.past c.args.disk.now) n (λ f. records f ≡ Holds ps)
+    (λ f is. ap records (file_rests n (c.requires.rest told) f is) ∙ end_records ps n.seen (end_of ps) c.args.payloads.now.small (c.requires.ends told))

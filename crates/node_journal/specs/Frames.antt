@@ -1,0 +1,38 @@
+-- The bytes that a journal writes for its payloads, and where they stand.
+use Rattle.std.specs.Prelude.{◌≡◌, ℕ, ◌+◌, ◌<◌, ◌^◌, Bool, true, nat_lt, List, [], ◌∷◌, ◌++◌, length, drop, map}
+use Rattle.std.specs.List.{list_all}
+use Rattle.std.specs.Int.{w32, to_le_bytes}
+use Rattle.node_journal.specs.Records.{mark, payload_of}
+
+-- a payload behind an open gate
+abbrev pub frame : List ℕ → List ℕ
+frame p = 1 ∷ to_le_bytes w32 (length p) ++ p
+
+-- what stands behind the gate of a payload that is the last one
+abbrev pub tail_of : List ℕ → List ℕ
+tail_of p = to_le_bytes w32 (length p) ++ p ++ 0 ∷ []
+
+abbrev pub framed : List (List ℕ) → List ℕ
+framed [] = []
+framed (p ∷ ps) = frame p ++ framed ps
+
+-- the whole file of these payloads, with a closed gate at its end
+abbrev pub file_of : List (List ℕ) → List ℕ
+file_of ps = mark ++ framed ps ++ 0 ∷ []
+
+-- the places of the gates, of which the first is given
+abbrev pub places_from : ℕ → List (List ℕ) → List ℕ
+places_from at [] = []
+places_from at (p ∷ ps) = at ∷ places_from (at + 5 + length p) ps
+
+-- the place of the gate at the end
+abbrev pub end_of : List (List ℕ) → ℕ
+end_of ps = 8 + length (framed ps)
+
+-- the payloads behind gates at these places
+abbrev pub payloads_at : List ℕ → List ℕ → List (List ℕ)
+payloads_at file places = map (λ place. payload_of (drop place file)) places
+
+-- a length fits its four bytes
+abbrev pub is_small : List ℕ → Bool
+is_small p = nat_lt (length p) (2 ^ 32)

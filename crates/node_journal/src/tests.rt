@@ -1,0 +1,83 @@
+// What no clause says: worked files by the format, and runs that are stopped at each call of the disk.
+use crate::*;
+use outside::MemDisk;
+use std::alloc::{AllocError, Global};
+use std::test::Fail;
+
+// The payloads `one` and `three`: gates at 8, 16 and 26.
+const FILE: [u8; 27] = *b"BNCJRNL1\x01\x03\0\0\0one\x01\x05\0\0\0three\0";
+
+/// Adds `one` and `three` to an empty disk that stops at a call: how many were acknowledged, and the disk.
+#[tactic(auto, using(crate::specs::Resting::resting_rests))]
+fn run(alloc: Global, stop: u64) -> Result<(usize, MemDisk), AllocError> {
+    let disk = MemDisk::stopping_at(alloc, b"", stop)?;
+    match Journal::start(alloc, disk) {
+        Ok(started) => {
+            let mut journal = started;
+            let first = journal.append(alloc, b"one").is_ok();
+            let second = journal.append(alloc, b"three").is_ok();
+            Ok((first as usize + second as usize, journal.into_disk()))
+        }
+        Err((_, disk)) => Ok((0, disk)),
+    }
+}
+
+#[test]
+fn altered_files_read_as_the_format_says(rt: HostRuntime) -> Result<(), Fail> {
+    for (cut, at, byte, want) in [
+        (27, 99, 0, Ok(2)),
+        (26, 99, 0, Ok(2)),
+        (0, 99, 0, Ok(0)),
+        (9, 99, 0, Ok(0)),
+        (27, 8, 0, Ok(0)),
+        (12, 99, 0, Err(JournalFault::Damaged { at: 8 })),
+        (16, 99, 0, Ok(1)),
+        (17, 99, 0, Ok(1)),
+        (27, 16, 0x37, Ok(1)),
+        (20, 99, 0, Err(JournalFault::Damaged { at: 16 })),
+        (27, 18, 0xff, Err(JournalFault::Damaged { at: 16 })),
+        (27, 0, 0x58, Err(JournalFault::NotAJournal)),
+    ] {
+        let mut bytes = FILE[..FILE.len().min(cut)].to_vec(rt.alloc())?;
+        if at < bytes.len() {
+            bytes[at] = byte;
+        }
+        let mut disk = MemDisk::from_bytes(rt.alloc(), &bytes)?;
+        let got = match scan(rt.alloc(), &mut disk) {
+            Ok(payloads) => Ok(payloads.count()),
+            Err(fault) => Err(fault),
+        };
+        assert_eq!(rt; got, want, "cut to {cut}, {byte} at {at}");
+    }
+    Ok(())
+}
+
+#[test]
+fn a_run_that_is_not_stopped_writes_the_file(rt: HostRuntime) -> Result<(), Fail> {
+    let (count, disk) = run(rt.alloc(), 99)?;
+    assert_eq!(rt; count, 2);
+    assert_eq!(rt; disk.bytes(), FILE.as_slice());
+    Ok(())
+}
+
+#[test]
+fn each_image_has_what_was_acknowledged(rt: HostRuntime) -> Result<(), Fail> {
+    for stop in 0..14 {
+        let (count, disk) = run(rt.alloc(), stop)?;
+        for fill in [0u8, 1, 2, 255] {
+            let wish = vec![in rt.alloc(); fill; 40]?;
+            for image in [
+                disk.kept(rt.alloc())?,
+                disk.image(rt.alloc(), disk.bytes())?,
+                disk.image(rt.alloc(), &wish)?,
+            ] {
+                let mut left = MemDisk::from_bytes(rt.alloc(), &image)?;
+                let payloads = scan(rt.alloc(), &mut left)?;
+                assert!(rt;
+                    payloads.count() == count || payloads.count() == count.saturating_add(1)
+                );
+            }
+        }
+    }
+    Ok(())
+}

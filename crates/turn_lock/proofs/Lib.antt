@@ -1,0 +1,10 @@
+pub mod Closing
+pub mod Drawing
+pub mod Joining
+pub mod Looking
+pub mod Making
+pub mod NameLists
+pub mod Noting
+pub mod Passing
+pub mod Seats
+pub mod Splitting

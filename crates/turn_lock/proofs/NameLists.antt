@@ -1,0 +1,96 @@
+-- Lists of distinct names.
+use Rattle.std.proofs.Common.{◌≡◌, ◌⊎◌, inl, inr, ⊎_elim, ℕ, zero, suc, ◌+◌, ◌≤◌, ◌<◌, Bool, true, false, List, [], ◌∷◌, ◌++◌, length, eqb, refl, sym, ◌∙◌, subst, arith}
+use Rattle.std.specs.Prelude.{Contains, if◌then◌else◌}
+use Rattle.std.proofs.lemmas.Grind.{common_steps}
+use Rattle.std.proofs.lemmas.Bool.{eq-eqb, eqb-true, cases_lt}
+use Rattle.std.proofs.lemmas.List.{length-append}
+use Rattle.std.proofs.lemmas.List.Elements.{Contains-append_right, Contains-append_cases}
+use Rattle.std.proofs.Math.Nat.{max-eq_left, max-eq_right}
+use Rattle.turn_lock.specs.Names.{AreDistinct, greatest, without, names_below}
+
+pub nothing : {X : Type 0} (e : X) → Contains [] e → ⊥
+nothing e c = grind (arith, common_steps)
+
+pub head_in : {X : Type 0} (x : X) (xs : List X) → Contains (x ∷ xs) x
+head_in x xs = (0, omega arith, refl)
+
+pub only_in : {X : Type 0} (x y : X) → Contains (x ∷ []) y → y ≡ x
+only_in x y (zero, _, is) = sym is
+only_in x y (suc k, low, _) = absurd (omega (arith, low))
+
+pub tail_in : {X : Type 0} (x : X) (xs : List X) (y : X) → Contains xs y → Contains (x ∷ xs) y
+tail_in x xs y c = Contains-append_right (x ∷ []) xs y c
+
+pub either_in : {X : Type 0} (x : X) (xs : List X) (y : X) → Contains (x ∷ xs) y → (y ≡ x) ⊎ Contains xs y
+either_in x xs y c = ⊎_elim (λ h. inl (only_in x y h)) (λ t. inr t) (Contains-append_cases (x ∷ []) xs y c)
+
+-- the greatest of some names is one of them
+pub greatest_in : (xs : List ℕ) → 0 < length xs → Contains xs (greatest xs)
+greatest_in [] some_names = absurd (omega (arith, some_names))
+greatest_in (x ∷ []) some_names = subst (Contains (x ∷ [])) (sym (max-eq_left (omega arith))) (head_in x [])
+greatest_in (x ∷ y ∷ ys) some_names = ⊎_elim
+    (λ (lt : greatest (y ∷ ys) < x). subst (Contains (x ∷ y ∷ ys)) (sym (max-eq_left (omega (arith, lt)))) (head_in x (y ∷ ys)))
+    (λ (le : x ≤ greatest (y ∷ ys)). subst (Contains (x ∷ y ∷ ys)) (sym (max-eq_right le)) (tail_in x (y ∷ ys) (greatest (y ∷ ys)) (greatest_in (y ∷ ys) (omega arith))))
+    (cases_lt (greatest (y ∷ ys)) x)
+
+module _ (n : ℕ) where
+  pub without_in : (xs : List ℕ) (y : ℕ) → Contains (without n xs) y → Contains xs y
+  without_in [] y c = c
+  without_in (x ∷ xs) y c = go (eqb x n) (without_in xs y) c
+    where
+      go : (b : Bool) → (Contains (without n xs) y → Contains xs y) → Contains (if b then xs else x ∷ without n xs) y → Contains (x ∷ xs) y
+      go true deeper h = tail_in x xs y h
+      go false deeper h = ⊎_elim (λ (e : y ≡ x). subst (Contains (x ∷ xs)) (sym e) (head_in x xs)) (λ (t : Contains (without n xs) y). tail_in x xs y (deeper t)) (either_in x (without n xs) y h)
+
+  pub length_without : (xs : List ℕ) → Contains xs n → length (without n xs) + 1 ≡ length xs
+  length_without [] c = absurd (nothing n c)
+  length_without (x ∷ xs) c = go (eqb x n) refl (length_without xs)
+    where
+      go : (b : Bool) → eqb x n ≡ b → (Contains xs n → length (without n xs) + 1 ≡ length xs) → length (if b then xs else x ∷ without n xs) + 1 ≡ length (x ∷ xs)
+      go true is deeper = omega arith
+      go false is deeper = ⊎_elim
+          (λ (e : n ≡ x). let bad : true ≡ false = sym (eq-eqb x n (sym e)) ∙ is in cc)
+          (λ (t : Contains xs n). let before = deeper t in omega (arith, before))
+          (either_in x xs n c)
+
+  pub distinct_without : (xs : List ℕ) → AreDistinct xs → AreDistinct (without n xs)
+  distinct_without [] d = d
+  distinct_without (x ∷ xs) d = go (eqb x n) (distinct_without xs d.1)
+    where
+      go : (b : Bool) → AreDistinct (without n xs) → AreDistinct (if b then xs else x ∷ without n xs)
+      go true deeper = d.1
+      go false deeper = ((λ c. d.0 (without_in xs x c)), deeper)
+
+  pub not_without : (xs : List ℕ) → AreDistinct xs → Contains (without n xs) n → ⊥
+  not_without [] d c = nothing n c
+  not_without (x ∷ xs) d c = go (eqb x n) refl (not_without xs d.1) c
+    where
+      go : (b : Bool) → eqb x n ≡ b → (Contains (without n xs) n → ⊥) → Contains (if b then xs else x ∷ without n xs) n → ⊥
+      go true is deeper h = d.0 (subst (Contains xs) (sym (eqb-true x n is)) h)
+      go false is deeper h = ⊎_elim
+          (λ (e : n ≡ x). let bad : true ≡ false = sym (eq-eqb x n (sym e)) ∙ is in cc)
+          (λ (t : Contains (without n xs) n). deeper t)
+          (either_in x (without n xs) n h)
+
+pub distinct_append : (xs ys : List ℕ) → AreDistinct xs → AreDistinct ys → ((n : ℕ) → Contains xs n → Contains ys n → ⊥) → AreDistinct (xs ++ ys)
+distinct_append [] ys dx dy apart = dy
+distinct_append (x ∷ xs) ys dx dy apart = (
+  (λ c. ⊎_elim (λ (h : Contains xs x). dx.0 h) (λ (h : Contains ys x). apart x (head_in x xs) h) (Contains-append_cases xs ys x c)),
+  distinct_append xs ys dx.1 dy (λ n a b. apart n (tail_in x xs n a) b),
+)
+
+pub length_below : (n : ℕ) → length (names_below n) ≡ n
+length_below zero = refl
+length_below (suc n) = let before = length_below n in omega (arith, length-append (names_below n) (n ∷ []), before)
+
+pub below : (n k : ℕ) → Contains (names_below n) k → k < n
+below zero k c = absurd (nothing k c)
+below (suc n) k c = ⊎_elim
+    (λ (h : Contains (names_below n) k). let lt = below n k h in omega (arith, lt))
+    (λ (h : Contains (n ∷ []) k). let same = only_in n k h in omega (arith, same))
+    (Contains-append_cases (names_below n) (n ∷ []) k c)
+
+pub distinct_below : (n : ℕ) → AreDistinct (names_below n)
+distinct_below zero = tt
+distinct_below (suc n) = distinct_append (names_below n) (n ∷ []) (distinct_below n) ((λ c. nothing n c), tt)
+    (λ k a b. let lt = below n k a in let same = only_in n k b in absurd (omega (arith, lt, same)))

@@ -1,0 +1,23 @@
+-- A list of entries that only grows, and what a pass knows of it.
+use Rattle.std.specs.Prelude.{◌≡◌, ℕ, List, ◌++◌, length, Option, Some, Contains, nat_le, if◌then◌else◌}
+
+module _ {E : Type 0} (name : E → Option ℕ) (names : List ℕ) where
+  -- no entry has one of the names
+  abbrev pub NoneOf : List E → Type 0
+  NoneOf entries = (e : E) (n : ℕ) → Contains entries e → name e ≡ Some n → Contains names n → ⊥
+
+  -- each entry has one of the names, or none at all
+  abbrev pub OwnOrNone : List E → Type 0
+  OwnOrNone entries = (e : E) (n : ℕ) → Contains entries e → name e ≡ Some n → Contains names n
+
+  -- the list begins with what was seen, and behind that others alone wrote
+  abbrev pub GoesOn : List E → List E → Type 0
+  GoesOn seen list = (behind : List E) × (list ≡ seen ++ behind) × NoneOf behind
+
+  -- the list was made longer by entries of one's own, or by entries with no name
+  abbrev pub Grows : List E → List E → Type 0
+  Grows found list = (own : List E) × (list ≡ found ++ own) × OwnOrNone own
+
+-- the longer of two lists
+abbrev pub longer : {E : Type 0} → List E → List E → List E
+longer a b = if nat_le (length a) (length b) then b else a

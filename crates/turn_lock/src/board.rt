@@ -1,0 +1,96 @@
+// The table of a lock. Word 0 counts the tickets that were drawn, word 1 those that were served, word 2 the entries.
+// Slot 0 has the value.
+use crate::Kept;
+use atomic_table::{Join, Play, Seat, Shared, Split, TableRule};
+use std::collections::LinkedList;
+use std::marker::PhantomData;
+use std::snapshot::Snapshot;
+
+/// What a pass knows. It is for contracts, and no value of it is made.
+pub struct View<E> {
+    /// Its names: as many as its weight, and none where it is spent.
+    pub names: LinkedList<u64>,
+    pub ticket: Option<u64>,
+    /// It has the value out.
+    pub out: bool,
+    pub seen: LinkedList<E>,
+}
+
+/// What the table is told once, when it is made: the weight of all passes, and the first value.
+#[derive(Drop)]
+pub struct Start<V> {
+    pub weight: u64,
+    pub value: Snapshot<V>,
+}
+
+pub struct Turns<V> {
+    of: PhantomData<V>,
+}
+
+impl<V: Kept> TableRule<Option<V>, View<V::Entry>, Start<V>> for Turns<V> {
+    ghost use Rattle.turn_lock.specs.Turns.{TakesTurns, first_view};
+
+    ghost holds = { λ key s. TakesTurns V.list V.name key.weight s };
+
+    ghost first = { λ key. first_view key.weight (V.list key.value.value) };
+}
+
+pub type Board<V> = Shared<Option<V>, View<<V as Kept>::Entry>, Start<V>, Turns<V>>;
+
+pub type Place<V> = Seat<Option<V>, View<<V as Kept>::Entry>>;
+
+pub struct Draw;
+
+impl<V, E> Play<Option<V>, View<E>> for Draw {
+    ghost use Rattle.turn_lock.specs.Steps.{Drawn};
+
+    ghost then = { Drawn };
+}
+
+pub struct Look<V> {
+    of: PhantomData<V>,
+}
+
+impl<V: Kept> Play<Option<V>, View<V::Entry>> for Look<V> {
+    ghost use Rattle.turn_lock.specs.Steps.{Looked};
+
+    ghost then = { Looked V.list V.name };
+}
+
+pub struct Note<V> {
+    of: PhantomData<V>,
+}
+
+impl<V: Kept> Play<Option<V>, View<V::Entry>> for Note<V> {
+    ghost use Rattle.turn_lock.specs.Steps.{Noted};
+
+    ghost then = { Noted V.list };
+}
+
+pub struct PassOn;
+
+impl<V, E> Play<Option<V>, View<E>> for PassOn {
+    ghost use Rattle.turn_lock.specs.Steps.{PassedOn};
+
+    ghost then = { PassedOn };
+}
+
+pub struct Cut;
+
+impl<E> Split<View<E>> for Cut {
+    ghost use Rattle.turn_lock.specs.Steps.{others_of, greatest_of};
+
+    ghost left = { others_of };
+
+    ghost right = { greatest_of };
+}
+
+pub struct Glue;
+
+impl<E> Join<View<E>> for Glue {
+    ghost use Rattle.turn_lock.specs.Steps.{joined, spent};
+
+    ghost both = { joined };
+
+    ghost spent = { spent };
+}
