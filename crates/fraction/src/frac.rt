@@ -41,6 +41,7 @@ impl Model for Frac {
 }
 
 /// The fraction of two numbers that are in lowest terms.
+#[inline(always)]
 fn made(num: i128, den: u128) -> Frac
     requires lowest { IsLowest num den }
     requires num_small { nat_abs num < 2 ^ 127 }
@@ -64,6 +65,7 @@ fn reduced(num: i128, den: u128) -> Frac
 }
 
 /// The sum of two whole numbers.
+#[inline(always)]
 fn whole_sum(a: i128, b: i128) -> Option<Frac>
     ensures { result ≡ option_map whole (small (a +ℤ b)) }
 {
@@ -71,6 +73,7 @@ fn whole_sum(a: i128, b: i128) -> Option<Frac>
 }
 
 /// The product of two whole numbers.
+#[inline(always)]
 fn whole_product(a: i128, b: i128) -> Option<Frac>
     ensures { result ≡ option_map whole (small (a *ℤ b)) }
 {
@@ -79,6 +82,7 @@ fn whole_product(a: i128, b: i128) -> Option<Frac>
 
 impl Frac {
     /// The whole number `n`, which isn't the least `i128`.
+    #[inline(always)]
     pub fn of(n: i128) -> Frac
         requires { nat_abs n < 2 ^ 127 }
         ensures { result ≡ whole n }
@@ -172,6 +176,7 @@ impl Frac {
 
     /// The sum of a/b and c/d, reduced. With g the greatest common divisor of b and d, it is `None` exactly where a(d/g), c(b/g), their
     /// sum or b(d/g) is above 2^127 - 1 in size.
+    #[inline(always)]
     pub fn add(self, other: Frac) -> Option<Frac>
         ensures { result ≡ add_checked self other }
     {
@@ -182,6 +187,7 @@ impl Frac {
     }
 
     /// The sum over the least common denominator.
+    #[inline(never)]
     fn add_over(self, other: Frac) -> Option<Frac>
         ensures { result ≡ add_checked self other }
     {
@@ -195,6 +201,7 @@ impl Frac {
 
     /// The product of a/b and c/d. Each numerator is reduced against the other's denominator first; it is `None` exactly where then the
     /// product of the numerators or that of the denominators is above 2^127 - 1 in size.
+    #[inline(always)]
     pub fn mul(self, other: Frac) -> Option<Frac>
         ensures { result ≡ mul_checked self other }
     {
@@ -205,6 +212,7 @@ impl Frac {
     }
 
     /// The product, each numerator reduced against the other's denominator.
+    #[inline(never)]
     fn mul_over(self, other: Frac) -> Option<Frac>
         ensures { result ≡ mul_checked self other }
     {
@@ -216,6 +224,7 @@ impl Frac {
     }
 
     /// How this number compares with another. The answer is always there: where 128 bits are too few it multiplies in 256.
+    #[inline(always)]
     pub fn cmp(self, other: Frac) -> Ordering
         ensures { result ≡ compare self other }
     {

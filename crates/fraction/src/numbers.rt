@@ -5,6 +5,7 @@ ghost use Rattle.fraction.specs.Rational.{floor_div, signed_as};
 ghost use Rattle.fraction.specs.Checked.{small, held};
 
 /// The sum, unless its size is above 2^127 - 1.
+#[inline(always)]
 pub fn small_sum(a: i128, b: i128) -> Option<i128>
     ensures { result ≡ small (a +ℤ b) }
 {

@@ -7,6 +7,7 @@ ghost use Rattle.std.specs.Ordering.{nat_cmp, int_cmp};
 use std::cmp::Ordering;
 
 /// How `a * b` compares with `c * d`.
+#[inline(always)]
 fn compared_products(a: u128, b: u128, c: u128, d: u128) -> Ordering
     ensures { result ≡ nat_cmp (a * b) (c * d) }
 {
@@ -20,6 +21,7 @@ fn compared_products(a: u128, b: u128, c: u128, d: u128) -> Ordering
 }
 
 /// How `a * b` compares with `c * d`, by products of up to 256 bits.
+#[inline]
 fn wide_compared(a: i128, b: u128, c: i128, d: u128) -> Ordering
     requires a_small { nat_abs a < 2 ^ 127 }
     requires c_small { nat_abs c < 2 ^ 127 }
@@ -41,6 +43,7 @@ fn wide_compared(a: i128, b: u128, c: i128, d: u128) -> Ordering
 }
 
 /// The product of two numbers of 63 bits, if they are.
+#[inline(always)]
 fn narrow_product(a: i128, b: u128) -> Option<i128>
     ensures { IfSome result (λ p. p ≡ a *ℤ pos b) }
 {
@@ -51,6 +54,7 @@ fn narrow_product(a: i128, b: u128) -> Option<i128>
 }
 
 /// How `a * b` compares with `c * d`. Numbers of 63 bits go the short way.
+#[inline]
 pub fn compared(a: i128, b: u128, c: i128, d: u128) -> Ordering
     requires a_small { nat_abs a < 2 ^ 127 }
     requires c_small { nat_abs c < 2 ^ 127 }

@@ -87,13 +87,17 @@ front_after ps file n e ends at is = ap (λ (k : ℕ). take k n.seen) at ∙ ap 
     both : (k : ℕ) (l : List ℕ) → take k (take (k + 1) l) ≡ take k l
     both k l = grind (arith, common_steps)
 
+-- the bytes of a file of payloads, and anything behind its closed gate
+pub before_records : (ps : List (List ℕ)) (file c : List ℕ) → list_all is_small ps ≡ true → file ≡ file_of ps → IsBefore file c → records c ≡ Holds ps
+before_records ps file c small whole b = front_records ps (mark ++ framed ps) (0 ∷ b.0) c small refl (gate_shut 0 b.0 refl) (b.1 ∙ ap (λ (l : List ℕ). l ++ b.0) whole ∙ append_assoc (mark ++ framed ps) (0 ∷ []) b.0)
+
 -- the bytes that a crash leaves while a payload is added
 pub adding : (ps : List (List ℕ)) (p file c : List ℕ) (end : ℕ) → list_all is_small (ps ++ p ∷ []) ≡ true → list_all is_small ps ≡ true → file ≡ file_of ps → take end file ≡ mark ++ framed ps
     → (mark ++ framed ps) ++ 1 ∷ tail_of p ≡ file_of (ps ++ p ∷ []) → IsBeforeOrWith file end (tail_of p) c → IsWithOrWithout ps p c
 adding ps p file c end more small whole front new is = ⊎_elim without with is
   where
     without : IsBefore file c → IsWithOrWithout ps p c
-    without b = inl (front_records ps (mark ++ framed ps) (0 ∷ b.0) c small refl (gate_shut 0 b.0 refl) (b.1 ∙ ap (λ (l : List ℕ). l ++ b.0) whole ∙ append_assoc (mark ++ framed ps) (0 ∷ []) b.0))
+    without b = inl (before_records ps file c small whole b)
 
     same : (gate : ℕ) → c ≡ take end file ++ gate ∷ tail_of p → c ≡ (mark ++ framed ps) ++ gate ∷ tail_of p
     same gate e = e ∙ ap (λ (l : List ℕ). l ++ gate ∷ tail_of p) front

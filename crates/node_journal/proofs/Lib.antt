@@ -3,6 +3,7 @@ pub mod Appending
 pub mod Either
 pub mod Ends
 pub mod Repairing
+pub mod Keeping
 pub mod Rested
 pub mod Steps
 pub mod Torn

@@ -3,6 +3,8 @@ pub mod Failing
 pub mod Frames
 pub mod Framing
 pub mod Gate
+pub mod History
+pub mod HistoryLaws
 pub mod Index
 pub mod Records
 pub mod Repairs

@@ -3,6 +3,8 @@ ghost use Rattle.std.specs.Prelude.{◌≡◌, ◌⊎◌, ◌+◌, ◌<◌, ◌�
 ghost use Rattle.outside.specs.Faults.{Rose, Counts};
 ghost use Rattle.outside.specs.Images.{AtRest, LeavesOnly, Stands, resting};
 ghost use Rattle.node_journal.specs.Records.{records, Holds};
+ghost use Rattle.node_journal.specs.History.{EachFrom, SomeFrom, IsContinued, IsFrontOf, Keeps, IsKept};
+ghost use Rattle.node_journal.specs.Views.{payloads_of};
 ghost use Rattle.node_journal.specs.Frames.{file_of, tail_of, places_from};
 
 use crate::opening::open_disk;
@@ -17,11 +19,15 @@ pub struct Journal<D: Disk> {
     disk: D,
     payloads: Payloads,
     fault: Option<u64>,
+    // The disk's clock before the journal was read.
+    opened: u64,
     ghost rest: { D.tells ≡ true → fault ≡ None → D.now disk ≡ resting payloads.file.items },
+    ghost kept: { D.tells ≡ true → IsKept opened (D.past disk) (D.now disk) (payloads_of payloads) fault },
+    ghost counted: { (n : ℕ) → fault ≡ Some n → D.count disk ≡ n },
 }
 
 impl<D: Disk> Journal<D> {
-    ghost use Rattle.node_journal.specs.Views.{payloads_of, is_disk};
+    ghost use Rattle.node_journal.specs.Views.{is_disk};
     ghost use Rattle.node_journal.specs.Failing.{fails_by_disk};
     ghost use Rattle.node_journal.specs.Appends.{IsWithOrWithout};
     ghost use Rattle.node_journal.specs.Index.{Refuses};
@@ -33,21 +39,27 @@ impl<D: Disk> Journal<D> {
         ensures read { D.tells ≡ true → IfOk result (λ j. records (D.now disk).seen ≡ Holds (payloads_of j.payloads)) }
         ensures rests { D.tells ≡ true → IfOk result (λ j. D.now j.disk ≡ resting (file_of (payloads_of j.payloads))) }
         ensures fresh { IfOk result (λ j. j.fault ≡ None) }
+        ensures opened { D.tells ≡ true → IfOk result (λ j. j.opened ≡ length (D.past disk)) }
         ensures refused { D.tells ≡ true → IfErr result (λ e. Refuses e.0 (records (D.now disk).seen)) }
         ensures untouched { IfErr result (λ e. is_disk e.0 ≡ false → Stands (D.past disk) (D.now disk) (D.past e.1) (D.now e.1)) }
         // A crash at any moment of the call leaves the payloads that were there.
         ensures any_moment { D.tells ≡ true → IfOk result (λ j. LeavesOnly (D.past disk) (D.now disk) (D.past j.disk) (D.now j.disk) (λ c. records c ≡ records (D.now disk).seen)) }
         ensures any_moment_err { D.tells ≡ true → IfErr result (λ e. LeavesOnly (D.past disk) (D.now disk) (D.past e.1) (D.now e.1) (λ c. records c ≡ records (D.now disk).seen)) }
+        // At each of these moments a crash leaves them, as something always is left.
+        ensures offers { D.tells ≡ true → IfOk result (λ j. SomeFrom (length (D.past disk)) (D.past j.disk) (λ c. records c ≡ records (D.now disk).seen)) }
+        ensures offers_err { D.tells ≡ true → IfErr result (λ e. SomeFrom (length (D.past disk)) (D.past e.1) (λ c. records c ≡ records (D.now disk).seen)) }
         // The count rises exactly where `Disk` is answered.
         ensures cause { IfOk result (λ j. D.count j.disk ≡ D.count disk) }
         ensures cause_err { IfErr result (λ e. Counts (D.count disk) (D.count e.1) (is_disk e.0)) }
     {
         let mut disk = disk;
+        let opened = disk.clock();
         match open_disk(alloc, &mut disk) {
             Ok(payloads) => Ok(Journal {
                 disk,
                 payloads,
                 fault: None,
+                opened,
             }),
             Err(fault) => Err((fault, disk)),
         }
@@ -64,6 +76,10 @@ impl<D: Disk> Journal<D> {
         ensures acknowledged { D.tells ≡ true → OnOk result (D.now self.new.disk ≡ resting (file_of (payloads_of self.new.payloads))) }
         // A crash at any moment of the call leaves the payloads from before, or with the new one.
         ensures any_moment { D.tells ≡ true → self.old.fault ≡ None → LeavesOnly (D.past self.old.disk) (D.now self.old.disk) (D.past self.new.disk) (D.now self.new.disk) (IsWithOrWithout (payloads_of self.old.payloads) payload.now) }
+        // A crash at any moment since the journal was opened leaves a front of the payloads with the new one.
+        ensures since { D.tells ≡ true → self.old.fault ≡ None → EachFrom self.old.opened (D.past self.new.disk ++ D.now self.new.disk ∷ []) (λ c. IsFrontOf (payloads_of self.old.payloads ++ payload.now ∷ []) (records c)) }
+        ensures opened { self.new.opened ≡ self.old.opened }
+        ensures continued { D.tells ≡ true → IsContinued (D.past self.old.disk ++ D.now self.old.disk ∷ []) (D.past self.new.disk ++ D.now self.new.disk ∷ []) }
         // The count rises exactly where a sound journal answers `Disk`.
         ensures cause { self.old.fault ≡ None → Counts (D.count self.old.disk) (D.count self.new.disk) (fails_by_disk result) }
         ensures fails { self.old.fault ≡ None → IsErrOf result AppendFault.Disk → self.new.fault ≡ Some (D.count self.new.disk) }
@@ -117,6 +133,18 @@ impl<D: Disk> Journal<D> {
         self.fault
     }
 
+    /// What each journal keeps, whatever calls led to it, from the moment on at which `start` was called. What all crashes at
+    /// one moment leave, all crashes at each later moment leave; so a payload that is acknowledged stays. Of any two
+    /// crashes one leaves the payloads that the other leaves, or more. A failed journal keeps the count that rose. This
+    /// computes nothing: its contract is for callers' proofs.
+    pub fn history_holds(&self)
+        ensures kept { D.tells ≡ true → IsKept self.now.opened (D.past self.now.disk) (D.now self.now.disk) (payloads_of self.now.payloads) self.now.fault }
+        ensures held { D.tells ≡ true → self.now.fault ≡ None → Keeps (payloads_of self.now.payloads) (D.now self.now.disk) }
+        ensures counted { (n : ℕ) → self.now.fault ≡ Some n → D.count self.now.disk ≡ n }
+    {
+        let _opened = self.opened;
+    }
+
     /// Hands back the disk.
     pub fn into_disk(self) -> D
         ensures { result ≡ self.disk }
@@ -125,6 +153,7 @@ impl<D: Disk> Journal<D> {
             disk,
             payloads: _,
             fault: _,
+            opened: _,
         } = self;
         disk
     }

@@ -1,9 +1,10 @@
 // A disk is read, and then its end is repaired.
-ghost use Rattle.std.specs.Prelude.{◌≡◌, true, false, IfOk, IfErr};
+ghost use Rattle.std.specs.Prelude.{◌≡◌, true, false, length, IfOk, IfErr};
 ghost use Rattle.outside.specs.Faults.{Counts};
 ghost use Rattle.outside.specs.Images.{AtRest, LeavesOnly, Stands, resting};
 ghost use Rattle.node_journal.specs.Records.{records, Holds};
 ghost use Rattle.node_journal.specs.Frames.{file_of};
+ghost use Rattle.node_journal.specs.History.{SomeFrom};
 ghost use Rattle.node_journal.specs.Index.{Refuses};
 ghost use Rattle.node_journal.specs.Views.{payloads_of, is_disk, disk_failed};
 
@@ -21,6 +22,7 @@ pub fn open_disk<D: Disk>(alloc: Global, disk: &mut D) -> Result<Payloads, Journ
     ensures refused { D.tells ≡ true → IfErr result (λ e. Refuses e (records (D.now disk.old).seen)) }
     ensures untouched { IfErr result (λ e. is_disk e ≡ false → Stands (D.past disk.old) (D.now disk.old) (D.past disk.new) (D.now disk.new)) }
     ensures any_moment { D.tells ≡ true → LeavesOnly (D.past disk.old) (D.now disk.old) (D.past disk.new) (D.now disk.new) (λ c. records c ≡ records (D.now disk.old).seen) }
+    ensures offers { D.tells ≡ true → SomeFrom (length (D.past disk.old)) (D.past disk.new) (λ c. records c ≡ records (D.now disk.old).seen) }
     ensures cause { Counts (D.count disk.old) (D.count disk.new) (disk_failed result) }
 {
     let reading = read(alloc, disk)?;

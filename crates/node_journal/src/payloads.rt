@@ -6,6 +6,8 @@ ghost use Rattle.outside.specs.Images.{LeavesOnly, Stands, resting};
 ghost use Rattle.node_journal.specs.Appends.{IsWithOrWithout};
 ghost use Rattle.node_journal.specs.Failing.{fails_by_disk};
 ghost use Rattle.node_journal.specs.Frames.{file_of, places_from, payloads_at, end_of, is_small};
+ghost use Rattle.node_journal.specs.History.{SomeFrom};
+ghost use Rattle.node_journal.specs.Records.{records, Holds};
 
 use crate::AppendFault;
 use crate::frame_at::whole_size;
@@ -100,6 +102,7 @@ impl Payloads {
         ensures file { OnErr result (self.new.file.items ≡ self.old.file.items) }
         ensures done { D.tells ≡ true → OnOk result (D.now disk.new ≡ resting self.new.file.items) }
         ensures any_moment { D.tells ≡ true → LeavesOnly (D.past disk.old) (D.now disk.old) (D.past disk.new) (D.now disk.new) (IsWithOrWithout (payloads_of self.old) payload.now) }
+        ensures before { D.tells ≡ true → SomeFrom (length (D.past disk.old)) (D.past disk.new) (λ c. records c ≡ Holds (payloads_of self.old)) }
         ensures memory { IsErrOf result AppendFault.Memory → Stands (D.past disk.old) (D.now disk.old) (D.past disk.new) (D.now disk.new) }
         ensures cause { Counts (D.count disk.old) (D.count disk.new) (fails_by_disk result) }
     {

@@ -1,11 +1,12 @@
 // A disk that reads as a journal is made into one whose end is a closed gate, and which is on the disk whole.
-ghost use Rattle.std.specs.Prelude.{◌≡◌, ◌+◌, ◌<◌, ◌^◌, ◌≤◌, ◌++◌, [], ◌∷◌, List, ℕ, true, length, take, OnOk, is_err};
+ghost use Rattle.std.specs.Prelude.{◌≡◌, ◌+◌, ◌<◌, ◌^◌, ◌≤◌, ◌++◌, [], ◌∷◌, List, ℕ, true, length, take, OnOk, OnErr, is_err};
 ghost use Rattle.outside.specs.Faults.{Counts};
-ghost use Rattle.outside.specs.Images.{AtRest, LeavesOnly, resting};
+ghost use Rattle.outside.specs.Images.{AtRest, LeavesOnly, Goes, Fails, resting, synced};
 ghost use Rattle.node_journal.specs.Gate.{IsBefore};
 ghost use Rattle.node_journal.specs.Repairs.{IsFrontAndOne};
 ghost use Rattle.node_journal.specs.Records.{records, Holds, mark};
 ghost use Rattle.node_journal.specs.Frames.{file_of, end_of};
+ghost use Rattle.node_journal.specs.History.{SomeFrom, Anything};
 ghost use Rattle.node_journal.specs.Index.{ReadsTo, EndsAt};
 ghost use Rattle.node_journal.specs.Views.{payloads_of};
 
@@ -18,10 +19,21 @@ fn renew<D: Disk>(disk: &mut D) -> Result<(), Failed>
     requires short { D.tells ≡ true → length (D.now disk.old).seen ≤ 9 }
     ensures done { D.tells ≡ true → OnOk result (D.now disk.new ≡ resting (file_of [])) }
     ensures any_moment { D.tells ≡ true → LeavesOnly (D.past disk.old) (D.now disk.old) (D.past disk.new) (D.now disk.new) (λ c. length c ≤ 9) }
+    ensures offers { D.tells ≡ true → SomeFrom (length (D.past disk.old)) (D.past disk.new) Anything }
     ensures cause { Counts (D.count disk.old) (D.count disk.new) (is_err result) }
 {
     disk.write_at(0, &EMPTY)?;
     disk.sync()?;
+    Ok(())
+}
+
+/// Waits until a cut is on the disk: only then may the gate in front of it be written.
+fn sync_cut<D: Disk>(disk: &mut D) -> Result<(), Failed>
+    ensures done { D.tells ≡ true → OnOk result (Goes (D.past disk.old) (D.now disk.old) (D.past disk.new) (D.now disk.new) (synced (D.now disk.old))) }
+    ensures failed { D.tells ≡ true → OnErr result (Fails (D.past disk.old) (D.now disk.old) (D.past disk.new) (D.now disk.new) (synced (D.now disk.old))) }
+    ensures cause { Counts (D.count disk.old) (D.count disk.new) (is_err result) }
+{
+    disk.sync()?; // the cut
     Ok(())
 }
 
@@ -32,10 +44,11 @@ fn cut_behind<D: Disk>(disk: &mut D, end: u64) -> Result<(), Failed>
     requires small { end < 2 ^ 63 }
     ensures done { D.tells ≡ true → OnOk result (D.now disk.new ≡ resting (take (end + 1) (D.now disk.old).seen)) }
     ensures any_moment { D.tells ≡ true → LeavesOnly (D.past disk.old) (D.now disk.old) (D.past disk.new) (D.now disk.new) (IsBefore (take (end + 1) (D.now disk.old).seen)) }
+    ensures offers { D.tells ≡ true → SomeFrom (length (D.past disk.old)) (D.past disk.new) Anything }
     ensures cause { Counts (D.count disk.old) (D.count disk.new) (is_err result) }
 {
     disk.cut(end + 1)?;
-    disk.sync()?;
+    sync_cut(disk)?;
     Ok(())
 }
 
@@ -46,6 +59,7 @@ fn shut<D: Disk>(disk: &mut D, end: u64) -> Result<(), Failed>
     requires last { D.tells ≡ true → length (D.now disk.old).seen ≤ end + 1 }
     ensures done { D.tells ≡ true → OnOk result (D.now disk.new ≡ resting (take end (D.now disk.old).seen ++ 0 ∷ [])) }
     ensures any_moment { D.tells ≡ true → LeavesOnly (D.past disk.old) (D.now disk.old) (D.past disk.new) (D.now disk.new) (IsFrontAndOne (take end (D.now disk.old).seen)) }
+    ensures offers { D.tells ≡ true → SomeFrom (length (D.past disk.old)) (D.past disk.new) Anything }
     ensures cause { Counts (D.count disk.old) (D.count disk.new) (is_err result) }
 {
     disk.write_at(end, &[0])?;
@@ -60,6 +74,7 @@ fn trim<D: Disk>(disk: &mut D, payloads: &Payloads, size: u64) -> Result<(), Fai
     requires ends { D.tells ≡ true → EndsAt (D.now disk.old).seen (payloads_of payloads.now) (end_of (payloads_of payloads.now)) }
     ensures done { D.tells ≡ true → OnOk result (D.now disk.new ≡ resting (take (end_of (payloads_of payloads.now) + 1) (D.now disk.old).seen)) }
     ensures any_moment { D.tells ≡ true → LeavesOnly (D.past disk.old) (D.now disk.old) (D.past disk.new) (D.now disk.new) (λ c. records c ≡ Holds (payloads_of payloads.now)) }
+    ensures offers { D.tells ≡ true → SomeFrom (length (D.past disk.old)) (D.past disk.new) Anything }
     ensures cause { Counts (D.count disk.old) (D.count disk.new) (is_err result) }
 {
     let end = payloads.end();
@@ -77,6 +92,7 @@ fn repair_end<D: Disk>(disk: &mut D, payloads: &Payloads, size: u64) -> Result<(
     requires ends { D.tells ≡ true → EndsAt (D.now disk.old).seen (payloads_of payloads.now) (end_of (payloads_of payloads.now)) }
     ensures done { D.tells ≡ true → OnOk result (D.now disk.new ≡ resting (file_of (payloads_of payloads.now))) }
     ensures any_moment { D.tells ≡ true → LeavesOnly (D.past disk.old) (D.now disk.old) (D.past disk.new) (D.now disk.new) (λ c. records c ≡ Holds (payloads_of payloads.now)) }
+    ensures offers { D.tells ≡ true → SomeFrom (length (D.past disk.old)) (D.past disk.new) Anything }
     ensures cause { Counts (D.count disk.old) (D.count disk.new) (is_err result) }
 {
     trim(disk, payloads, size)?;
@@ -91,6 +107,7 @@ pub fn repair<D: Disk>(disk: &mut D, payloads: &Payloads, size: u64) -> Result<(
     requires reads { D.tells ≡ true → ReadsTo (D.now disk.old).seen (payloads_of payloads.now) }
     ensures done { D.tells ≡ true → OnOk result (D.now disk.new ≡ resting (file_of (payloads_of payloads.now))) }
     ensures any_moment { D.tells ≡ true → LeavesOnly (D.past disk.old) (D.now disk.old) (D.past disk.new) (D.now disk.new) (λ c. records c ≡ Holds (payloads_of payloads.now)) }
+    ensures offers { D.tells ≡ true → SomeFrom (length (D.past disk.old)) (D.past disk.new) Anything }
     ensures cause { Counts (D.count disk.old) (D.count disk.new) (is_err result) }
 {
     disk.sync()?;

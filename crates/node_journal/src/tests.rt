@@ -60,23 +60,53 @@ fn a_run_that_is_not_stopped_writes_the_file(rt: HostRuntime) -> Result<(), Fail
     Ok(())
 }
 
+/// So many bytes: the first ones new, the others old, and one byte where these end.
+fn mixed(
+    alloc: Global,
+    (new, old): (&[u8], &[u8]),
+    turn: usize,
+    size: usize,
+    fill: u8,
+) -> Result<Vec<u8>, AllocError> {
+    let mut bytes = Vec::new(alloc);
+    for place in 0..size {
+        let side = if place < turn { new } else { old };
+        bytes.push(side.get(place).copied().unwrap_or(fill))?;
+    }
+    Ok(bytes)
+}
+
+/// Whether the image closest to these bytes has the payloads that were acknowledged, and at most one more.
+fn image_holds(alloc: Global, disk: &MemDisk, wish: &[u8], count: usize) -> Result<bool, Fail> {
+    let image = disk.image(alloc, wish)?;
+    let mut left = MemDisk::from_bytes(alloc, &image)?;
+    let payloads = scan(alloc, &mut left)?;
+    Ok(payloads.count() == count || payloads.count() == count.saturating_add(1))
+}
+
+/// The same of the images of each size, which are new up to a place and old from there on.
+fn images_hold(alloc: Global, disk: &MemDisk, turn: usize, count: usize) -> Result<bool, Fail> {
+    let old = disk.kept(alloc)?;
+    for size in 0..40 {
+        for fill in [0u8, 1, 255] {
+            let wish = mixed(alloc, (disk.bytes(), &old), turn, size, fill)?;
+            if !image_holds(alloc, disk, &wish, count)? {
+                return Ok(false);
+            }
+        }
+    }
+    Ok(true)
+}
+
 #[test]
 fn each_image_has_what_was_acknowledged(rt: HostRuntime) -> Result<(), Fail> {
     for stop in 0..14 {
         let (count, disk) = run(rt.alloc(), stop)?;
-        for fill in [0u8, 1, 2, 255] {
-            let wish = vec![in rt.alloc(); fill; 40]?;
-            for image in [
-                disk.kept(rt.alloc())?,
-                disk.image(rt.alloc(), disk.bytes())?,
-                disk.image(rt.alloc(), &wish)?,
-            ] {
-                let mut left = MemDisk::from_bytes(rt.alloc(), &image)?;
-                let payloads = scan(rt.alloc(), &mut left)?;
-                assert!(rt;
-                    payloads.count() == count || payloads.count() == count.saturating_add(1)
-                );
-            }
+        for turn in 0..40 {
+            assert!(rt;
+                images_hold(rt.alloc(), &disk, turn, count)?,
+                "{stop}, new to {turn}"
+            );
         }
     }
     Ok(())

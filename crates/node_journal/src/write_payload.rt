@@ -3,7 +3,8 @@ ghost use Rattle.std.specs.Prelude.{◌≡◌, ◌+◌, ◌-◌, ◌<◌, ◌≤
 ghost use Rattle.outside.specs.Faults.{Counts};
 ghost use Rattle.outside.specs.Images.{LeavesOnly, Stands, resting};
 ghost use Rattle.node_journal.specs.Frames.{tail_of};
-ghost use Rattle.node_journal.specs.Gate.{IsBeforeOrWith};
+ghost use Rattle.node_journal.specs.Gate.{IsBefore, IsBeforeOrWith};
+ghost use Rattle.node_journal.specs.History.{SomeFrom};
 ghost use Rattle.node_journal.specs.Failing.{fails_by_disk};
 
 use crate::AppendFault;
@@ -47,6 +48,7 @@ pub fn write_payload<D: Disk>(
     ensures err_places { OnErr result (places.new.items ≡ places.old.items) }
     ensures done { D.tells ≡ true → OnOk result (D.now disk.new ≡ resting (take (length file.old.items - 1) file.old.items ++ 1 ∷ tail_of payload.now)) }
     ensures any_moment { D.tells ≡ true → LeavesOnly (D.past disk.old) (D.now disk.old) (D.past disk.new) (D.now disk.new) (IsBeforeOrWith file.old.items (length file.old.items - 1) (tail_of payload.now)) }
+    ensures before { D.tells ≡ true → SomeFrom (length (D.past disk.old)) (D.past disk.new) (IsBefore file.old.items) }
     ensures memory { IsErrOf result AppendFault.Memory → Stands (D.past disk.old) (D.now disk.old) (D.past disk.new) (D.now disk.new) }
     ensures cause { Counts (D.count disk.old) (D.count disk.new) (fails_by_disk result) }
 {

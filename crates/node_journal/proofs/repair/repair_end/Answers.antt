@@ -5,6 +5,8 @@ use Rattle.node_journal.specs.Records.{records, Holds}
 use Rattle.node_journal.specs.Repairs.{IsFrontAndOne}
 use Rattle.node_journal.specs.Views.{payloads_of}
 use Rattle.node_journal.specs.Frames.{file_of, end_of}
+use Rattle.node_journal.specs.History.{Anything}
+use Rattle.node_journal.specs.HistoryLaws.{some_joined}
 use Rattle.node_journal.proofs.Ends.{one_records, front_after}
 use Rattle.node_journal.proofs.repair.repair_end.Goals as goal
 
@@ -44,3 +46,17 @@ returns-clause-any_moment g c told =
     joined (past c.args.disk.now) (past c.trim.new.disk) (past c.shut.new.disk) n n1 (now c.shut.new.disk) (λ f. records f ≡ Holds ps) (c.trim.ensures.any_moment told)
     (weaker (past c.trim.new.disk) n1 (past c.shut.new.disk) (now c.shut.new.disk) (IsFrontAndOne (take c.end.result n1.seen)) (λ f. records f ≡ Holds ps)
     (λ f is. one_records ps n.seen (end_of ps) c.args.payloads.now.small ends (take c.end.result n1.seen) f front is) (c.shut.ensures.any_moment told))
+
+pub returns-in_err-shut-clause-offers : goal.returns-in_err-shut-clause-offers
+returns-in_err-shut-clause-offers g c told =
+    let past = g.D.Disk.past in
+    let now = g.D.Disk.now in
+    some_joined (length (past c.args.disk.now)) (past c.trim.new.disk) (now c.trim.new.disk) (past c.shut.new.disk) (now c.shut.new.disk) Anything (IsFrontAndOne (take c.end.result (now c.trim.new.disk).seen))
+    (c.shut.ensures.any_moment told) (c.trim.ensures.offers told) (c.shut.ensures.offers told)
+
+pub returns-clause-offers : goal.returns-clause-offers
+returns-clause-offers g c told =
+    let past = g.D.Disk.past in
+    let now = g.D.Disk.now in
+    some_joined (length (past c.args.disk.now)) (past c.trim.new.disk) (now c.trim.new.disk) (past c.shut.new.disk) (now c.shut.new.disk) Anything (IsFrontAndOne (take c.end.result (now c.trim.new.disk).seen))
+    (c.shut.ensures.any_moment told) (c.trim.ensures.offers told) (c.shut.ensures.offers told)

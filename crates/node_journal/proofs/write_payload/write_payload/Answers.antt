@@ -1,7 +1,10 @@
-use Rattle.std.proofs.Common.{◌≡◌, ℕ, ◌-◌, List, ◌++◌, ◌∷◌, length, take, drop, ap, sym, ◌∙◌, rules, arith, vec_len}
+use Rattle.std.proofs.Common.{◌≡◌, ℕ, ◌-◌, List, ◌++◌, ◌∷◌, length, take, drop, ap, sym, ◌∙◌, rules, arith, vec_len, subst}
 use Rattle.outside.specs.Images.{resting}
 use Rattle.outside.specs.declared.moment.Moment.{Moment}
 use Rattle.node_journal.specs.Frames.{tail_of}
+use Rattle.node_journal.specs.Gate.{IsBefore}
+use Rattle.node_journal.specs.History.{SomeFrom}
+use Rattle.node_journal.specs.HistoryLaws.{some_none}
 use Rattle.node_journal.proofs.Written.{gate_within, frame_is, done_is, moments, no_moment}
 use Rattle.node_journal.proofs.write_payload.write_payload.Goals as goal
 
@@ -61,3 +64,14 @@ returns-in-Err-clause-any_moment g c told =
     let frame = take (length c.deref.result.now - size) (drop size c.deref.result.now) in
     let bytes : frame ≡ tail = ap (λ (l : List ℕ). take (length l - size) (drop size l)) c.deref.ensures.value ∙ frame_is file tail staged size is at c.requires.gate in
     moments file tail staged size is at c.requires.gate (g.D.Disk.past c.args.disk.now) (g.D.Disk.past c.open_behind.new.disk) n (g.D.Disk.now c.open_behind.new.disk) frame same bytes (c.open_behind.ensures.any_moment told)
+
+pub returns-then-is_err-clause-before : goal.returns-then-is_err-clause-before
+returns-then-is_err-clause-before g c told = some_none (g.D.Disk.past c.args.disk.now) (IsBefore c.args.file.now.items)
+
+pub returns-in-Ok-clause-before : goal.returns-in-Ok-clause-before
+returns-in-Ok-clause-before g c told =
+    subst (λ (l : List ℕ). SomeFrom (length (g.D.Disk.past c.args.disk.now)) (g.D.Disk.past c.open_behind.new.disk) (IsBefore l)) (ap (λ (m : Moment). m.seen) (c.requires.rest told)) (c.open_behind.ensures.before told)
+
+pub returns-in-Err-clause-before : goal.returns-in-Err-clause-before
+returns-in-Err-clause-before g c told =
+    subst (λ (l : List ℕ). SomeFrom (length (g.D.Disk.past c.args.disk.now)) (g.D.Disk.past c.open_behind.new.disk) (IsBefore l)) (ap (λ (m : Moment). m.seen) (c.requires.rest told)) (c.open_behind.ensures.before told)

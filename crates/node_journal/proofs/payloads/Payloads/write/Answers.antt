@@ -1,12 +1,14 @@
 use Rattle.std.proofs.Common.{◌≡◌, ℕ, ◌-◌, List, [], ◌++◌, ◌∷◌, length, take, set, ap, sym, ◌∙◌, rules, refl, arith}
 use Rattle.outside.specs.Images.{resting}
 use Rattle.outside.specs.Passing.{weaker}
-use Rattle.node_journal.specs.Records.{mark}
+use Rattle.node_journal.specs.Records.{mark, Holds, records}
 use Rattle.node_journal.specs.Frames.{framed, tail_of, end_of}
-use Rattle.node_journal.specs.Gate.{IsBeforeOrWith}
+use Rattle.node_journal.specs.Gate.{IsBefore, IsBeforeOrWith}
+use Rattle.node_journal.specs.HistoryLaws.{some_weaker}
 use Rattle.node_journal.specs.Appends.{IsWithOrWithout}
 use Rattle.node_journal.specs.Views.{payloads_of}
 use Rattle.node_journal.proofs.Either.{either, on_ok2}
+use Rattle.node_journal.proofs.Ends.{before_records}
 use Rattle.node_journal.proofs.Added.{kept_whole, kept_placed, kept_small, now_whole, now_placed, now_small, opened_file, new_place, holds, leaves, length_is, rests_at}
 use Rattle.node_journal.proofs.payloads.Payloads.write.Goals as goal
 
@@ -107,3 +109,10 @@ returns-clause-any_moment g c told =
     weaker (g.D.Disk.past c.args.disk.now) (g.D.Disk.now c.args.disk.now) (g.D.Disk.past c.write_payload.new.disk) (g.D.Disk.now c.write_payload.new.disk) (IsBeforeOrWith file (length file - 1) tail) (IsWithOrWithout ps p)
     (λ f is. leaves file places p old.whole old.placed old.small c.requires.small file tail f (length file - 1) refl refl (omega (arith, length_is file places p old.whole old.placed old.small c.requires.small)) is)
     (e.any_moment told)
+
+pub returns-clause-before : goal.returns-clause-before
+returns-clause-before g c told =
+    let old = c.args.self.now in
+    some_weaker (length (g.D.Disk.past c.args.disk.now)) (g.D.Disk.past c.write_payload.new.disk) (IsBefore old.file.items) (λ f. records f ≡ Holds (payloads_of old))
+    (λ f is. before_records (payloads_of old) old.file.items f old.small old.whole is)
+    (c.write_payload.ensures.before told)
