@@ -1,0 +1,82 @@
+//! The program `bnc`.
+#![tactic(auto)]
+
+mod file_sink;
+mod file_source;
+mod standard_output;
+#[cfg(test)]
+mod tests;
+
+use file_sink::FileSink;
+use file_source::FileSource;
+use outside::{MemDisk, NoHold};
+use solve_top::{Paths, Status, Words, WordsFault, paths_of, run};
+use standard_output::StandardOutput;
+use std::alloc::{AllocError, Global};
+use std::env;
+use std::fs::File;
+use std::hash::{BuildHasher, BuildHasherDefault, DefaultHasher, RandomState};
+use std::io::ErrorKind;
+use std::process::ExitCode;
+use std::rt::Files;
+use std::sync::Wait;
+use std::thread::Threads;
+
+/// The words behind the program's name. Where one isn't text there are none, which is no command.
+fn words_of(rt: &HostRuntime) -> Result<Words, AllocError> {
+    let mut words = Words::new(rt.alloc());
+    let args = match env::args(rt) {
+        Ok(args) => args,
+        Err(error) if error.kind() == ErrorKind::InvalidData => return Ok(words),
+        Err(_) => return Err(AllocError),
+    };
+    for word in args.skip(1) {
+        words.push(rt.alloc(), word.as_str())?;
+    }
+    Ok(words)
+}
+
+/// One run over the files of the paths. Its status, but `Sink` where all was written and the certificate can't be kept.
+fn status_of<R: Threads + Wait + Sync + Files<File = File>, B: BuildHasher + Drop>(
+    rt: &R,
+    alloc: Global,
+    keys: B,
+    words: &Words,
+    paths: &Paths,
+    mut out: StandardOutput,
+) -> u8 {
+    let mut model = FileSource::new(rt, paths.model.as_deref());
+    let mut cert = FileSink::new(rt, paths.cert.as_deref());
+    let disk = MemDisk::new(alloc);
+    let ran = run(
+        rt, alloc, keys, words, &mut model, disk, &mut cert, &mut out, &NoHold,
+    );
+    if cert.finish().is_err() && ran.status == Status::Done.number() {
+        return Status::Sink.number();
+    }
+    ran.status
+}
+
+fn main(rt: HostRuntime) -> ExitCode {
+    let Ok(words) = words_of(&rt) else {
+        return ExitCode::from(Status::Memory.number());
+    };
+    let paths = match paths_of(rt.alloc(), &words) {
+        Ok(paths) => paths,
+        Err(WordsFault::Usage) => Paths {
+            model: None,
+            journal: None,
+            cert: None,
+        },
+        Err(WordsFault::Memory) => return ExitCode::from(Status::Memory.number()),
+    };
+    let out = StandardOutput::new(rt.stdout());
+    let status = match RandomState::new(&rt) {
+        Ok(keys) => status_of(&rt, rt.alloc(), keys, &words, &paths, out),
+        Err(_) => {
+            let fixed: BuildHasherDefault<DefaultHasher> = BuildHasherDefault::new();
+            status_of(&rt, rt.alloc(), fixed, &words, &paths, out)
+        }
+    };
+    ExitCode::from(status)
+}

@@ -1,0 +1,5 @@
+use Rattle.cert_tree.proofs.Boxes.{boxes_cut}
+use Rattle.cert_tree.proofs.laws.boxes_are_cut.Goals as goal
+
+pub returns : goal.returns
+returns c = boxes_cut

@@ -1,0 +1,3 @@
+pub mod Finished
+pub mod Continued
+pub mod Laws

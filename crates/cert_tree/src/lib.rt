@@ -1,0 +1,4 @@
+//! The certificates of finished searches are valid.
+#![tactic(auto)]
+
+pub mod laws;

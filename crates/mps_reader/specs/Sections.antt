@@ -1,0 +1,225 @@
+-- The lines of a text by their sections.
+use Rattle.std.specs.Prelude.{ℕ, Bool, true, false, if◌then◌else◌, List, [], ◌∷◌, ◌++◌, Option, Some, None, drop, codes, Result, Ok, Err, pos}
+use Rattle.std.specs.Str.{bytes_eq}
+use Rattle.fraction.specs.Rational.{ℚ, whole}
+use Rattle.mps_lines.specs.Decimals.{decimal}
+use Rattle.mps_lines.specs.declared.decimals.NumFault.{NumFault}
+use Rattle.mps_lines.specs.Lines.{Line}
+use Rattle.mps_reader.specs.declared.kinds.Column.{Column}
+use Rattle.mps_reader.specs.Words.{section_of, row_type_of, bound_type_of, marker_of}
+use Rattle.mps_reader.specs.declared.kinds.Section.{Section}
+use Rattle.mps_reader.specs.declared.kinds.Section.TheVariants as section
+use Rattle.mps_reader.specs.declared.kinds.RowType.{RowType}
+use Rattle.mps_reader.specs.declared.kinds.BoundType.{BoundType}
+use Rattle.mps_reader.specs.declared.kinds.BoundType.TheVariants as bound
+
+-- the lines so far, each list with the last one first: section words, the words of OBJSENSE, and the data lines of each section
+pub record Sections : Type 0 where
+  pub words : List Section
+  pub senses : List (List ℕ)
+  pub rows_at : ℕ
+  pub rows : List Line
+  pub columns : List Line
+  pub rhs : List Line
+  pub ranges : List Line
+  pub bounds : List Line
+
+abbrev pub none_yet : Sections
+none_yet = record { words = []; senses = []; rows_at = 0; rows = []; columns = []; rhs = []; ranges = []; bounds = [] }
+
+abbrev pub with_data_in : List Section → Sections → Line → Sections
+with_data_in [] s line = s
+with_data_in (section.Name ∷ words) s line = s
+with_data_in (section.ObjSense ∷ words) s line = record s { senses = line.fields ++ s.senses }
+with_data_in (section.Rows ∷ words) s line = record s { rows = line ∷ s.rows }
+with_data_in (section.Columns ∷ words) s line = record s { columns = line ∷ s.columns }
+with_data_in (section.Rhs ∷ words) s line = record s { rhs = line ∷ s.rhs }
+with_data_in (section.Ranges ∷ words) s line = record s { ranges = line ∷ s.ranges }
+with_data_in (section.Bounds ∷ words) s line = record s { bounds = line ∷ s.bounds }
+with_data_in (section.EndData ∷ words) s line = s
+
+abbrev pub with_word : Option Section → Sections → Line → Sections
+with_word None s line = s
+with_word (Some section.ObjSense) s line = record s { words = section.ObjSense ∷ s.words; senses = drop 1 line.fields }
+with_word (Some section.Rows) s line = record s { words = section.Rows ∷ s.words; rows_at = line.number }
+with_word (Some word) s line = record s { words = word ∷ s.words }
+
+abbrev pub data_line : ℕ → List (List ℕ) → Line
+data_line number fields = record { number = number; is_data = true; fields = fields }
+
+abbrev pub first_field : List (List ℕ) → List ℕ
+first_field [] = []
+first_field (field ∷ fields) = field
+
+-- the lines so far and one more
+abbrev pub with_line : Sections → Line → Sections
+with_line s line = if line.is_data then with_data_in s.words s line else with_word (section_of (first_field line.fields)) s line
+
+-- ROWS: names with their types, in order
+abbrev pub row_typed : List ℕ → Option RowType → List (List ℕ × RowType)
+row_typed name None = []
+row_typed name (Some type) = (name, type) ∷ []
+
+abbrev pub row_entry : List (List ℕ) → List (List ℕ × RowType)
+row_entry (type ∷ name ∷ []) = row_typed name (row_type_of type)
+row_entry _ = []
+
+abbrev pub rows_of : List Line → List (List ℕ × RowType)
+rows_of [] = []
+rows_of (line ∷ earlier) = rows_of earlier ++ row_entry line.fields
+
+-- a row and a value, or two rows with their values
+abbrev pub pairs_of : List (List ℕ) → Option (List (List ℕ × List ℕ))
+pairs_of (row ∷ value ∷ []) = Some ((row, value) ∷ [])
+pairs_of (row ∷ value ∷ row2 ∷ value2 ∷ []) = Some ((row, value) ∷ (row2, value2) ∷ [])
+pairs_of _ = None
+
+-- COLUMNS: a marker, and whether it begins whole columns
+abbrev pub marker : List (List ℕ) → Option Bool
+marker (name ∷ word ∷ which ∷ []) = if bytes_eq word (codes "'MARKER'") then marker_of which else None
+marker _ = None
+
+-- whether the last marker begins whole columns
+abbrev pub marked_by : Option Bool → Bool → Bool
+marked_by None before = before
+marked_by (Some which) before = which
+
+abbrev pub marked : List Line → Bool
+marked [] = false
+marked (line ∷ earlier) = marked_by (marker line.fields) (marked earlier)
+
+-- a row of a column, with its line and whether a marker makes it whole there
+pub record Entry : Type 0 where
+  pub column : List ℕ
+  pub row : List ℕ
+  pub value : List ℕ
+  pub line : ℕ
+  pub is_marked : Bool
+
+abbrev pub entry : ℕ → Bool → List ℕ → List ℕ × List ℕ → Entry
+entry line is_marked column pair = record { column = column; row = pair.0; value = pair.1; line = line; is_marked = is_marked }
+
+abbrev pub with_pairs : (List ℕ × List ℕ → Entry) → Option (List (List ℕ × List ℕ)) → List Entry → List Entry
+with_pairs make None entries = entries
+with_pairs make (Some []) entries = entries
+with_pairs make (Some (pair ∷ pairs)) entries = with_pairs make (Some pairs) (make pair ∷ entries)
+
+abbrev pub with_column_line : Line → Bool → Option Bool → List (List ℕ) → List Entry → List Entry
+with_column_line line is_marked (Some which) fields entries = entries
+with_column_line line is_marked None [] entries = entries
+with_column_line line is_marked None (column ∷ rest) entries = with_pairs (entry line.number is_marked column) (pairs_of rest) entries
+
+-- the entries of COLUMNS, the last one first
+abbrev pub entries_of : List Line → List Entry
+entries_of [] = []
+entries_of (line ∷ earlier) = with_column_line line (marked earlier) (marker line.fields) line.fields (entries_of earlier)
+
+-- the column of the last entry
+abbrev pub last_of : List Entry → Option (List ℕ)
+last_of [] = None
+last_of (e ∷ earlier) = Some e.column
+
+abbrev pub is_same : Option (List ℕ) → List ℕ → Bool
+is_same None column = false
+is_same (Some last) column = bytes_eq column last
+
+-- the columns in order: an entry that doesn't stand with one of its column begins one
+abbrev pub with_column : Bool → List (List ℕ × Column) → Entry → List (List ℕ × Column)
+with_column same columns e = if same then columns else columns ++ (e.column, record { line = e.line; is_marked = e.is_marked }) ∷ []
+
+abbrev pub columns_of : List Entry → List (List ℕ × Column)
+columns_of [] = []
+columns_of (e ∷ earlier) = with_column (is_same (last_of earlier) e.column) (columns_of earlier) e
+
+abbrev pub amount_in : Result ℚ NumFault → ℚ
+amount_in (Ok q) = q
+amount_in (Err e) = whole (pos 0)
+
+abbrev pub number : List ℕ → ℚ
+number field = amount_in (decimal field)
+
+-- the entries that stand together with the last one: rows with their numbers
+abbrev pub with_run : Bool → List (List ℕ × ℚ) → Entry → List (List ℕ × ℚ)
+with_run same run e = (if same then run else []) ++ (e.row, number e.value) ∷ []
+
+abbrev pub run_of : List Entry → List (List ℕ × ℚ)
+run_of [] = []
+run_of (e ∷ earlier) = with_run (is_same (last_of earlier) e.column) (run_of earlier) e
+
+-- RHS and RANGES: a set's name or none, and the rows with their values
+abbrev pub sides : List (List ℕ) → Option (Option (List ℕ) × List (List ℕ × List ℕ))
+sides (row ∷ value ∷ []) = Some (None, (row, value) ∷ [])
+sides (group ∷ row ∷ value ∷ []) = Some (Some group, (row, value) ∷ [])
+sides (row ∷ value ∷ row2 ∷ value2 ∷ []) = Some (None, (row, value) ∷ (row2, value2) ∷ [])
+sides (group ∷ row ∷ value ∷ row2 ∷ value2 ∷ []) = Some (Some group, (row, value) ∷ (row2, value2) ∷ [])
+sides _ = None
+
+abbrev pub with_sides : Option (Option (List ℕ) × List (List ℕ × List ℕ)) → List (List ℕ × List ℕ) → List (List ℕ × List ℕ)
+with_sides None before = before
+with_sides (Some s) before = before ++ s.1
+
+-- the rows with their values, in order
+abbrev pub sides_of : List Line → List (List ℕ × List ℕ)
+sides_of [] = []
+sides_of (line ∷ earlier) = with_sides (sides line.fields) (sides_of earlier)
+
+-- a set's name, where one was written
+abbrev pub set_of_sides : Option (Option (List ℕ) × List (List ℕ × List ℕ)) → Option (List ℕ) → Option (List ℕ)
+set_of_sides None before = before
+set_of_sides (Some (None, pairs)) before = before
+set_of_sides (Some (Some group, pairs)) before = Some group
+
+abbrev pub side_set : List Line → Option (List ℕ)
+side_set [] = None
+side_set (line ∷ earlier) = set_of_sides (sides line.fields) (side_set earlier)
+
+-- BOUNDS: the type, a set's name or none, the column, and the value's field
+pub record Bound : Type 0 where
+  pub type : BoundType
+  pub group : Option (List ℕ)
+  pub column : List ℕ
+  pub value : List ℕ
+
+abbrev pub has_value : BoundType → Bool
+has_value bound.Up = true
+has_value bound.Lo = true
+has_value bound.Fx = true
+has_value bound.Li = true
+has_value bound.Ui = true
+has_value _ = false
+
+abbrev pub valued : BoundType → List (List ℕ) → Option Bound
+valued type (column ∷ value ∷ []) = Some (record { type = type; group = None; column = column; value = value })
+valued type (group ∷ column ∷ value ∷ []) = Some (record { type = type; group = Some group; column = column; value = value })
+valued type _ = None
+
+abbrev pub valueless : BoundType → List (List ℕ) → Option Bound
+valueless type (column ∷ []) = Some (record { type = type; group = None; column = column; value = [] })
+valueless type (group ∷ column ∷ []) = Some (record { type = type; group = Some group; column = column; value = [] })
+valueless type (group ∷ column ∷ value ∷ []) = Some (record { type = type; group = Some group; column = column; value = [] })
+valueless type _ = None
+
+abbrev pub typed_bound : Option BoundType → List (List ℕ) → Option Bound
+typed_bound None rest = None
+typed_bound (Some type) rest = if has_value type then valued type rest else valueless type rest
+
+abbrev pub bound_at : List (List ℕ) → Option Bound
+bound_at [] = None
+bound_at (type ∷ rest) = typed_bound (bound_type_of type) rest
+
+abbrev pub onto : Option Bound → List Bound → List Bound
+onto None bounds = bounds
+onto (Some b) bounds = b ∷ bounds
+
+-- the lines of BOUNDS, the last one first
+abbrev pub bounds_of : List Line → List Bound
+bounds_of [] = []
+bounds_of (line ∷ earlier) = onto (bound_at line.fields) (bounds_of earlier)
+
+abbrev pub set_by : Option (List ℕ) → Option (List ℕ) → Option (List ℕ)
+set_by None before = before
+set_by (Some group) before = Some group
+
+abbrev pub bound_set : List Bound → Option (List ℕ)
+bound_set [] = None
+bound_set (b ∷ earlier) = set_by b.group (bound_set earlier)

@@ -1,0 +1,31 @@
+//! Keys of a hash that several tables share.
+
+use std::hash::BuildHasher;
+
+/// Keys that are lent.
+pub struct Lent<'a, B: BuildHasher> {
+    keys: &'a B,
+}
+
+impl<'a, B: BuildHasher> Lent<'a, B> {
+    /// These keys.
+    pub fn of(keys: &'a B) -> Lent<'a, B> {
+        Lent { keys }
+    }
+}
+
+impl<'a, B: BuildHasher> Drop for Lent<'a, B> {
+    fn drop(self) {
+        let Lent { keys: _ } = self;
+    }
+}
+
+impl<'a, B: BuildHasher> BuildHasher for Lent<'a, B> {
+    type Hasher = B::Hasher;
+
+    ghost build_hasher = { λ l. B.build_hasher l.keys.now };
+
+    fn build_hasher(&self) -> B::Hasher {
+        self.keys.build_hasher()
+    }
+}

@@ -1,0 +1,119 @@
+//! Lines of ROWS.
+
+ghost use Rattle.std.specs.Prelude.{◌≡◌, ℕ, ◌++◌, ◌<◌, ◌≤◌, OnOk, OnErr, IfErr, None, Some, IfSome, is_some, length, Bool, IsErrOf, true, false};
+ghost use Rattle.mps_reader.specs.Single.{is_objective};
+ghost use Rattle.mps_reader.specs.Accepting.{takes_row};
+ghost use Rattle.mps_reader.specs.Words.{row_type_of, named};
+ghost use Rattle.mps_reader.specs.Sections.{row_entry};
+ghost use Rattle.mps_reader.specs.Faults.{row_fault, is_counted, counted};
+ghost use Rattle.mps_reader.specs.Tables.{texts, table, Stops};
+
+use crate::kinds::{Kind, RowType, Stop};
+use crate::lines::are_fields;
+use crate::names::{add, has};
+use crate::single::SingleFault;
+use indexmap::IndexMap;
+use std::hash::BuildHasher;
+
+/// How many rows there may be.
+const LIMIT: usize = 1000;
+
+/// The type that a word names.
+pub fn row_type_of(word: &[u8]) -> Option<RowType>
+    ensures { result ≡ row_type_of word.now }
+{
+    if word == b"N".as_slice() {
+        return Some(RowType::N);
+    }
+    if word == b"L".as_slice() {
+        return Some(RowType::L);
+    }
+    if word == b"G".as_slice() {
+        return Some(RowType::G);
+    }
+    if word == b"E".as_slice() {
+        return Some(RowType::E);
+    }
+    None
+}
+
+/// Whether rows of this type count.
+pub fn is_counted(kind: RowType) -> bool
+    ensures { result ≡ is_counted kind }
+{
+    match kind {
+        RowType::N => false,
+        _ => true,
+    }
+}
+
+/// Whether a line is that of the objective: of type N.
+fn is_objective(word: &[u8]) -> bool
+    ensures { result ≡ is_objective (row_type_of word.now) }
+{
+    match row_type_of(word) {
+        Some(RowType::N) => true,
+        _ => false,
+    }
+}
+
+/// Takes a line of ROWS that keeps the form: the first line is the only one of type N.
+pub fn kept_row_line<'a, B: BuildHasher + Drop>(
+    rows: &mut IndexMap<&'a [u8], RowType, B>,
+    count: &mut usize,
+    fields: &[&'a [u8]],
+) -> Result<(), SingleFault>
+    requires { count.old ≡ counted (table rows.old.entries) }
+    ensures taken { OnOk result (takes_row (table rows.old.entries) (texts fields.now) ≡ true) }
+    ensures rows { OnOk result (table rows.new.entries ≡ table rows.old.entries ++ row_entry (texts fields.now)) }
+    ensures count { OnOk result (count.new ≡ counted (table rows.new.entries)) }
+    ensures early { IsErrOf result SingleFault.Early → takes_row (table rows.old.entries) (texts fields.now) ≡ false }
+{
+    if !are_fields(fields) {
+        return Err(SingleFault::Early);
+    }
+    let [word, _name] = fields else {
+        return Err(SingleFault::Early);
+    };
+    if is_objective(word) != rows.is_empty() {
+        return Err(SingleFault::Early);
+    }
+    match row_line(rows, count, fields) {
+        Ok(()) => Ok(()),
+        Err(Stop::Memory) => Err(SingleFault::Memory),
+        Err(Stop::Fault(_)) => Err(SingleFault::Early),
+    }
+}
+
+/// Takes a line of ROWS, or says why not.
+pub fn row_line<'a, B: BuildHasher + Drop>(
+    rows: &mut IndexMap<&'a [u8], RowType, B>,
+    count: &mut usize,
+    fields: &[&'a [u8]],
+) -> Result<(), Stop>
+    requires { count.old ≡ counted (table rows.old.entries) }
+    ensures ok { OnOk result ((row_fault (table rows.old.entries) (texts fields.now) ≡ None)
+        × (table rows.new.entries ≡ table rows.old.entries ++ row_entry (texts fields.now))) }
+    ensures err { IfErr result (λ e. Stops e (row_fault (table rows.old.entries) (texts fields.now))) }
+    ensures count { OnOk result (count.new ≡ counted (table rows.new.entries)) }
+{
+    let [word, name] = fields else {
+        return Err(Stop::Fault(Kind::BadFields));
+    };
+    let Some(kind) = row_type_of(word) else {
+        return Err(Stop::Fault(Kind::BadFields));
+    };
+    if has(rows, name) {
+        return Err(Stop::Fault(Kind::Duplicate));
+    }
+    if is_counted(kind) && *count >= LIMIT {
+        return Err(Stop::Fault(Kind::TooMany));
+    }
+    if add(rows, *name, kind).is_err() {
+        return Err(Stop::Memory);
+    }
+    if is_counted(kind) {
+        *count += 1;
+    }
+    Ok(())
+}

@@ -1,0 +1,4 @@
+pub mod Commands
+pub mod Output
+pub mod Statuses
+pub mod Headline

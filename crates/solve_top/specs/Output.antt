@@ -1,0 +1,29 @@
+-- The lines on the second output.
+use Rattle.std.specs.Prelude.{◌≡◌, ◌⊎◌, ℕ, List, ◌++◌, codes}
+use Rattle.outside.specs.Faults.{Rose}
+use Rattle.outside.specs.Stream.{AppendsFront}
+use Rattle.cert_rows.specs.declared.certificate.Goal.{Goal}
+use Rattle.cert_rows.specs.declared.certificate.Goal.TheVariants.{Infeas, Range}
+use Rattle.vipr_print.specs.Spelling.{spelled_number}
+
+-- the answer of a certificate
+abbrev pub answer_line : Goal → List ℕ
+answer_line Infeas = codes "infeasible\n"
+answer_line (Range lb ub) = codes "optimal " ++ spelled_number ub ++ codes "\n"
+
+-- the numbers of nodes and cuts of a search that ended at its first node
+abbrev pub count_lines : List ℕ
+count_lines = codes "nodes 1\n" ++ codes "cuts 0\n"
+
+abbrev pub answer_lines : Goal → List ℕ
+answer_lines claim = answer_line claim ++ count_lines
+
+-- The sink took all of the text, and no fault was counted; or it took a front of it, and one was.
+abbrev pub Told : List ℕ → List ℕ → ℕ → ℕ → List ℕ → Type 0
+Told before after count now text = ((after ≡ before ++ text) × (now ≡ count)) ⊎ (AppendsFront before after text × Rose count now)
+
+-- A sink failed: the first one, and the line that says so was told; or the second one alone, and it took a front of the lines that were due.
+abbrev pub BreaksOff : ℕ → ℕ → List ℕ → List ℕ → ℕ → ℕ → List ℕ → Type 0
+BreaksOff counted counts before after count now lines =
+    (Rose counted counts × Told before after count now (codes "fault sink\n"))
+    ⊎ ((counts ≡ counted) × AppendsFront before after lines × Rose count now)

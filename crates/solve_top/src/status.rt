@@ -1,0 +1,36 @@
+// How a run ends.
+ghost use Rattle.std.specs.Prelude.{◌≡◌};
+ghost use Rattle.solve_top.specs.Statuses.{number_of};
+
+/// How a run ends.
+#[derive(Clone, Copy, Debug, PartialEq, Eq)]
+pub enum Status {
+    /// The certificate and the lines are written.
+    Done,
+    /// The words are no command.
+    Usage,
+    /// The model is refused.
+    Model,
+    /// The model can't be read.
+    ReadFault,
+    /// The certificate or the lines can't be written.
+    Sink,
+    /// Memory ran out.
+    Memory,
+}
+
+impl Status {
+    /// The exit status of the program.
+    pub fn number(self) -> u8
+        ensures { result ≡ number_of self }
+    {
+        match self {
+            Status::Done => 0,
+            Status::Usage => 2,
+            Status::Model => 3,
+            Status::ReadFault => 5,
+            Status::Sink => 7,
+            Status::Memory => 9,
+        }
+    }
+}
