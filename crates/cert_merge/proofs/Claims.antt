@@ -1,5 +1,4 @@
 -- Claims of valid certificates.
-use Rattle.std.specs.Prelude.{ℤ, List, refl}
 use Rattle.std.proofs.Common.{subst}
 use Rattle.problem.specs.Program.{Program}
 use Rattle.cert_rows.specs.declared.certificate.Cert.{Cert}

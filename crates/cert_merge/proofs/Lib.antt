@@ -7,3 +7,10 @@ pub mod Closings
 pub mod TreeLemmas
 pub mod WorkedTree
 pub mod WorkedTables
+pub mod OpenNodes
+pub mod Tracing
+pub mod Placing
+pub mod Refuting
+pub mod RisingFillings
+pub mod Endings
+pub mod NodeLines

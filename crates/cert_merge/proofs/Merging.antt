@@ -23,7 +23,7 @@ use Rattle.cert_rows.specs.declared.line.Why.TheVariants.{Lin}
 use Rattle.std.proofs.Math.Seq.{get_or-append_seam}
 use Rattle.problem_box.specs.Changes.{IsFixed}
 use Rattle.problem.specs.Limited.{IsLimited}
-use Rattle.cert_merge.specs.Merged.{labelled, label_of, row_lines, bound_lines, part_of, merged, closed_at_once}
+use Rattle.cert_merge.specs.Merged.{labelled, label_of, row_lines, bound_lines, part_of}
 use Rattle.cert_merge.specs.Fixed.{bound_multiplier, bound_multipliers, fixed_certificate, IsOverColumns}
 use Rattle.cert_merge.proofs.FixedSearch.{merged_is}
 use Rattle.cert_merge.specs.Laws.{PointIsCertified, PointIsBest}

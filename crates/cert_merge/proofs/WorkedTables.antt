@@ -1,5 +1,6 @@
 -- Certificates that were worked out by hand are what the table gives for their searches.
-use Rattle.std.specs.Prelude.{◌≡◌, ℕ, ℤ, pos, negsuc, Bool, true, false, List, [], ◌∷◌, Option, Some, None, refl, codes}
+use Rattle.std.specs.Prelude.{◌≡◌, ◌<◌, ℕ, zero, suc, ℤ, pos, negsuc, false, List, [], ◌∷◌, Option, Some, None, refl, codes}
+use Rattle.std.proofs.Common.{inl, inr, arith}
 use Rattle.std.specs.Fmt.{digits}
 use Rattle.fraction.specs.Gcd.{gcd, gcd_within}
 use Rattle.fraction.specs.Rational.{ℚ, whole, frac, ◌+ℚ◌, ◌*ℚ◌, neg_ℚ}
@@ -14,8 +15,10 @@ use Rattle.cert_rows.specs.declared.line.Why.TheVariants.{Asm, Lin, Rnd, Uns}
 use Rattle.cert_rows.specs.declared.certificate.Goal.{Goal}
 use Rattle.cert_rows.specs.declared.certificate.Goal.TheVariants.{Infeas, Range}
 use Rattle.cert_rows.specs.declared.certificate.Cert.{Cert}
-use Rattle.cert_merge.specs.Search.{Cut, Side, low, high, Branch, Ending, empty, refute, bound, split, Node, Search}
+use Rattle.cert_merge.specs.Search.{Cut, Side, low, high, Ending, empty, refute, bound, split, Node, Search, node_at}
 use Rattle.cert_merge.specs.Merged.{merged}
+use Rattle.cert_merge.specs.Plain.{IsPlainEnding, IsPlain}
+use Rattle.cert_merge.specs.Setters.{IsBranchWithin}
 
 abbrev n : ℕ → ℚ
 n k = whole (pos k)
@@ -146,3 +149,52 @@ table11 : shown (merged even (alone cuts11 (refute ((0, frac (negsuc 0) 2) ∷ (
 )
 unfolding frac gcd gcd_within ◌+ℚ◌ ◌*ℚ◌ neg_ℚ digits
 table11 = refl
+
+-- the same rows, split on x first, without cuts
+abbrev x_first : Search
+x_first = record {
+  cuts = [];
+  nodes =
+      record { branch = None; ending = split 0 (pos 0) 1 2 } ∷
+      reached 0 0 high (pos 0) (refute ((0, n 1) ∷ [])) ∷
+      reached 0 0 low (pos 1) (split 1 (pos 0) 3 4) ∷
+      reached 2 1 high (pos 0) (refute ((0, n 1) ∷ [])) ∷
+      reached 2 1 low (pos 1) (refute ((0, m 0) ∷ [])) ∷ [];
+  incumbent = None;
+}
+
+table_x_first : shown (merged even x_first) ≡ (
+  Infeas,
+  [],
+  (row (codes "A1") L (n 0) x, Asm) ∷
+      (row (codes "A2") G (n 1) x, Asm) ∷
+      (row (codes "A3") L (n 0) y, Asm) ∷
+      (row (codes "A4") G (n 1) y, Asm) ∷
+      (row (codes "N4") G (n 1) [], Lin ((0, m 0) ∷ (6, n 2) ∷ (8, n 2) ∷ [])) ∷
+      (row (codes "N3") G (n 1) [], Lin ((0, n 1) ∷ (2, m 1) ∷ (7, m 1) ∷ [])) ∷
+      (row (codes "N2") G (n 1) [], Uns 10 7 9 8) ∷
+      (row (codes "N1") G (n 1) [], Lin ((0, n 1) ∷ (4, m 1) ∷ (5, m 1) ∷ [])) ∷
+      (row (codes "N0") G (n 1) [], Uns 12 5 11 6) ∷ [],
+)
+unfolding frac gcd gcd_within ◌+ℚ◌ ◌*ℚ◌ neg_ℚ digits
+table_x_first = refl
+
+-- and it is a search that can be merged
+plain_branches : (i : ℕ) → i < 5 → IsBranchWithin x_first 2 (node_at x_first i).branch
+plain_branches zero l = tt
+plain_branches (suc zero) l = (omega arith, omega arith)
+plain_branches (suc (suc zero)) l = (omega arith, omega arith)
+plain_branches (suc (suc (suc zero))) l = (omega arith, omega arith)
+plain_branches (suc (suc (suc (suc zero)))) l = (omega arith, omega arith)
+plain_branches (suc (suc (suc (suc (suc i))))) l = absurd (omega (arith, l))
+
+plain_endings : (i : ℕ) → i < 5 → IsPlainEnding even x_first (node_at x_first i).ending
+plain_endings zero l = ((omega arith, omega arith), (omega arith, omega arith))
+plain_endings (suc zero) l = (omega arith, inl refl)
+plain_endings (suc (suc zero)) l = ((omega arith, omega arith), (omega arith, omega arith))
+plain_endings (suc (suc (suc zero))) l = (omega arith, inl refl)
+plain_endings (suc (suc (suc (suc zero)))) l = (omega arith, inr refl)
+plain_endings (suc (suc (suc (suc (suc i))))) l = absurd (omega (arith, l))
+
+x_first_is_plain : IsPlain even x_first
+x_first_is_plain = record { no_cuts = refl; branches = plain_branches; endings = plain_endings; incumbent = tt; numbered = omega arith }

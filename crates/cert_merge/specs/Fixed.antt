@@ -1,5 +1,5 @@
 -- The certificate of the one point of a fixed box, as a list of its lines.
-use Rattle.std.specs.Prelude.{◌≡◌, ℕ, ◌+◌, ◌*◌, ◌<◌, ℤ, pos, int_lt, if◌then◌else◌, List, [], ◌∷◌, map, length, All, codes}
+use Rattle.std.specs.Prelude.{ℕ, ◌+◌, ◌*◌, ◌<◌, ℤ, pos, int_lt, if◌then◌else◌, List, [], ◌∷◌, map, length, All, codes}
 use Rattle.fraction.specs.Rational.{ℚ}
 use Rattle.problem.specs.Program.{Program}
 use Rattle.problem.specs.Feasible.{objective_at}

@@ -20,7 +20,6 @@ use Rattle.problem.specs.Linear.{SameCoefficients}
 use Rattle.cert_merge.specs.Closing.{Source, AreSources, AreBelow, closing_multipliers, price}
 use Rattle.cert_merge.specs.Tree.{NodeLine, derived_of, AreNodeLines, paths_with, IsConcluded}
 use Rattle.problem_box.specs.Changes.{IsFixed}
-use Rattle.problem.specs.Limited.{IsLimited}
 use Rattle.cert_merge.specs.Merged.{merged, closed_at_once}
 
 -- where a valid certificate claims infeasibility, no point is feasible

@@ -1,7 +1,12 @@
 pub mod Closing
 pub mod Search
+pub mod Open
+pub mod Nodes
 pub mod Numbers
 pub mod Merged
 pub mod Fixed
 pub mod Tree
 pub mod Laws
+pub mod Setters
+pub mod Plain
+pub mod Valued

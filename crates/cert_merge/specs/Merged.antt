@@ -1,9 +1,9 @@
 -- The certificate of a finished search: a table from its nodes to lines. Nothing here says that the lines are valid.
-use Rattle.std.specs.Prelude.{◌≡◌, ℕ, zero, suc, ◌+◌, ◌-◌, ℤ, pos, negsuc, Bool, true, false, List, [], ◌∷◌, ◌++◌, map, length, Option, Some, None, codes}
+use Rattle.std.specs.Prelude.{ℕ, zero, suc, ◌+◌, ℤ, pos, negsuc, Bool, true, false, List, [], ◌∷◌, ◌++◌, map, length, Option, Some, None, codes}
 use Rattle.std.specs.Fmt.{decimal}
 use Rattle.fraction.specs.Rational.{ℚ, whole}
 use Rattle.problem_box.specs.declared.span.Span.{Span}
-use Rattle.problem.specs.declared.row.Sense.TheVariants.{G, L}
+use Rattle.problem.specs.declared.row.Sense.TheVariants.{G}
 use Rattle.problem.specs.declared.row.Row.{Row}
 use Rattle.problem.specs.Program.{Program}
 use Rattle.problem.specs.Feasible.{objective_at}

@@ -2,7 +2,7 @@
 use Rattle.std.specs.Prelude.{ℕ, ◌+◌, ◌-◌, ◌*◌, List, [], ◌∷◌, length, Option, Some, None}
 use Rattle.problem_box.specs.declared.span.Span.{Span}
 use Rattle.problem.specs.Program.{Program}
-use Rattle.cert_merge.specs.Search.{Search, Side, low, high, node_at, path_of, setter}
+use Rattle.cert_merge.specs.Search.{Search, Side, low, high, path_of, setter}
 use Rattle.cert_merge.specs.Closing.{Source}
 
 -- the rows, and two bounds per column, stand before the cuts

@@ -1,5 +1,5 @@
 -- A finished search: what the certificate needs of it, and nothing else.
-use Rattle.std.specs.Prelude.{ℕ, zero, suc, ℤ, pos, eqb, ◌&&◌, if◌then◌else◌, List, [], ◌∷◌, Option, Some, None, Bool, true, false, slice_index_or}
+use Rattle.std.specs.Prelude.{ℕ, zero, suc, ℤ, eqb, ◌&&◌, if◌then◌else◌, List, [], ◌∷◌, Option, Some, None, Bool, true, false, slice_index_or}
 use Rattle.fraction.specs.Rational.{ℚ}
 use Rattle.problem.specs.declared.row.Row.{Row}
 

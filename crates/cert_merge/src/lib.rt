@@ -1,8 +1,18 @@
 //! Certificates of finished searches, and the laws of certificates.
 #![tactic(auto)]
 
+mod certificate;
 mod fixed;
 pub mod laws;
+mod lines;
+mod multipliers;
+mod node;
+mod numbers;
 mod part;
+mod search;
+mod setters;
 
+pub use certificate::merge;
 pub use fixed::merge_fixed;
+pub use node::{Branch, Cut, Ending, Node, Side};
+pub use search::{OpenSearch, Search};

@@ -24,7 +24,7 @@ pub fn label(alloc: Global, letter: &str, number: usize) -> Result<Label, AllocE
 }
 
 /// One column with the coefficient 1.
-fn unit_terms(alloc: Global, column: usize) -> Result<Terms, AllocError>
+pub fn unit_terms(alloc: Global, column: usize) -> Result<Terms, AllocError>
     requires { column < 2 ^ 32 }
     ensures { IfOk result (λ t. t ≡ (column, whole (pos 1)) ∷ []) }
 {

@@ -1,13 +1,12 @@
 -- A file of payloads, and one more payload.
-use Rattle.std.specs.Prelude.{◌≡◌, ℕ, suc, ◌+◌, ◌-◌, ◌≤◌, ◌<◌, ◌^◌, Bool, true, false, ◌&&◌, nat_lt, List, [], ◌∷◌, ◌++◌, length, take, drop, set, map, refl}
+use Rattle.std.specs.Prelude.{◌≡◌, ℕ, ◌+◌, ◌-◌, ◌<◌, ◌^◌, Bool, true, ◌&&◌, nat_lt, List, [], ◌∷◌, ◌++◌, length, take, drop, set, refl}
 use Rattle.std.proofs.Common.{arith, ap, inl, subst, sym, ◌∙◌, append_assoc, length-append}
 use Rattle.std.proofs.Math.Seq.{set-append_seam}
 use Rattle.std.proofs.lemmas.Bool.Decides.{nat_tests}
 use Rattle.std.proofs.lemmas.List.{append-nil, take_at, drop_at}
 use Rattle.std.proofs.lemmas.List.Folds.{list_all-append}
 use Rattle.std.specs.List.{list_all}
-use Rattle.std.specs.Int.{w32, to_le_bytes}
-use Rattle.node_journal.specs.Records.{mark, payload_of, records}
+use Rattle.node_journal.specs.Records.{mark, records}
 use Rattle.node_journal.specs.Frames.{frame, framed, file_of, places_from, payloads_at, end_of, tail_of, is_small}
 use Rattle.node_journal.specs.Framing.{framed-append, places-append, payloads_are, records_closed}
 use Rattle.node_journal.specs.Gate.{IsBeforeOrWith}

@@ -1,15 +1,15 @@
 -- What is read of a file whose end is torn.
-use Rattle.std.specs.Prelude.{◌≡◌, ◌⊎◌, ℕ, zero, suc, ◌+◌, ◌*◌, ◌≤◌, ◌<◌, ◌^◌, Bool, true, false, ◌&&◌, nat_eq, nat_lt, List, [], ◌∷◌, ◌++◌, length, take, drop, get_or, refl}
-use Rattle.std.proofs.Common.{arith, ap, subst, sym, ◌∙◌, inl, inr, ⊎_elim, append_assoc, length-append, length-drop, take-append-drop}
+use Rattle.std.specs.Prelude.{◌≡◌, ℕ, ◌+◌, ◌*◌, ◌≤◌, ◌<◌, Bool, true, false, ◌&&◌, nat_eq, nat_lt, List, [], ◌∷◌, ◌++◌, length, take, drop, get_or, refl}
+use Rattle.std.proofs.Common.{arith, ap, sym, ◌∙◌, inl, inr, ⊎_elim, append_assoc, length-drop, take-append-drop}
 use Rattle.std.proofs.lemmas.Grind.{common_steps}
 use Rattle.std.proofs.lemmas.Bool.{cases_eq}
 use Rattle.std.proofs.lemmas.Bool.Decides.{nat_tests}
-use Rattle.std.proofs.lemmas.List.{append-nil, take_more}
+use Rattle.std.proofs.lemmas.List.{take_more}
 use Rattle.std.specs.List.{list_all}
 use Rattle.outside.specs.Images.{resting}
 use Rattle.outside.specs.declared.moment.Moment.{Moment}
-use Rattle.node_journal.specs.Records.{Records, Holds, mark, is_open, records}
-use Rattle.node_journal.specs.Frames.{frame, framed, file_of, end_of, tail_of, is_small}
+use Rattle.node_journal.specs.Records.{Holds, mark, is_open, records}
+use Rattle.node_journal.specs.Frames.{framed, file_of, end_of, tail_of, is_small}
 use Rattle.node_journal.specs.Framing.{records_closed, framed_longer}
 use Rattle.node_journal.specs.Gate.{IsBefore, IsBeforeOrWith}
 use Rattle.node_journal.specs.Index.{EndsAt, ReadsTo}

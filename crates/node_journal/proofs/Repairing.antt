@@ -1,8 +1,7 @@
 -- The calls of a repair, one after another, over what a disk tells.
-use Rattle.std.specs.Prelude.{◌≡◌, ℕ, ◌+◌, ◌-◌, ◌≤◌, ◌<◌, min, max, List, [], ◌∷◌, ◌++◌, length, take, drop, get_or, refl}
-use Rattle.std.proofs.Common.{arith, ap, subst, sym, ◌∙◌, inl, inr, length-append, length-take, length-drop, take-append-drop}
-use Rattle.std.proofs.lemmas.Grind.{common_steps}
-use Rattle.std.proofs.lemmas.List.{append-nil, take_all, drop_all}
+use Rattle.std.specs.Prelude.{◌≡◌, ℕ, ◌+◌, ◌≤◌, List, [], ◌∷◌, ◌++◌, length, take, drop, refl}
+use Rattle.std.proofs.Common.{arith, ap, subst, sym, ◌∙◌, inl, length-drop, take-append-drop}
+use Rattle.std.proofs.lemmas.List.{append-nil, drop_all}
 use Rattle.outside.specs.Images.{IsImage, LeavesOnly, Goes, Fails, written, shortened, resting, synced, overwritten}
 use Rattle.outside.specs.Passing.{started, goes_on, fails_on}
 use Rattle.outside.specs.declared.moment.Moment.{Moment}

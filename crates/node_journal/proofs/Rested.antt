@@ -1,7 +1,7 @@
 -- A sync of a disk that is at rest.
-use Rattle.std.specs.Prelude.{◌≡◌, ℕ, List, [], ◌∷◌, ◌++◌}
-use Rattle.std.proofs.Common.{ap, subst, sym, ◌∙◌}
-use Rattle.outside.specs.Images.{IsImage, AtRest, LeavesOnly, Stands, Goes, Fails, resting, synced}
+use Rattle.std.specs.Prelude.{ℕ, List}
+use Rattle.std.proofs.Common.{subst, sym}
+use Rattle.outside.specs.Images.{IsImage, AtRest, LeavesOnly, Stands, Goes, Fails, synced}
 use Rattle.outside.specs.Passing.{started, goes_on, fails_on}
 use Rattle.outside.specs.declared.moment.Moment.{Moment}
 use Rattle.node_journal.proofs.Torn.{rested}

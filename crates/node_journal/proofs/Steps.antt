@@ -1,5 +1,5 @@
 -- From one gate to the next.
-use Rattle.std.specs.Prelude.{◌≡◌, ℕ, zero, suc, ◌+◌, ◌-◌, ◌≤◌, ◌<◌, ◌^◌, Bool, true, false, ◌&&◌, nat_eq, nat_le, nat_lt, List, [], ◌∷◌, ◌++◌, length, take, drop, get_or, slice_index, map, Some, None, if◌then◌else◌, refl}
+use Rattle.std.specs.Prelude.{◌≡◌, ℕ, zero, suc, ◌+◌, ◌-◌, ◌≤◌, ◌<◌, ◌^◌, Bool, true, false, ◌&&◌, nat_eq, nat_le, nat_lt, List, [], ◌∷◌, ◌++◌, length, take, drop, get_or, slice_index, Some, None, if◌then◌else◌, refl}
 use Rattle.std.proofs.Common.{arith, ap, subst, sym, ◌∙◌, append_assoc, length-append, length-take, length-drop, take-append-drop}
 use Rattle.std.proofs.Math.Seq.{take-add}
 use Rattle.std.proofs.lemmas.Grind.{common_steps}
@@ -9,7 +9,7 @@ use Rattle.std.proofs.lemmas.List.Folds.{list_all-append}
 use Rattle.std.proofs.lemmas.Nat.{le_bytes_4}
 use Rattle.std.specs.List.{list_all}
 use Rattle.std.specs.Int.{w32, to_le_bytes, from_le_bytes}
-use Rattle.node_journal.specs.Records.{Records, Holds, BrokenAt, mark, is_open, size_at, is_whole, payload_of, records}
+use Rattle.node_journal.specs.Records.{Holds, BrokenAt, mark, is_open, size_at, is_whole, payload_of, records}
 use Rattle.node_journal.specs.Frames.{frame, framed, places_from, payloads_at, end_of, is_small}
 use Rattle.node_journal.specs.Framing.{framed-append, places-append, records_closed, records_broken}
 use Rattle.node_journal.specs.Index.{IsIndexed, EndsAt}

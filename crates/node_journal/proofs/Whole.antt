@@ -1,14 +1,10 @@
 -- A file of payloads, kept whole.
-use Rattle.std.specs.Prelude.{◌≡◌, ℕ, suc, ◌+◌, ◌-◌, ◌≤◌, ◌<◌, ◌^◌, Bool, true, false, ◌&&◌, nat_lt, List, [], ◌∷◌, ◌++◌, length, take, drop, set, map, refl}
-use Rattle.std.proofs.Common.{arith, ap, subst, sym, ◌∙◌, append_assoc, length-append}
-use Rattle.std.proofs.lemmas.Bool.Decides.{nat_tests}
-use Rattle.std.proofs.lemmas.List.{append-nil, take_at}
-use Rattle.std.proofs.lemmas.List.Folds.{list_all-append}
+use Rattle.std.specs.Prelude.{◌≡◌, ℕ, true, List, [], ◌∷◌, ◌++◌, take, refl}
+use Rattle.std.proofs.Common.{ap, sym, ◌∙◌}
 use Rattle.std.specs.List.{list_all}
-use Rattle.std.specs.Int.{w32, to_le_bytes}
-use Rattle.node_journal.specs.Records.{mark, payload_of}
-use Rattle.node_journal.specs.Frames.{frame, framed, file_of, places_from, payloads_at, end_of, is_small}
-use Rattle.node_journal.specs.Framing.{framed-append, places-append, payloads_are}
+use Rattle.node_journal.specs.Records.{mark}
+use Rattle.node_journal.specs.Frames.{file_of, places_from, payloads_at, is_small}
+use Rattle.node_journal.specs.Framing.{payloads_are}
 use Rattle.node_journal.specs.Index.{IsIndexed}
 
 -- what stands behind the last open gate is replaced by a closed one

@@ -1,6 +1,5 @@
 -- The bytes that a journal writes for its payloads, and where they stand.
-use Rattle.std.specs.Prelude.{◌≡◌, ℕ, ◌+◌, ◌<◌, ◌^◌, Bool, true, nat_lt, List, [], ◌∷◌, ◌++◌, length, drop, map}
-use Rattle.std.specs.List.{list_all}
+use Rattle.std.specs.Prelude.{ℕ, ◌+◌, ◌^◌, Bool, nat_lt, List, [], ◌∷◌, ◌++◌, length, drop, map}
 use Rattle.std.specs.Int.{w32, to_le_bytes}
 use Rattle.node_journal.specs.Records.{mark, payload_of}
 

@@ -1,14 +1,12 @@
 -- What a file of frames reads as.
-use Rattle.std.specs.Prelude.{◌≡◌, ℕ, zero, suc, ◌+◌, ◌-◌, ◌*◌, ◌≤◌, ◌<◌, ◌^◌, Bool, true, false, ◌&&◌, nat_eq, nat_le, nat_lt, if◌then◌else◌, List, [], ◌∷◌, ◌++◌, length, take, drop, slice_index, map, refl}
-use Rattle.std.proofs.Common.{arith, ap, subst, sym, ◌∙◌, append_assoc, length-append, take-append-drop}
-use Rattle.std.proofs.lemmas.Grind.{common_steps}
+use Rattle.std.specs.Prelude.{◌≡◌, ℕ, zero, suc, ◌+◌, ◌-◌, ◌*◌, ◌≤◌, ◌<◌, ◌^◌, Bool, true, false, ◌&&◌, nat_eq, nat_le, nat_lt, if◌then◌else◌, List, [], ◌∷◌, ◌++◌, length, take, drop, slice_index, refl}
+use Rattle.std.proofs.Common.{arith, ap, sym, ◌∙◌, append_assoc, length-append}
 use Rattle.std.proofs.lemmas.Bool.Decides.{nat_tests}
-use Rattle.std.proofs.lemmas.List.{take_at, drop_at, drop-drop}
+use Rattle.std.proofs.lemmas.List.{take_at, drop_at}
 use Rattle.std.proofs.lemmas.Nat.{from_le_bytes-to_le_bytes_4}
 use Rattle.std.specs.List.{starts_with, list_all}
-use Rattle.std.specs.Int.{w32, to_le_bytes, from_le_bytes}
 use Rattle.node_journal.specs.Records.{Records, Holds, Foreign, BrokenAt, mark, is_open, size_at, is_whole, payload_of, with_first, frames, records}
-use Rattle.node_journal.specs.Frames.{frame, framed, file_of, places_from, end_of, payloads_at, is_small}
+use Rattle.node_journal.specs.Frames.{frame, framed, places_from, payloads_at, is_small}
 
 small_is : (p : List ℕ) → is_small p ≡ true → length p < 2 ^ 32
 small_is p h = grind (arith, nat_tests)

@@ -1,5 +1,5 @@
 -- What crashes leave at the moments of several calls of a journal.
-use Rattle.std.specs.Prelude.{◌≡◌, ℕ, ◌+◌, ◌≤◌, List, [], ◌∷◌, ◌++◌, length, take, Option, Some, None, slice_get}
+use Rattle.std.specs.Prelude.{◌≡◌, ℕ, ◌≤◌, List, [], ◌∷◌, ◌++◌, length, take, Option, Some, None, slice_get}
 use Rattle.outside.specs.Images.{IsImage}
 use Rattle.outside.specs.declared.moment.Moment.{Moment}
 use Rattle.node_journal.specs.Records.{Records, Holds, Foreign, BrokenAt, records}

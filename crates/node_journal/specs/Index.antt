@@ -1,7 +1,7 @@
 -- Where the payloads of a file stand.
-use Rattle.std.specs.Prelude.{◌≡◌, ◌⊎◌, ℕ, ◌+◌, ◌≤◌, Bool, true, false, List, [], ◌∷◌, ◌++◌, length, take, drop}
+use Rattle.std.specs.Prelude.{◌≡◌, ◌⊎◌, ℕ, ◌≤◌, true, false, List, [], ◌++◌, length, take, drop}
 use Rattle.std.specs.List.{list_all}
-use Rattle.node_journal.specs.Records.{Records, Holds, Foreign, BrokenAt, mark, is_open}
+use Rattle.node_journal.specs.Records.{Records, Foreign, BrokenAt, mark, is_open}
 use Rattle.node_journal.specs.Frames.{framed, places_from, payloads_at, end_of, is_small}
 use Rattle.node_journal.specs.declared.fault.JournalFault.{JournalFault}
 use Rattle.node_journal.specs.declared.fault.JournalFault.TheVariants as fault

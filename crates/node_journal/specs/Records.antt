@@ -1,9 +1,9 @@
 -- The journal's file format (own): the mark BNCJRNL1; then frames of a gate of one byte, a length of four bytes, the
 -- lowest first, and a payload of so many bytes; and one gate at the end. A gate is open exactly where it is 1 and is not
 -- the last byte of the file.
-use Rattle.std.specs.Prelude.{◌≡◌, ℕ, zero, suc, ◌+◌, ◌≤◌, ◌<◌, ◌^◌, Bool, true, false, ◌&&◌, nat_eq, nat_le, nat_lt, if◌then◌else◌, List, [], ◌∷◌, ◌++◌, length, take, drop, slice_index, map}
-use Rattle.std.specs.List.{starts_with, list_all}
-use Rattle.std.specs.Int.{w32, to_le_bytes, from_le_bytes}
+use Rattle.std.specs.Prelude.{ℕ, zero, suc, ◌+◌, Bool, ◌&&◌, nat_eq, nat_le, nat_lt, if◌then◌else◌, List, [], ◌∷◌, length, take, drop, slice_index}
+use Rattle.std.specs.List.{starts_with}
+use Rattle.std.specs.Int.{w32, from_le_bytes}
 
 -- the mark, BNCJRNL1 in ASCII
 abbrev pub mark : List ℕ

@@ -1,5 +1,5 @@
 -- What a journal holds.
-use Rattle.std.specs.Prelude.{◌≡◌, ℕ, Bool, true, false, List, Option, Result, Ok, Err}
+use Rattle.std.specs.Prelude.{ℕ, Bool, true, false, List, Result, Ok, Err}
 use Rattle.node_journal.specs.Frames.{payloads_at}
 use Rattle.node_journal.specs.declared.payloads.Payloads.{Payloads}
 use Rattle.node_journal.specs.declared.fault.JournalFault.{JournalFault}

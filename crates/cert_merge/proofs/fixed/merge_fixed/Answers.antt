@@ -1,13 +1,9 @@
-use Rattle.std.proofs.Common.{◌≡◌, ◌∙◌, ◌++◌, [], ◌∷◌, ap, subst, sym, length, codes, List}
-use Rattle.std.specs.Prelude.{ℤ}
+use Rattle.std.proofs.Common.{◌≡◌, ◌∙◌, ◌++◌, [], ◌∷◌, ap, subst, sym, length, codes}
 use Rattle.problem.specs.Feasible.{objective_at}
-use Rattle.cert_rows.specs.declared.line.CertRow.{CertRow}
-use Rattle.cert_rows.specs.declared.line.Why.{Why}
 use Rattle.cert_rows.specs.declared.line.Why.TheVariants.{Lin}
 use Rattle.cert_rows.specs.declared.certificate.Goal.TheVariants.{Range}
-use Rattle.cert_rows.specs.declared.certificate.Cert.{Cert}
 use Rattle.cert_rows.specs.Validity.{objective_row, IsValid}
-use Rattle.cert_merge.specs.Merged.{label_of, labelled, merged, closed_at_once}
+use Rattle.cert_merge.specs.Merged.{label_of, labelled}
 use Rattle.cert_merge.specs.Fixed.{bound_multipliers, fixed_certificate}
 use Rattle.cert_merge.proofs.FixedSearch.{merged_is}
 use Rattle.cert_merge.proofs.Merging.{merged_valid, merged_best}

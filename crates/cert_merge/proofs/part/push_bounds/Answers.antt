@@ -1,4 +1,4 @@
-use Rattle.std.proofs.Common.{◌≡◌, ◌∙◌, ◌+◌, ◌++◌, [], ◌∷◌, ap, drop}
+use Rattle.std.proofs.Common.{◌∙◌, ◌+◌, ◌++◌, [], ◌∷◌, ap, drop}
 use Rattle.cert_merge.specs.Merged.{bound_lines}
 use Rattle.cert_merge.proofs.Parts.{next_bounds}
 use Rattle.cert_merge.proofs.part.push_bounds.Goals as goal

@@ -1,4 +1,4 @@
-use Rattle.std.proofs.Common.{◌≡◌, ◌∙◌, ◌+◌, ◌++◌, [], ◌∷◌, ap, drop}
+use Rattle.std.proofs.Common.{◌∙◌, ◌+◌, ◌++◌, [], ◌∷◌, ap, drop}
 use Rattle.cert_merge.specs.Merged.{row_lines}
 use Rattle.cert_merge.proofs.Parts.{next_row}
 use Rattle.cert_merge.proofs.part.push_rows.Goals as goal

@@ -1,6 +1,6 @@
 use Rattle.std.proofs.Common.{◌≡◌, ℕ, ◌+◌, ◌-◌, List, length, get_or, rules, take, drop, true, false, ap, ◌∙◌, sym, subst, ◌<◌, ◌^◌}
 use Rattle.node_journal.specs.Index.{IsIndexed}
-use Rattle.node_journal.specs.Records.{records, is_open, is_whole, size_at}
+use Rattle.node_journal.specs.Records.{is_open, is_whole, size_at}
 use Rattle.node_journal.proofs.Steps.{tail_is, none_is, some_is, broken, next}
 use Rattle.node_journal.proofs.gates.find_gates.Goals as goal
 

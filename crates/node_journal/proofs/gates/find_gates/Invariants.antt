@@ -1,4 +1,4 @@
-use Rattle.std.proofs.Common.{◌≡◌, ◌-◌, ◌≤◌, length}
+use Rattle.std.proofs.Common.{◌-◌, length}
 use Rattle.node_journal.specs.Index.{IsIndexed}
 use Rattle.node_journal.proofs.gates.find_gates.Given as goal
 

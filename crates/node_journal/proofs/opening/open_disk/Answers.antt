@@ -1,9 +1,8 @@
-use Rattle.std.proofs.Common.{◌≡◌, List, ℕ, length, subst, sym, ◌∙◌}
+use Rattle.std.proofs.Common.{◌≡◌, List, length, subst, sym, ◌∙◌}
 use Rattle.outside.specs.Passing.{weaker}
-use Rattle.outside.specs.Images.{LeavesOnly}
 use Rattle.outside.specs.declared.moment.Moment.{Moment}
 use Rattle.node_journal.specs.History.{SomeFrom, Anything}
-use Rattle.node_journal.specs.HistoryLaws.{some_stands, some_each}
+use Rattle.node_journal.specs.HistoryLaws.{some_each}
 use Rattle.node_journal.specs.Records.{records, Holds}
 use Rattle.node_journal.specs.Views.{payloads_of}
 use Rattle.node_journal.proofs.Rested.{began}

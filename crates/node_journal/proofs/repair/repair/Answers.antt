@@ -1,10 +1,9 @@
-use Rattle.std.proofs.Common.{◌≡◌, ℕ, ◌+◌, ◌<◌, ◌≤◌, List, [], ◌∷◌, ◌++◌, length, take, ap, subst, sym, ◌∙◌, arith}
+use Rattle.std.proofs.Common.{◌≡◌, ℕ, ◌≤◌, List, length, ap, sym, ◌∙◌, arith}
 use Rattle.outside.specs.Images.{resting}
 use Rattle.outside.specs.Passing.{weaker, joined}
 use Rattle.node_journal.specs.Records.{records, Holds}
-use Rattle.node_journal.specs.Repairs.{IsFrontAndOne}
 use Rattle.node_journal.specs.Views.{payloads_of}
-use Rattle.node_journal.specs.Frames.{file_of, end_of}
+use Rattle.node_journal.specs.Frames.{file_of}
 use Rattle.node_journal.specs.History.{Anything}
 use Rattle.node_journal.specs.HistoryLaws.{some_none, some_goes, some_fails, some_joined, can_seen}
 use Rattle.node_journal.proofs.Ends.{reads_records, nil_of, short_holds}

@@ -1,10 +1,10 @@
-use Rattle.std.proofs.Common.{◌≡◌, ℕ, ◌+◌, ◌<◌, ◌≤◌, List, [], ◌∷◌, ◌++◌, length, take, ap, subst, sym, ◌∙◌, arith}
+use Rattle.std.proofs.Common.{◌≡◌, ℕ, List, [], ◌∷◌, ◌++◌, length, take, ap, ◌∙◌}
 use Rattle.outside.specs.Images.{resting}
 use Rattle.outside.specs.Passing.{weaker, joined}
 use Rattle.node_journal.specs.Records.{records, Holds}
 use Rattle.node_journal.specs.Repairs.{IsFrontAndOne}
 use Rattle.node_journal.specs.Views.{payloads_of}
-use Rattle.node_journal.specs.Frames.{file_of, end_of}
+use Rattle.node_journal.specs.Frames.{end_of}
 use Rattle.node_journal.specs.History.{Anything}
 use Rattle.node_journal.specs.HistoryLaws.{some_joined}
 use Rattle.node_journal.proofs.Ends.{one_records, front_after}

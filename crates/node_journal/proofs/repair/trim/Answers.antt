@@ -1,4 +1,4 @@
-use Rattle.std.proofs.Common.{◌≡◌, ℕ, ◌+◌, ◌<◌, List, length, take, ap, subst, sym, ◌∙◌, arith}
+use Rattle.std.proofs.Common.{◌≡◌, ℕ, ◌+◌, take, ap, subst, sym, ◌∙◌, arith}
 use Rattle.outside.specs.Passing.{started, weaker}
 use Rattle.node_journal.specs.Gate.{IsBefore}
 use Rattle.node_journal.specs.Records.{records, Holds}

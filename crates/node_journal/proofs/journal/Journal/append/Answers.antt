@@ -1,4 +1,4 @@
-use Rattle.std.proofs.Common.{rules, ◌≡◌, ◌++◌, ◌∷◌, [], Some, None, subst}
+use Rattle.std.proofs.Common.{rules, ◌≡◌, None, subst}
 use Rattle.node_journal.specs.Appends.{IsWithOrWithout}
 use Rattle.node_journal.specs.History.{IsKept}
 use Rattle.node_journal.specs.HistoryLaws.{continued, continued_stands}

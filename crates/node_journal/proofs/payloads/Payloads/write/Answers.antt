@@ -1,4 +1,4 @@
-use Rattle.std.proofs.Common.{◌≡◌, ℕ, ◌-◌, List, [], ◌++◌, ◌∷◌, length, take, set, ap, sym, ◌∙◌, rules, refl, arith}
+use Rattle.std.proofs.Common.{◌≡◌, ℕ, ◌-◌, List, [], ◌++◌, ◌∷◌, length, set, ap, sym, ◌∙◌, refl, arith}
 use Rattle.outside.specs.Images.{resting}
 use Rattle.outside.specs.Passing.{weaker}
 use Rattle.node_journal.specs.Records.{mark, Holds, records}

@@ -1,0 +1,9 @@
+mod Prices
+mod Boxes
+mod Endings
+mod Standing
+mod Splits
+mod Parting
+mod Ends
+mod Keeping
+mod Samples

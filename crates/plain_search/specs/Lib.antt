@@ -1,0 +1,4 @@
+pub mod FirstSearch
+pub mod Laws
+pub mod Standing
+pub mod Kept

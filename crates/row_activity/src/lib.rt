@@ -1,0 +1,10 @@
+//! What the rows and the objective tell of a box, by their least and greatest values over it.
+#![tactic(auto)]
+
+mod activity;
+#[cfg(test)]
+mod tests;
+mod verdict;
+
+pub use activity::{high, low};
+pub use verdict::{Sign, Verdict, box_verdict};
