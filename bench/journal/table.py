@@ -5,9 +5,9 @@ import statistics
 import subprocess
 import sys
 
-APPENDS = 300
+APPENDS = 150
 PAYLOAD = 200  # bytes, about as many as an event of the search has
-ROUNDS = 7
+ROUNDS = 31  # many short ones, since a disk's syncs differ much from one another
 LARGE = 100_000_000
 
 folder, plain, proved = sys.argv[1:]
@@ -36,13 +36,13 @@ def read(path):
 
 
 times = {plain: [], proved: []}
-for _ in range(ROUNDS):
-    for program in (plain, proved):
+for turn in range(ROUNDS):
+    for program in (plain, proved) if turn % 2 else (proved, plain):
         times[program].append(appends(program))
-ratio = statistics.median(b / a for a, b in zip(times[plain], times[proved]))
+ratio = statistics.median(times[proved]) / statistics.median(times[plain])
 for name, program in (("plain", plain), ("proved", proved)):
     print(f"{name:6} {APPENDS / statistics.median(times[program]) * 1e9:8.0f} appends a second")
-print(f"proved takes {ratio:.2f} times plain, the median of {ROUNDS} rounds of {APPENDS} appends of {PAYLOAD} bytes")
+print(f"proved takes {ratio:.2f} times plain, by the medians of {ROUNDS} rounds of {APPENDS} appends of {PAYLOAD} bytes")
 
 path = os.path.join(folder, "large")
 run(plain, "make", path, str(LARGE), str(PAYLOAD))
