@@ -29,7 +29,10 @@ impl<'a, R: Files<File = File>> Drop for FileSink<'a, R> {
 }
 
 impl<'a, R: Files<File = File>> FileSink<'a, R> {
-    pub fn new(files: &'a R, path: Option<&'a str>) -> FileSink<'a, R> {
+    /// The file at this path, not opened yet, without a fault.
+    pub fn new(files: &'a R, path: Option<&'a str>) -> FileSink<'a, R>
+        ensures { result.faults ≡ 0 }
+    {
         FileSink {
             files,
             path,

@@ -27,7 +27,10 @@ impl<'a, R: Files<File = File>> Drop for FileSource<'a, R> {
 }
 
 impl<'a, R: Files<File = File>> FileSource<'a, R> {
-    pub fn new(files: &'a R, path: Option<&'a str>) -> FileSource<'a, R> {
+    /// The file at this path, not opened yet, without a fault.
+    pub fn new(files: &'a R, path: Option<&'a str>) -> FileSource<'a, R>
+        ensures { result.faults ≡ 0 }
+    {
         FileSource {
             files,
             path,

@@ -13,7 +13,10 @@ pub struct StandardOutput {
 }
 
 impl StandardOutput {
-    pub fn new(out: Stdout) -> StandardOutput {
+    /// This output, without a fault.
+    pub fn new(out: Stdout) -> StandardOutput
+        ensures { result.faults ≡ 0 }
+    {
         StandardOutput { out, faults: 0 }
     }
 }

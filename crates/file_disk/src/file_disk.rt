@@ -80,8 +80,10 @@ fn made<R: Files<File = File>>(files: &R, path: &str) -> Result<Place, Failed> {
 }
 
 impl<'a, R: Files<File = File>> FileDisk<'a, R> {
-    /// The disk that the file at this path is. This opens nothing.
-    pub fn new(files: &'a R, path: &'a Option<String>) -> FileDisk<'a, R> {
+    /// The disk that the file at this path is, without a fault. This opens nothing.
+    pub fn new(files: &'a R, path: &'a Option<String>) -> FileDisk<'a, R>
+        ensures { result.count ≡ 0 }
+    {
         FileDisk {
             files,
             path,
