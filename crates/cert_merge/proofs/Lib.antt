@@ -14,3 +14,4 @@ pub mod Refuting
 pub mod RisingFillings
 pub mod Endings
 pub mod NodeLines
+pub mod WorkedProblem

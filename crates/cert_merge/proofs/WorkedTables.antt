@@ -1,5 +1,5 @@
 -- Certificates that were worked out by hand are what the table gives for their searches.
-use Rattle.std.specs.Prelude.{◌≡◌, ◌<◌, ℕ, zero, suc, ℤ, pos, negsuc, false, List, [], ◌∷◌, Option, Some, None, refl, codes}
+use Rattle.std.specs.Prelude.{◌≡◌, ◌<◌, ℕ, zero, suc, ℤ, pos, negsuc, false, List, [], ◌∷◌, Option, Some, None, refl, codes, length}
 use Rattle.std.proofs.Common.{inl, inr, arith}
 use Rattle.std.specs.Fmt.{digits}
 use Rattle.fraction.specs.Gcd.{gcd, gcd_within}
@@ -151,7 +151,7 @@ unfolding frac gcd gcd_within ◌+ℚ◌ ◌*ℚ◌ neg_ℚ digits
 table11 = refl
 
 -- the same rows, split on x first, without cuts
-abbrev x_first : Search
+abbrev pub x_first : Search
 x_first = record {
   cuts = [];
   nodes =
@@ -179,22 +179,23 @@ table_x_first : shown (merged even x_first) ≡ (
 unfolding frac gcd gcd_within ◌+ℚ◌ ◌*ℚ◌ neg_ℚ digits
 table_x_first = refl
 
--- and it is a search that can be merged
-plain_branches : (i : ℕ) → i < 5 → IsBranchWithin x_first 2 (node_at x_first i).branch
-plain_branches zero l = tt
-plain_branches (suc zero) l = (omega arith, omega arith)
-plain_branches (suc (suc zero)) l = (omega arith, omega arith)
-plain_branches (suc (suc (suc zero))) l = (omega arith, omega arith)
-plain_branches (suc (suc (suc (suc zero)))) l = (omega arith, omega arith)
-plain_branches (suc (suc (suc (suc (suc i))))) l = absurd (omega (arith, l))
+-- and it is a search that can be merged, with any rows and columns of the same numbers
+module _ (p : Program) (rows : length p.rows ≡ 1) (columns : length p.spans ≡ 2) where
+  plain_branches : (i : ℕ) → i < 5 → IsBranchWithin x_first (length p.spans) (node_at x_first i).branch
+  plain_branches zero l = tt
+  plain_branches (suc zero) l = (omega arith, omega (arith, columns))
+  plain_branches (suc (suc zero)) l = (omega arith, omega (arith, columns))
+  plain_branches (suc (suc (suc zero))) l = (omega arith, omega (arith, columns))
+  plain_branches (suc (suc (suc (suc zero)))) l = (omega arith, omega (arith, columns))
+  plain_branches (suc (suc (suc (suc (suc i))))) l = absurd (omega (arith, l))
 
-plain_endings : (i : ℕ) → i < 5 → IsPlainEnding even x_first (node_at x_first i).ending
-plain_endings zero l = ((omega arith, omega arith), (omega arith, omega arith))
-plain_endings (suc zero) l = (omega arith, inl refl)
-plain_endings (suc (suc zero)) l = ((omega arith, omega arith), (omega arith, omega arith))
-plain_endings (suc (suc (suc zero))) l = (omega arith, inl refl)
-plain_endings (suc (suc (suc (suc zero)))) l = (omega arith, inr refl)
-plain_endings (suc (suc (suc (suc (suc i))))) l = absurd (omega (arith, l))
+  plain_endings : (i : ℕ) → i < 5 → IsPlainEnding p x_first (node_at x_first i).ending
+  plain_endings zero l = ((omega arith, omega arith), (omega arith, omega arith))
+  plain_endings (suc zero) l = (omega (arith, rows), inl refl)
+  plain_endings (suc (suc zero)) l = ((omega arith, omega arith), (omega arith, omega arith))
+  plain_endings (suc (suc (suc zero))) l = (omega (arith, rows), inl refl)
+  plain_endings (suc (suc (suc (suc zero)))) l = (omega (arith, rows), inr refl)
+  plain_endings (suc (suc (suc (suc (suc i))))) l = absurd (omega (arith, l))
 
-x_first_is_plain : IsPlain even x_first
-x_first_is_plain = record { no_cuts = refl; branches = plain_branches; endings = plain_endings; incumbent = tt; numbered = omega arith }
+  pub x_first_is_plain : IsPlain p x_first
+  x_first_is_plain = record { no_cuts = refl; branches = plain_branches; endings = plain_endings; incumbent = tt; numbered = omega (arith, rows, columns) }

@@ -3,7 +3,7 @@ use Rattle.std.specs.Prelude.{ℕ, zero, suc, ℤ, eqb, ◌&&◌, if◌then◌el
 use Rattle.fraction.specs.Rational.{ℚ}
 use Rattle.problem.specs.declared.row.Row.{Row}
 
--- a cut: a G row, and the multipliers of rows, bound rows and earlier cuts whose rounded combination it is
+-- a cut: its row, and the multipliers of rows, bound rows and earlier cuts that it was made with
 pub record Cut : Type 0 where
   pub row : Row
   pub mult : List (ℕ × ℚ)
@@ -38,7 +38,7 @@ pub record Search : Type 0 where
   pub nodes : List Node
   pub incumbent : Option (List ℤ)
 
--- a node that is there
+-- what stands for a node of a number that no node has
 abbrev pub no_node : Node
 no_node = record { branch = None; ending = empty 0 }
 

@@ -11,6 +11,8 @@ mod numbers;
 mod part;
 mod search;
 mod setters;
+#[cfg(test)]
+mod tests;
 
 pub use certificate::merge;
 pub use fixed::merge_fixed;
