@@ -1,7 +1,7 @@
 -- The open nodes and their boxes, step by step.
-use Rattle.std.specs.Prelude.{◌≡◌, ◌<◌, ◌≤◌, ◌+◌, ℕ, ℤ, pos, ◌+ℤ◌, nat_lt, Bool, true, false, cond, List, [], ◌∷◌, ◌++◌, map, reverse, length, All, Option, Some, None, refl}
-use Rattle.std.proofs.Common.{sym, ap, ◌∙◌, subst, arith, length-append}
-use Rattle.std.proofs.lemmas.List.{map-append, reverse-append, append_assoc, length-reverse, length-map}
+use Rattle.std.specs.Prelude.{◌≡◌, ◌<◌, ◌+◌, ℕ, ℤ, pos, ◌+ℤ◌, nat_lt, false, cond, List, [], ◌∷◌, ◌++◌, map, reverse, length, All, Option, Some, None, refl}
+use Rattle.std.proofs.Common.{sym, ap, ◌∙◌, subst, arith}
+use Rattle.std.proofs.lemmas.List.{map-append, reverse-append, length-reverse, length-map}
 use Rattle.std.proofs.lemmas.List.Elements.{All-nil, All-cons, All-head, All-append, All-weaker, All-pop}
 use Rattle.std.specs.Option.{ForSome}
 use Rattle.fraction.specs.Rational.{ℚ}
@@ -9,6 +9,7 @@ use Rattle.fraction.specs.Order.{◌<ℚ◌}
 use Rattle.problem.specs.Feasible.{objective_at}
 use Rattle.row_activity.specs.Meaning.{IsOnePoint}
 use Rattle.problem_box.specs.declared.span.Span.{Span}
+use Rattle.problem_box.specs.Boxes.{IsInBox}
 use Rattle.problem_box.specs.Changes.{cut_low, cut_high}
 use Rattle.problem.specs.Limited.{IsModestSpan}
 use Rattle.problem.specs.Program.{Program}
@@ -23,10 +24,10 @@ use Rattle.cert_tree.specs.Continued.{IsAsGood}
 use Rattle.cert_tree.proofs.Sources.{length-box}
 use Rattle.cert_merge.specs.Search.{path_of}
 use Rattle.plain_search.specs.declared.run.OpenBox.{OpenBox}
-use Rattle.plain_search.specs.FirstSearch.{State, cutoff, box_of, corner, first_free, middle, parted, closed, treated, taken}
+use Rattle.plain_search.specs.FirstSearch.{cutoff, box_of, corner, first_free, middle, parted, closed, treated, taken}
 use Rattle.plain_search.specs.Standing.{IsPart, IsStanding}
 use Rattle.plain_search.specs.Kept.{numbers_of, state_of, HasBox, IsKept, halves}
-use Rattle.plain_search.proofs.Standing.{as_good_itself, closed_box, improves, corner_below}
+use Rattle.plain_search.proofs.Standing.{as_good_itself, closed_box, improves, corner_below, corner_feasible}
 use Rattle.plain_search.proofs.Splits.{IsFree}
 use Rattle.plain_search.proofs.Endings.{ended_length, parted_length}
 use Rattle.plain_search.proofs.Parting.{Stays, start_stands, step_stands, left_box, right_box, kept_box}
@@ -57,6 +58,12 @@ module _ (p : Program) (limit : ℕ) (s : OpenSearch) (os : List OpenBox) (o : O
 
   pub top_length : length o.area ≡ length p.spans
   top_length = ap length top_box ∙ length-box (path_of (so_far s) o.number o.number) 0 p.spans
+
+  top_part : IsPart p o.area
+  top_part = subst (IsPart p) (sym top_box) (All-head (λ k. IsPart p (box_of p s k)) o.number (numbers_of os) top_stands.parts)
+
+  pub corner_in_root : (c : Option ℚ) → IsOnePoint p o.area c → IsInBox p.spans (corner o.area)
+  corner_in_root c t = (corner_feasible p o.area c top_part t).in_box
 
   pub top_modest : All IsModestSpan o.area
   top_modest = subst (All IsModestSpan) (sym top_box) (All-head (λ k. IsPart p (box_of p s k)) o.number (numbers_of os) top_stands.parts).modest

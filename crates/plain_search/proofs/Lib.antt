@@ -5,5 +5,8 @@ mod Standing
 mod Splits
 mod Parting
 mod Ends
+mod Counts
+mod Numbering
 mod Keeping
+mod Plain
 mod Samples

@@ -1,5 +1,5 @@
 -- What first searches promise.
-use Rattle.std.specs.Prelude.{◌≡◌, ◌<◌, ◌+◌, ℕ, ℤ, List, [], ◌∷◌, length, All, None}
+use Rattle.std.specs.Prelude.{◌≡◌, ◌<◌, ◌≤◌, ◌+◌, ◌*◌, ◌^◌, ℕ, ℤ, List, [], ◌∷◌, length, All, None}
 use Rattle.std.specs.Option.{ForSome}
 use Rattle.fraction.specs.Order.{◌<ℚ◌}
 use Rattle.problem.specs.Program.{Program}
@@ -9,9 +9,11 @@ use Rattle.row_activity.specs.Verdicts.{verdict}
 use Rattle.cert_rows.specs.Validity.{IsValid}
 use Rattle.cert_merge.specs.Open.{OpenSearch, so_far}
 use Rattle.cert_merge.specs.Merged.{merged}
+use Rattle.cert_merge.specs.Plain.{IsPlain}
 use Rattle.cert_tree.specs.Finished.{IsFinished}
 use Rattle.cert_tree.specs.Laws.{IsAnswer}
 use Rattle.plain_search.specs.FirstSearch.{State, start, cutoff, box_of, corner, step, steps, first_search}
+use Rattle.plain_search.specs.PointCount.{point_count}
 
 -- no step is left where a first search ends
 abbrev pub StepsAreEnough : Program → Type 0
@@ -35,6 +37,10 @@ pub record IsSpent (p : Program) (limit : ℕ) (t : State) : Type 0 where
 abbrev pub SpentIsSpent : Program → Type 0
 SpentIsSpent p = (limit : ℕ) → ((first_search p limit).pending ≡ [] → ⊥) → IsSpent p limit (first_search p limit)
 
+-- the limit of a first search with an open node is less than twice the number of the root's points, less 1
+abbrev pub SpentIsBelow : Program → Type 0
+SpentIsBelow p = (limit : ℕ) → ((first_search p limit).pending ≡ [] → ⊥) → limit + 1 < 2 * point_count p.spans
+
 -- feasible, and better than the incumbent, where there is one
 pub record IsImprovement (p : Program) (s : OpenSearch) (x : List ℤ) : Type 0 where
   pub feasible : IsFeasible p x
@@ -55,3 +61,7 @@ pub record IsDone (p : Program) (t : State) : Type 0 where
 -- a first search without an open node is finished
 abbrev pub FinishedIsFinished : Program → Type 0
 FinishedIsFinished p = (limit : ℕ) → (first_search p limit).pending ≡ [] → IsDone p (first_search p limit)
+
+-- a first search without an open node is one whose certificate needs no sum of fractions
+abbrev pub FinishedIsPlain : Program → Type 0
+FinishedIsPlain p = (limit : ℕ) → limit ≤ 10 ^ 9 → (first_search p limit).pending ≡ [] → IsPlain p (so_far (first_search p limit).search)

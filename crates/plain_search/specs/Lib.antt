@@ -1,4 +1,5 @@
 pub mod FirstSearch
+pub mod PointCount
 pub mod Laws
 pub mod Standing
 pub mod Kept

@@ -28,7 +28,7 @@ fn handed_out(problem: &Problem, run: Run) -> Outcome
     ensures { IsOutcome (state_of run.search run.open.items) result }
 {
     problem.limits_hold();
-    let Run { search, open } = run;
+    let Run { search, open, .. } = run;
     if open.is_empty() {
         return Outcome::Finished(search.finish());
     }

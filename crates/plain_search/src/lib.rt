@@ -9,4 +9,6 @@ mod run;
 mod tests;
 
 pub use first::{Outcome, search};
-pub use laws::{finished_searches_are_done, searches_end};
+pub use laws::{
+    finished_searches_are_done, first_searches_are_plain, points_are_counted, searches_end,
+};

@@ -6,7 +6,6 @@ ghost use Rattle.row_activity.specs.Verdicts.{verdict};
 ghost use Rattle.row_activity.specs.Meaning.{IsOpen};
 ghost use Rattle.cert_merge.specs.Search.{empty, refute, bound};
 ghost use Rattle.cert_merge.specs.Nodes.{ending_of};
-ghost use Rattle.cert_tree.specs.Finished.{IsIncumbent};
 ghost use Rattle.plain_search.specs.FirstSearch.{start, cutoff, multiplier, parted, taken, step};
 ghost use Rattle.plain_search.specs.Kept.{numbers_of, state_of, IsKept, halves, Follows};
 
@@ -32,6 +31,8 @@ pub struct OpenBox {
 pub struct Run {
     /// The nodes so far.
     pub search: OpenSearch,
+    /// The incumbent's value, if there is an incumbent. It is kept, as each verdict looks at it.
+    pub cutoff: Option<Frac>,
     /// The open nodes.
     pub open: Vec<OpenBox>,
 }
@@ -64,17 +65,6 @@ fn priced(alloc: Global) -> Ending
     Ending::Bound {
         mult: Terms::make(Vec::new(alloc)),
         rounded: false,
-    }
-}
-
-/// The incumbent's value.
-fn cutoff(problem: &Problem, search: &OpenSearch) -> Option<Frac>
-    requires { IsIncumbent problem.now search.now.incumbent }
-    ensures { result ≡ cutoff problem.now search.now.incumbent }
-{
-    match search.incumbent() {
-        Some(point) => Some(problem.value(point.as_slice())),
-        None => None,
     }
 }
 
@@ -146,13 +136,18 @@ impl Run {
     /// The search of node 0 alone, which is open. The one error is want of memory.
     pub fn start(alloc: Global, problem: &Problem) -> Result<Run, AllocError>
         ensures kept { IfOk result (λ r. IsKept problem.now r.search r.open.items) }
+        ensures cutoff { IfOk result (λ r. r.cutoff ≡ cutoff problem.now r.search.incumbent) }
         ensures start { IfOk result (λ r. state_of r.search r.open.items ≡ start) }
     {
         problem.limits_hold();
         let search = OpenSearch::start(alloc)?;
         let area = problem.root().copy(alloc)?;
         let open = vec![in alloc; OpenBox { number: 0, area }]?;
-        Ok(Run { search, open })
+        Ok(Run {
+            search,
+            cutoff: None,
+            open,
+        })
     }
 
     /// Splits an open node that is unsettled, and says whether its two nodes keep to the limit; where they don't, it stays open. The one
@@ -165,9 +160,11 @@ impl Run {
         node: OpenBox,
     ) -> Result<bool, AllocError>
         requires kept { IsKept problem.now self.old.search (self.old.open.items ++ node ∷ []) }
+        requires cutoff { self.old.cutoff ≡ cutoff problem.now self.old.search.incumbent }
         requires unsettled { verdict problem.now node.area (cutoff problem.now self.old.search.incumbent) ≡ Unsettled }
         requires free { IsOpen node.area }
         ensures kept { IfOk result (λ _. IsKept problem.now self.new.search self.new.open.items) }
+        ensures cutoff { IfOk result (λ _. self.new.cutoff ≡ cutoff problem.now self.new.search.incumbent) }
         ensures follows { IfOk result (λ more. Follows (taken problem.now limit self.old.search (node.number ∷ numbers_of self.old.open.items)) more (state_of self.old.search (self.old.open.items ++ node ∷ [])) (state_of self.new.search self.new.open.items)) }
     {
         problem.limits_hold();
@@ -191,13 +188,14 @@ impl Run {
         limit: u32,
         node: OpenBox,
     ) -> Result<bool, AllocError>
-        requires { IsKept problem.now self.old.search (self.old.open.items ++ node ∷ []) }
+        requires kept { IsKept problem.now self.old.search (self.old.open.items ++ node ∷ []) }
+        requires cutoff { self.old.cutoff ≡ cutoff problem.now self.old.search.incumbent }
         ensures kept { IfOk result (λ _. IsKept problem.now self.new.search self.new.open.items) }
+        ensures cutoff { IfOk result (λ _. self.new.cutoff ≡ cutoff problem.now self.new.search.incumbent) }
         ensures follows { IfOk result (λ more. Follows (taken problem.now limit self.old.search (node.number ∷ numbers_of self.old.open.items)) more (state_of self.old.search (self.old.open.items ++ node ∷ [])) (state_of self.new.search self.new.open.items)) }
     {
         problem.limits_hold();
-        let bound = cutoff(problem, &self.search);
-        match box_verdict(problem, &node.area, bound) {
+        match box_verdict(problem, &node.area, self.cutoff) {
             Verdict::Empty { column } => {
                 self.search
                     .set_ending(node.number as usize, crossed(column));
@@ -214,6 +212,7 @@ impl Run {
             }
             Verdict::Point => {
                 let point = corner(alloc, &node.area)?;
+                self.cutoff = Some(problem.value(point.as_slice()));
                 self.search.set_incumbent(point);
                 self.search.set_ending(node.number as usize, priced(alloc));
                 Ok(true)
@@ -225,8 +224,10 @@ impl Run {
     /// Takes the open node of greatest number, and says whether that was a step; where no step is left, the search stays as it is. The
     /// one error is want of memory.
     pub fn step(&mut self, alloc: Global, problem: &Problem, limit: u32) -> Result<bool, AllocError>
-        requires { IsKept problem.now self.old.search self.old.open.items }
+        requires kept { IsKept problem.now self.old.search self.old.open.items }
+        requires cutoff { self.old.cutoff ≡ cutoff problem.now self.old.search.incumbent }
         ensures kept { IfOk result (λ _. IsKept problem.now self.new.search self.new.open.items) }
+        ensures cutoff { IfOk result (λ _. self.new.cutoff ≡ cutoff problem.now self.new.search.incumbent) }
         ensures follows { IfOk result (λ more. Follows (step problem.now limit (state_of self.old.search self.old.open.items)) more (state_of self.old.search self.old.open.items) (state_of self.new.search self.new.open.items)) }
     {
         match self.open.pop() {

@@ -1,0 +1,5 @@
+use Rattle.plain_search.proofs.Numbering.{points_counted}
+use Rattle.plain_search.proofs.laws.points_are_counted.Goals as goal
+
+pub returns : goal.returns
+returns c = points_counted _
