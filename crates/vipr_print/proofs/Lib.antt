@@ -1,2 +1,7 @@
 pub mod Sequence
+pub mod EachPart
+pub mod Words
+pub mod Splitting
+pub mod ListedPoints
+pub mod Sections
 pub mod Worked

@@ -1,2 +1,3 @@
 pub mod Spelling
 pub mod Printed
+pub mod Unique

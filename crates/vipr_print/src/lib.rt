@@ -2,9 +2,11 @@
 #![tactic(auto)]
 
 mod fault;
+pub mod laws;
 mod lines;
 mod pieces;
 mod printing;
+mod sizes;
 #[cfg(test)]
 mod tests;
 
