@@ -1,7 +1,7 @@
 -- Where lines end.
-use Rattle.std.specs.Prelude.{◌≡◌, ℕ, ◌+◌, ◌-◌, ◌<◌, ◌≤◌, Bool, true, false, not, ◌==◌, ◌&&◌, if◌then◌else◌, List, [], ◌∷◌, ◌++◌, map, length, take, drop}
+use Rattle.std.specs.Prelude.{◌≡◌, ℕ, ◌+◌, ◌<◌, Bool, true, false, not, ◌==◌, ◌&&◌, if◌then◌else◌, List, [], ◌∷◌, ◌++◌, length, take, drop}
 use Rattle.std.specs.List.{list_all, onto_first, position_or_len}
-use Rattle.std.proofs.Common.{refl, sym, ap, ◌∙◌, cond, arith, get_or, suc, zero, subst, add-one}
+use Rattle.std.proofs.Common.{refl, sym, ap, ◌∙◌, cond, arith, get_or, suc, zero, add-one}
 use Rattle.std.proofs.lemmas.Bool.{not-true}
 use Rattle.std.proofs.lemmas.List.{take-append-drop}
 use Rattle.std.proofs.lemmas.List.Sums.{passes_at_first}

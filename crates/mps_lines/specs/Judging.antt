@@ -1,18 +1,17 @@
 -- What the parts of a number say of its limits.
-use Rattle.std.proofs.Common.{◌≡◌, ℕ, zero, suc, ◌+◌, ◌-◌, ◌*◌, ◌^◌, ◌<◌, ◌≤◌, ◌%◌, Bool, true, false, ◌==◌, ◌&&◌, ◌||◌, not, nat_lt, nat_le, List, [], ◌∷◌, ◌++◌, length, refl, sym, ap, ◌∙◌, subst, arith, rules, if◌then◌else◌, ◌⊎◌, inl, inr, Result, Ok, Err, cond, ℤ, pos, neg_ℤ, ◌*ℤ◌}
+use Rattle.std.proofs.Common.{◌≡◌, ℕ, ◌+◌, ◌*◌, ◌^◌, ◌<◌, ◌≤◌, ◌%◌, Bool, true, false, ◌==◌, ◌&&◌, refl, sym, ap, ◌∙◌, arith, ◌⊎◌, inl, inr, Ok, Err, pos, neg_ℤ}
 use Rattle.std.proofs.lemmas.Bool.Decides.{nat_tests}
 use Rattle.std.proofs.lemmas.Bool.{cases_lt, lt-ltb, le-ltb}
 use Rattle.std.proofs.Math.Bool.{and-false}
-use Rattle.std.proofs.lemmas.Nat.{pow-add, mod-mul-add}
-use Rattle.std.proofs.Math.Nat.{pow-le-pow_right, one-le-pow, mul-pos, mul-le-mul_right}
+use Rattle.std.proofs.lemmas.Nat.{mod-mul-add}
+use Rattle.std.proofs.Math.Nat.{one-le-pow, mul-le-mul_right}
 use Rattle.std.specs.Bool.{MatchBool}
-use Rattle.fraction.specs.Rational.{ℚ, frac, frac_same}
+use Rattle.fraction.specs.Rational.{frac, frac_same}
 use Rattle.fraction.specs.Integers.{neg-mul_ℤ}
-use Rattle.mps_lines.specs.Decimals.{is_digit, with_sign, within_limits}
+use Rattle.mps_lines.specs.Decimals.{with_sign, within_limits}
 use Rattle.mps_lines.specs.Places.{Parts}
 use Rattle.mps_lines.specs.Weights.{judged}
 use Rattle.mps_lines.specs.declared.decimals.Sum.{Sum}
-use Rattle.mps_lines.specs.declared.decimals.NumFault.{NumFault}
 use Rattle.mps_lines.specs.declared.decimals.NumFault.TheVariants.{TooLarge, TooFine}
 
 module _ (size p h m low : ℕ) (is : size * 10 ^ 15 ≡ h * (p * 10 ^ 25) + m * p + low) (hp : 0 < p) (below : low < p) where

@@ -1,5 +1,5 @@
 -- The lines that are left.
-use Rattle.std.specs.Prelude.{ℕ, ◌+◌, List, [], ◌∷◌, map, length, Option, Some, None}
+use Rattle.std.specs.Prelude.{ℕ, ◌+◌, List, ◌∷◌, map, length, Option, Some, None}
 use Rattle.mps_lines.specs.Lines.{Line, numbered, raw_lines, lines_of as all_lines}
 use Rattle.mps_lines.specs.declared.lines.Line.{Line as Held}
 use Rattle.mps_lines.specs.declared.lines.Lines.{Lines}

@@ -6,3 +6,6 @@ pub mod Judging
 pub mod Amounts
 pub mod Ends
 pub mod Left
+pub mod Infinities
+pub mod Vast
+pub mod Values

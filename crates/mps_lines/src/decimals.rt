@@ -83,7 +83,7 @@ fn digits_len(bytes: &[u8]) -> usize
 }
 
 /// The sign, and what follows it.
-fn sign_at(bytes: &[u8]) -> (bool, &[u8])
+pub fn sign_at(bytes: &[u8]) -> (bool, &[u8])
     ensures { (result.0, result.1.now) ≡ sign_at bytes.now }
 {
     match bytes {
@@ -94,7 +94,7 @@ fn sign_at(bytes: &[u8]) -> (bool, &[u8])
 }
 
 /// The digits in front, and what follows them.
-fn digits_at(bytes: &[u8]) -> (&[u8], &[u8])
+pub fn digits_at(bytes: &[u8]) -> (&[u8], &[u8])
     ensures digits { result.0.now ≡ front_digits bytes.now }
     ensures rest { result.1.now ≡ behind_digits bytes.now }
     ensures all { list_all is_digit result.0.now ≡ true }
@@ -103,7 +103,7 @@ fn digits_at(bytes: &[u8]) -> (&[u8], &[u8])
 }
 
 /// The digits behind a point, and what follows them.
-fn point_at(bytes: &[u8]) -> (&[u8], &[u8])
+pub fn point_at(bytes: &[u8]) -> (&[u8], &[u8])
     ensures parts { (result.0.now, result.1.now) ≡ point_at bytes.now }
     ensures all { list_all is_digit result.0.now ≡ true }
 {
@@ -220,7 +220,7 @@ fn power_at(bytes: &[u8]) -> Option<(bool, u128)>
 }
 
 /// The same of the whole rest of a field.
-fn exponent_at(bytes: &[u8]) -> Option<(bool, u128)>
+pub fn exponent_at(bytes: &[u8]) -> Option<(bool, u128)>
     ensures value { result ≡ option_map (λ p. (p.0, capped p.1)) (exponent_at bytes.now) }
     ensures small { IfSome result (λ p. p.1 ≤ 2 ^ 100) }
 {

@@ -3,9 +3,11 @@
 
 mod decimals;
 mod lines;
+mod values;
 
 pub use decimals::{NumFault, decimal};
 pub use lines::{Line, Lines};
+pub use values::{Value, value_of};
 
 #[cfg(test)]
 mod tests;

@@ -1,4 +1,4 @@
-use crate::{Lines, NumFault, decimal};
+use crate::{Lines, NumFault, Value, decimal, value_of};
 use fraction::Frac;
 use std::alloc::AllocError;
 
@@ -44,6 +44,33 @@ fn faults_of_numbers(rt: HostRuntime) {
         "999999999.1234567890123456",
     ] {
         assert!(rt; decimal(field.as_bytes()) == Err(NumFault::TooFine));
+    }
+}
+
+#[test]
+fn infinities(rt: HostRuntime) {
+    let infinite = [
+        ("iNf", false),
+        ("+Infinity", false),
+        ("-INFINITY", true),
+        ("1e20", false),
+        ("-00100000000000000000000", true),
+        ("0.1e21", false),
+        ("1e99999999999999999999999999999999999999999", false),
+    ];
+    for (field, negative) in infinite {
+        assert!(rt; value_of(field.as_bytes()) == Value::Infinite(negative));
+    }
+    let finite = [
+        ("99999999999999999999", Value::Fault(NumFault::TooLarge)),
+        (
+            "0e99999999999999999999999999999999999999999",
+            Value::Finite(Frac::of(0)),
+        ),
+        ("infinit", Value::Fault(NumFault::BadNumber)),
+    ];
+    for (field, value) in finite {
+        assert!(rt; value_of(field.as_bytes()) == value);
     }
 }
 

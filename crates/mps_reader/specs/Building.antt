@@ -1,7 +1,7 @@
 -- The problem from the reader's tables, and the checks of its limits.
-use Rattle.std.specs.Prelude.{◌≡◌, ℕ, ◌*◌, ◌^◌, ◌<◌, ◌≤◌, ◌%◌, Bool, true, false, ◌&&◌, ◌==◌, not, nat_le, nat_lt, List, [], ◌∷◌, Option, Some, None, All, pos, nat_abs, suc}
+use Rattle.std.specs.Prelude.{◌≡◌, ℕ, ◌*◌, ◌^◌, ◌<◌, ◌≤◌, ◌%◌, Bool, true, false, ◌&&◌, ◌==◌, not, nat_le, nat_lt, List, ◌∷◌, Option, Some, None, All, pos, nat_abs, suc, []}
 use Rattle.std.specs.Option.{unwrap_or}
-use Rattle.std.proofs.Common.{refl, sym, ap, ◌∙◌, arith}
+use Rattle.std.proofs.Common.{ap, ◌∙◌, arith}
 use Rattle.std.proofs.lemmas.List.Elements.{All-nil, All-cons}
 use Rattle.std.proofs.lemmas.Bool.{eqb-true, and_parts}
 use Rattle.std.proofs.lemmas.Nat.Gcd.{dvd_of_mod-eq-zero}
@@ -12,10 +12,7 @@ use Rattle.problem.specs.Modest.{IsModest}
 use Rattle.problem.specs.Rising.{RiseFrom, AreNonzero}
 use Rattle.problem.specs.Limited.{AreLimited}
 use Rattle.mps_reader.specs.Words.{named}
-use Rattle.mps_reader.specs.Sections.{Entry}
-use Rattle.mps_reader.specs.Meaning.{rows_at, rows_from, sense_of_row, side, terms_of, is_zero}
-use Rattle.mps_reader.specs.Accepting.{numbers_of, named_numbers}
-use Rattle.mps_reader.specs.Placing.{placed_of, terms_in, terms_placed}
+use Rattle.mps_reader.specs.Meaning.{sense_of_row, is_zero}
 use Rattle.mps_reader.specs.declared.kinds.RowType.{RowType}
 use Rattle.mps_reader.specs.declared.kinds.RowType.TheVariants as row
 
@@ -35,9 +32,6 @@ modest_within q h =
     let le : nat_le (nat_abs q.num) (10 ^ 9 * q.den) ≡ true = b.1 in
     let l : nat_abs q.num ≤ 10 ^ 9 * q.den = grind arith in
     record { divides = dvd_of_mod-eq-zero q.den (eqb-true _ 0 b.0); size = omega (arith, l) }
-
-pub rhs_within : (q : ℚ) → is_modest q ≡ true → Within (10 ^ 15) (2 * 10 ^ 24) q
-rhs_within q h = let w = modest_within q h in record { divides = w.divides; size = omega (arith, w.size) }
 
 pub limited_is : (n k : ℕ) (ts : List (ℕ × ℚ)) → limited_from n k ts ≡ true
     → (All (λ t. t.0 < n) ts) × RiseFrom k ts × AreNonzero ts × All (λ t. IsModest t.1) ts
@@ -70,18 +64,3 @@ row_with type b ts = record { sense = sense_of_row type; rhs = b; terms = ts } �
 abbrev pub objective_with : RowType → List (ℕ × ℚ) → Option (List (ℕ × ℚ))
 objective_with row.N ts = Some ts
 objective_with type ts = None
-
--- the rows of the problem that a row of the text gives
-abbrev pub row_of : List (List ℕ × (ℕ × ℚ)) → List (List ℕ × ℚ) → List ℕ × RowType → List Row
-row_of placed sides r = row_with r.1 (side_in sides r.0) (terms_in r.0 placed)
-
-row_from : (type : RowType) (b : ℚ) (ts : List (ℕ × ℚ)) → rows_from type b None ts ≡ row_with type b ts
-row_from row.N b ts = refl
-row_from row.L b ts = refl
-row_from row.G b ts = refl
-row_from row.E b ts = refl
-
-pub row_is : (entries : List Entry) (rhs : List (List ℕ × List ℕ)) (r : List ℕ × RowType) → rows_at entries rhs [] r ≡ row_of (placed_of entries) (numbers_of rhs) r
-row_is entries rhs r =
-    row_from r.1 (side rhs r.0) (terms_of r.0 entries)
-    ∙ (λ i. row_with r.1 (unwrap_or (sym (named_numbers rhs r.0) i) (whole (pos 0))) (terms_placed r.0 entries i))

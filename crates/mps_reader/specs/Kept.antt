@@ -1,5 +1,5 @@
 -- Lines without a fault keep to the limits of a problem.
-use Rattle.std.specs.Prelude.{◌≡◌, ℕ, ◌+◌, ◌-◌, ◌<◌, ◌≤◌, Bool, true, false, ◌&&◌, not, nat_le, nat_lt, if◌then◌else◌, cond, List, [], ◌∷◌, ◌++◌, Option, Some, None, is_some, length, drop, suc}
+use Rattle.std.specs.Prelude.{◌≡◌, ℕ, ◌+◌, ◌-◌, ◌<◌, ◌≤◌, Bool, true, false, ◌&&◌, not, nat_le, nat_lt, if◌then◌else◌, cond, List, ◌∷◌, ◌++◌, Option, Some, None, is_some, length, drop, suc, []}
 use Rattle.std.specs.Option.{option_or}
 use Rattle.std.specs.List.{list_all}
 use Rattle.std.specs.Str.{bytes_eq}
@@ -9,16 +9,14 @@ use Rattle.std.proofs.lemmas.List.Folds.{list_all-append}
 use Rattle.std.proofs.lemmas.List.Sums.{sum_by-append}
 use Rattle.fraction.specs.Rational.{ℚ, whole}
 use Rattle.mps_lines.specs.Lines.{Line}
-use Rattle.mps_reader.specs.Accepting.{accepted_from}
 use Rattle.mps_reader.specs.Building.{is_modest, limited_from}
-use Rattle.mps_reader.specs.Faults.{◌<|>◌, when, limit, is_field, is_counted, counted, number_fault, side_number_fault, infinite, typed_row_fault, row_fault, entry_fault, entry_fault_after, pairs_fault, column_fault, sides_fault, side_line_fault, data_fault_in, word_fault, line_fault, differs}
+use Rattle.mps_lines.specs.Infinities.{infinite}
+use Rattle.mps_reader.specs.Faults.{◌<|>◌, when, limit, is_field, is_counted, counted, number_fault, side_number_fault, typed_row_fault, row_fault, entry_fault, entry_fault_after, pairs_fault, column_fault, sides_fault, side_line_fault, data_fault_in, word_fault, line_fault, differs}
 use Rattle.mps_reader.specs.Meaning.{place, is_zero}
 use Rattle.mps_reader.specs.Modest.{modest_number}
 use Rattle.mps_reader.specs.Named.{same_text, bytes_flip, named_push, place_push, length_push}
 use Rattle.mps_reader.specs.Placing.{placed_of, terms_in, term_in, terms_in-append}
-use Rattle.mps_reader.specs.Reading.{ends}
 use Rattle.mps_reader.specs.Sections.{Sections, none_yet, with_line, with_data_in, with_word, first_field, rows_of, row_entry, row_typed, Entry, entry, entries_of, columns_of, run_of, last_of, is_same, with_column, with_run, with_pairs, with_column_line, pairs_of, marker, marked, number, sides, sides_of, side_set, with_sides}
-use Rattle.mps_reader.specs.Single.{keeps_form}
 use Rattle.mps_reader.specs.Words.{named, section_of, row_type_of}
 use Rattle.mps_reader.specs.declared.kinds.Column.{Column}
 use Rattle.mps_reader.specs.declared.kinds.Kind.{Kind}
@@ -34,21 +32,18 @@ lt_of a b h = grind arith
 of_lt : (a b : ℕ) → a < b → nat_lt a b ≡ true
 of_lt a b h = grind arith
 
-le_of : (a b : ℕ) → nat_le a b ≡ true → a ≤ b
-le_of a b h = grind arith
-
 of_le : (a b : ℕ) → a ≤ b → nat_le a b ≡ true
 of_le a b h = grind arith
 
-below_of : (a b : ℕ) → nat_le a b ≡ false → b < a
+pub below_of : (a b : ℕ) → nat_le a b ≡ false → b < a
 below_of a b h = grind arith
 
 -- of two faults that don't come neither does
-none_both : (a b : Option Kind) → (a <|> b) ≡ None → (a ≡ None) × (b ≡ None)
+pub none_both : (a b : Option Kind) → (a <|> b) ≡ None → (a ≡ None) × (b ≡ None)
 none_both None b h = (refl, h)
 none_both (Some k) b h = cc
 
-none_when : (b : Bool) (k : Kind) → when b k ≡ None → b ≡ false
+pub none_when : (b : Bool) (k : Kind) → when b k ≡ None → b ≡ false
 none_when true k h = cc
 none_when false k h = refl
 
@@ -255,7 +250,7 @@ rows_more rows (a ∷ b ∷ c ∷ fields) h f = cc
 abbrev pub are_modest_sides : List (List ℕ × List ℕ) → Bool
 are_modest_sides pairs = list_all (λ p. is_modest (number p.1)) pairs
 
-new_sides : (ranged : Bool) (rows : List (List ℕ × RowType)) (before pairs : List (List ℕ × List ℕ)) → sides_fault ranged rows before pairs ≡ None → are_modest_sides pairs ≡ true
+pub new_sides : (ranged : Bool) (rows : List (List ℕ × RowType)) (before pairs : List (List ℕ × List ℕ)) → sides_fault ranged rows before pairs ≡ None → are_modest_sides pairs ≡ true
 new_sides ranged rows before [] f = refl
 new_sides ranged rows before (pair ∷ pairs) f =
     let a = none_both (when (not (is_some (named rows pair.0))) kind.UnknownRow) _ f in
@@ -306,7 +301,7 @@ word_more (Some section.Ranges) s line h = record { rows = h.rows; columns = h.c
 word_more (Some section.Bounds) s line h = record { rows = h.rows; columns = h.columns; sides = h.sides }
 word_more (Some section.EndData) s line h = record { rows = h.rows; columns = h.columns; sides = h.sides }
 
-line_more : (s : Sections) (line : Line) → KeepsLimits s → line_fault s line ≡ None → KeepsLimits (with_line s line)
+pub line_more : (s : Sections) (line : Line) → KeepsLimits s → line_fault s line ≡ None → KeepsLimits (with_line s line)
 line_more s line h f = by line.is_data f
   where
     by : (b : Bool) → cond b (data_fault_in s.words s line) (word_fault s (drop 1 line.fields) (section_of (first_field line.fields))) ≡ None
@@ -320,17 +315,3 @@ none_keeps = record {
   columns = record { few = omega arith; last_is = λ c e. cc; terms = λ name. refl; places = refl; names = refl };
   sides = refl;
 }
-
-pub accepted_keeps : (s : Sections) (lines : List Line) (t : Sections) → KeepsLimits s → accepted_from s lines ≡ Some t → KeepsLimits t
-accepted_keeps s [] t h e = cc
-accepted_keeps s (line ∷ lines) t h e = step (accepted_keeps (with_line s line) lines t) (line_fault s line) (keeps_form s line) (ends line) refl e
-  where
-    same : (a b : Sections) → Some a ≡ Some b → a ≡ b
-    same a b h = cc
-
-    step : (KeepsLimits (with_line s line) → accepted_from (with_line s line) lines ≡ Some t → KeepsLimits t) → (f : Option Kind) (k last : Bool) → line_fault s line ≡ f
-        → cond (not (is_some f) && k) (cond last (Some s) (accepted_from (with_line s line) lines)) None ≡ Some t → KeepsLimits t
-    step rest (Some j) k last g e = cc
-    step rest None false last g e = cc
-    step rest None true true g e = subst (λ (t : Sections). KeepsLimits t) (same s t e) h
-    step rest None true false g e = rest (line_more s line h g) e

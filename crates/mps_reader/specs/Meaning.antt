@@ -1,5 +1,5 @@
 -- What the sections of a text say: rows, terms, sides, ranges and bounds.
-use Rattle.std.specs.Prelude.{ℕ, Bool, true, false, ◌==◌, ◌&&◌, ◌||◌, not, if◌then◌else◌, List, [], ◌∷◌, ◌++◌, map, Option, Some, None, ℤ, pos, neg_ℤ, nat_abs}
+use Rattle.std.specs.Prelude.{ℕ, Bool, true, false, ◌==◌, ◌&&◌, ◌||◌, not, if◌then◌else◌, List, ◌∷◌, ◌++◌, map, Option, Some, None, ℤ, pos, neg_ℤ, nat_abs, []}
 use Rattle.std.specs.List.{list_any, flat_map, position_or_len}
 use Rattle.std.specs.Option.{is_some, option_or, option_map, unwrap_or}
 use Rattle.std.specs.Str.{bytes_eq}
@@ -13,7 +13,8 @@ use Rattle.problem.specs.Program.{Program}
 use Rattle.problem_box.specs.declared.span.Span.{Span}
 use Rattle.mps_reader.specs.Words.{named}
 use Rattle.mps_reader.specs.Sections.{Sections, rows_of, Entry, entries_of, columns_of, number, sides_of, Bound, bounds_of}
-use Rattle.mps_reader.specs.Faults.{infinite, ◌<|>◌, when}
+use Rattle.mps_lines.specs.Infinities.{infinite}
+use Rattle.mps_reader.specs.Faults.{◌<|>◌, when}
 use Rattle.mps_reader.specs.declared.kinds.Column.{Column}
 use Rattle.mps_reader.specs.declared.kinds.Kind.{Kind}
 use Rattle.mps_reader.specs.declared.kinds.Kind.TheVariants as kind

@@ -4,7 +4,7 @@ use Rattle.std.proofs.Common.{refl, sym, ap, ◌∙◌, subst, arith}
 use Rattle.std.proofs.lemmas.Int.{ints, unsigned_abs-mul}
 use Rattle.std.proofs.lemmas.Bool.{eqb-true, and_from}
 use Rattle.std.proofs.lemmas.Nat.Gcd.{dvd_of_mod-eq-zero, mod-eq-zero_of_dvd, le_of_dvd}
-use Rattle.std.proofs.Math.Nat.{mul-dvd-mul_left, dvd_of_mul-dvd-mul_right, mul-le-mul_right, le_of_mul-le-mul_right}
+use Rattle.std.proofs.Math.Nat.{mul-dvd-mul_left, dvd_of_mul-dvd-mul_right, mul-le-mul_right, le_of_mul-le-mul_right, one-le-pow}
 use Prim.Native.Nat.{◌∣◌}
 use Rattle.fraction.specs.Gcd.{gcd, dvd_of_coprime}
 use Rattle.fraction.specs.Rational.{ℚ, frac, frac_is, whole}
@@ -14,7 +14,6 @@ use Rattle.mps_lines.specs.declared.decimals.NumFault.{NumFault}
 use Rattle.mps_lines.specs.declared.decimals.NumFault.TheVariants as num
 use Rattle.mps_reader.specs.Building.{is_modest}
 use Rattle.mps_reader.specs.Faults.{number_fault, fault_of_number}
-use Rattle.mps_reader.specs.Plain.{ten_positive}
 use Rattle.mps_reader.specs.Sections.{number, amount_in}
 
 over_ℕ : (z w : ℤ) (d e : ℕ) → z *ℤ pos d ≡ w *ℤ pos e → nat_abs z * d ≡ nat_abs w * e
@@ -68,7 +67,7 @@ modest_limits negative size unit q o h = step (nat_lt (10 ^ 9 * unit) size) refl
 
 modest_amount : (s : Spelt) (q : ℚ) → amount s ≡ Ok q → is_modest q ≡ true
 unfolding amount
-modest_amount s q h = modest_limits s.negative _ (10 ^ s.down) q (ten_positive s.down) h
+modest_amount s q h = modest_limits s.negative _ (10 ^ s.down) q (one-le-pow s.down 10 (omega arith)) h
 
 modest_spelling : (o : Option Spelt) (q : ℚ) → amount_of o ≡ Ok q → is_modest q ≡ true
 unfolding amount_of

@@ -1,5 +1,5 @@
 -- When a text reads as a problem, and when it is refused.
-use Rattle.std.specs.Prelude.{◌≡◌, ℕ, Bool, true, false, ◌&&◌, not, nat_lt, if◌then◌else◌, List, [], ◌∷◌, Option, Some, None, Result, Ok, Err, length}
+use Rattle.std.specs.Prelude.{◌≡◌, ℕ, Bool, true, false, ◌&&◌, not, nat_lt, if◌then◌else◌, List, ◌∷◌, Option, Some, None, Result, Ok, Err, length, []}
 use Rattle.mps_lines.specs.Lines.{Line, lines_of, raw_lines}
 use Rattle.mps_reader.specs.Words.{section_of}
 use Rattle.mps_reader.specs.Sections.{Sections, none_yet, with_line, first_field}

@@ -1,5 +1,5 @@
 -- The lines of a text by their sections.
-use Rattle.std.specs.Prelude.{ℕ, Bool, true, false, if◌then◌else◌, List, [], ◌∷◌, ◌++◌, Option, Some, None, drop, codes, Result, Ok, Err, pos}
+use Rattle.std.specs.Prelude.{ℕ, Bool, true, false, if◌then◌else◌, List, ◌∷◌, ◌++◌, Option, Some, None, drop, codes, Result, Ok, Err, pos, []}
 use Rattle.std.specs.Str.{bytes_eq}
 use Rattle.fraction.specs.Rational.{ℚ, whole}
 use Rattle.mps_lines.specs.Decimals.{decimal}

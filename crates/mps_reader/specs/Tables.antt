@@ -6,7 +6,7 @@ use Rattle.mps_reader.specs.Words.{named}
 use Rattle.mps_reader.specs.Sections.{Entry}
 use Rattle.mps_reader.specs.declared.columns.Cell.{Cell}
 use Rattle.std.specs.Map.{lookup}
-use Rattle.std.specs.Prelude.{◌≡◌, ℕ, List, [], ◌∷◌, ◌++◌, map, Option, Some, None}
+use Rattle.std.specs.Prelude.{◌≡◌, ℕ, List, ◌∷◌, ◌++◌, map, Option, Some, None, length, suc, []}
 use denote.Ref.{Bor}
 use Rattle.mps_reader.specs.declared.kinds.Kind.{Kind}
 use Rattle.mps_reader.specs.declared.kinds.Stop.{Stop}
@@ -36,6 +36,10 @@ Stops stop.Memory fault = Unit {0}
 pub named_table : {V : Type 0} (es : List (Bor (List ℕ) × V)) (name : List ℕ) → named (table es) name ≡ lookup (λ k. bytes_eq name k.now) es
 named_table [] name = refl
 named_table (e ∷ es) name = ap (cond (bytes_eq name e.0.now) (Some e.1)) (named_table es name)
+
+pub length-table : {V : Type 0} (es : List (Bor (List ℕ) × V)) → length (table es) ≡ length es
+length-table [] = refl
+length-table (e ∷ es) = ap suc (length-table es)
 
 pub table-add : {V : Type 0} (es : List (Bor (List ℕ) × V)) (name : Bor (List ℕ)) (v : V) → table (es ++ (name, v) ∷ []) ≡ table es ++ (name.now, v) ∷ []
 table-add [] name v = refl

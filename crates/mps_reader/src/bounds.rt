@@ -1,102 +1,198 @@
 //! Lines of BOUNDS.
 
-ghost use Rattle.std.specs.Prelude.{◌≡◌, ℕ, ◌++◌, ◌∷◌, [], OnOk, IsErrOf, List, Bool, true, false, Some, None, is_some, not, ◌&&◌};
-ghost use Rattle.mps_reader.specs.Words.{named, bound_type_of};
-ghost use Rattle.mps_reader.specs.Single.{is_fixing};
-ghost use Rattle.mps_reader.specs.Tables.{texts, table, text_of};
-ghost use Rattle.mps_reader.specs.Accepting.{takes_bound, bound_entry, group_of_bound};
+ghost use Rattle.std.specs.Prelude.{◌≡◌, ℕ, ◌∷◌, OnOk, IfErr, IfOk, List, None, Some, if◌then◌else◌};
+ghost use Rattle.std.specs.Option.{option_map};
+ghost use Rattle.std.specs.Str.{bytes_eq};
+ghost use Rattle.mps_reader.specs.BoundLines.{with_limits};
+ghost use Rattle.mps_reader.specs.BoundTables.{HasBounds, set_fault, summary_in, written};
+ghost use Rattle.mps_reader.specs.Faults.{bound_line_fault, differs};
+ghost use Rattle.mps_reader.specs.Sections.{Bound, Entry, bound_at, bound_set, columns_of, onto, set_by, valued, valueless};
+ghost use Rattle.mps_reader.specs.Tables.{Stops, table, text_of, texts};
+ghost use Rattle.mps_reader.specs.Words.{named};
 
-use crate::kinds::{BoundType, Column};
-use crate::lines::are_fields;
-use crate::names::{add, has};
-use crate::numbers::plain_number;
+use crate::kinds::{BoundType, Column, Kind, Stop};
+use crate::limits::{Limits, has_value, no_limits, with_line};
+use crate::names::has;
 use crate::sides::differs;
-use crate::single::SingleFault;
-use fraction::Frac;
+use crate::words::bound_type_of;
 use indexmap::IndexMap;
+use std::alloc::AllocError;
 use std::hash::BuildHasher;
 
-/// The type of a bound that a word names.
-fn bound_type_of(word: &[u8]) -> Option<BoundType>
-    ensures { result ≡ bound_type_of word.now }
-{
-    if word == b"UP".as_slice() {
-        return Some(BoundType::Up);
-    }
-    if word == b"LO".as_slice() {
-        return Some(BoundType::Lo);
-    }
-    if word == b"FX".as_slice() {
-        return Some(BoundType::Fx);
-    }
-    if word == b"LI".as_slice() {
-        return Some(BoundType::Li);
-    }
-    if word == b"UI".as_slice() {
-        return Some(BoundType::Ui);
-    }
-    if word == b"FR".as_slice() {
-        return Some(BoundType::Fr);
-    }
-    if word == b"MI".as_slice() {
-        return Some(BoundType::Mi);
-    }
-    if word == b"PL".as_slice() {
-        return Some(BoundType::Pl);
-    }
-    if word == b"BV".as_slice() {
-        return Some(BoundType::Bv);
-    }
-    None
+/// A line of BOUNDS: its type, a set's name or none, the column, and the value's field.
+#[derive(Clone, Copy)]
+pub struct Written<'a> {
+    pub kind: BoundType,
+    pub group: Option<&'a [u8]>,
+    pub column: &'a [u8],
+    pub value: &'a [u8],
 }
 
-/// Whether a word is FX.
-fn is_fixing(word: &[u8]) -> bool
-    ensures { result ≡ is_fixing (bound_type_of word.now) }
+/// What the lines so far say of their columns, and the set's name.
+#[derive(Drop)]
+pub struct Bounds<'a, B: BuildHasher + Drop> {
+    pub limits: IndexMap<&'a [u8], Limits, B>,
+    pub group: Option<&'a [u8]>,
+}
+
+/// What follows the type of a line whose value counts.
+#[tactic(auto, using(crate::specs::BoundTables::valued_none))]
+fn valued<'a>(kind: BoundType, rest: &[&'a [u8]]) -> Option<Written<'a>>
+    ensures { option_map written result ≡ valued kind (texts rest.now) }
 {
+    match rest {
+        [column, value] => Some(Written {
+            kind,
+            group: None,
+            column,
+            value,
+        }),
+        [group, column, value] => Some(Written {
+            kind,
+            group: Some(*group),
+            column,
+            value,
+        }),
+        _ => None,
+    }
+}
+
+/// What follows the type of a line whose value is passed over.
+#[tactic(auto, using(crate::specs::BoundTables::valueless_none))]
+fn valueless<'a>(kind: BoundType, rest: &[&'a [u8]]) -> Option<Written<'a>>
+    ensures { option_map written result ≡ valueless kind (texts rest.now) }
+{
+    match rest {
+        [column] => Some(Written {
+            kind,
+            group: None,
+            column,
+            value: b"".as_slice(),
+        }),
+        [group, column] | [group, column, _] => Some(Written {
+            kind,
+            group: Some(*group),
+            column,
+            value: b"".as_slice(),
+        }),
+        _ => None,
+    }
+}
+
+/// What a line says, or nothing where its type or the count of its fields is wrong.
+fn bound_at<'a>(fields: &[&'a [u8]]) -> Option<Written<'a>>
+    ensures { option_map written result ≡ bound_at (texts fields.now) }
+{
+    let [word, rest @ ..] = fields else {
+        return None;
+    };
     match bound_type_of(word) {
-        Some(BoundType::Fx) => true,
-        _ => false,
+        Some(kind) if has_value(kind) => valued(kind, rest),
+        Some(kind) => valueless(kind, rest),
+        None => None,
     }
 }
 
-/// Takes a line of BOUNDS.
-#[tactic(auto, using(crate::specs::Accepting::bound_count))]
-pub fn bound_line<'a, B: BuildHasher + Drop>(
-    columns: &IndexMap<&'a [u8], Column, B>,
-    bounds: &mut IndexMap<&'a [u8], Frac, B>,
-    group: &mut Option<&'a [u8]>,
-    fields: &[&'a [u8]],
-) -> Result<(), SingleFault>
-    ensures taken { OnOk result (takes_bound (table columns.now.entries) (table bounds.old.entries) (text_of group.old) (texts fields.now) ≡ true) }
-    ensures bounds { OnOk result (table bounds.new.entries ≡ table bounds.old.entries ++ bound_entry (texts fields.now)) }
-    ensures group { OnOk result (text_of group.new ≡ group_of_bound (texts fields.now)) }
-    ensures early { IsErrOf result SingleFault.Early → takes_bound (table columns.now.entries) (table bounds.old.entries) (text_of group.old) (texts fields.now) ≡ false }
+/// The set's name after a line, where one is written.
+fn later_set<'a>(before: Option<&'a [u8]>, group: Option<&'a [u8]>) -> Option<&'a [u8]>
+    ensures { text_of result ≡ set_by (text_of group.entry) (text_of before.entry) }
 {
-    let [kind, set, column, value] = fields else {
-        return Err(SingleFault::Early);
-    };
-    if !are_fields(fields) {
-        return Err(SingleFault::Early);
+    match group {
+        Some(_) => group,
+        None => before,
     }
-    if !is_fixing(kind) {
-        return Err(SingleFault::Early);
+}
+
+impl<'a, B: BuildHasher + Drop> Bounds<'a, B> {
+    /// What the lines so far say of a column.
+    #[tactic(auto, using(crate::specs::Tables::named_table))]
+    pub fn limits_of(&self, name: &'a [u8]) -> Limits
+        ensures { result ≡ summary_in (table self.now.limits.entries) name.now }
+    {
+        match self.limits.get(name).copied() {
+            Some(limits) => limits,
+            None => no_limits(),
+        }
     }
-    if differs(*group, set) {
-        return Err(SingleFault::Early);
+
+    /// Whether another set was named.
+    fn has_other_set(&self, group: Option<&[u8]>) -> bool
+        ensures { result ≡ differs (text_of self.now.group) (text_of group.entry) }
+    {
+        match group {
+            Some(group) => differs(self.group, group),
+            None => false,
+        }
     }
-    if !has(columns, column) {
-        return Err(SingleFault::Early);
+
+    /// The limits of the line's column after the line, or why the line is refused.
+    fn judged(
+        &self,
+        columns: &IndexMap<&'a [u8], Column, B>,
+        line: &Written<'a>,
+    ) -> Result<Limits, Stop>
+        ensures ok { IfOk result (λ new. (set_fault (table columns.now.entries) (text_of self.now.group) (written line.now) ≡ None)
+            × (new ≡ with_limits line.now.kind line.now.value.now (summary_in (table self.now.limits.entries) line.now.column.now))) }
+        ensures err { IfErr result (λ stop. Stops stop (set_fault (table columns.now.entries) (text_of self.now.group) (written line.now))) }
+    {
+        if self.has_other_set(line.group) {
+            return Err(Stop::Fault(Kind::ManySets));
+        }
+        if !has(columns, line.column) {
+            return Err(Stop::Fault(Kind::UnknownColumn));
+        }
+        with_line(self.limits_of(line.column), line.kind, line.value)
     }
-    if has(bounds, column) {
-        return Err(SingleFault::Early);
+
+    /// Keeps the limits of a column and the set's name, where one is written. The one error is want of memory.
+    fn keep(&mut self, line: &Written<'a>, limits: Limits) -> Result<(), AllocError>
+        ensures limits { (name : List ℕ) → OnOk result (named (table self.new.limits.entries) name
+            ≡ (if bytes_eq line.now.column.now name then Some limits else named (table self.old.limits.entries) name)) }
+        ensures group { OnOk result (text_of self.new.group ≡ set_by (text_of line.now.group) (text_of self.old.group)) }
+    {
+        match self.limits.insert(line.column, limits) {
+            Ok(_) => {
+                self.group = later_set(self.group, line.group);
+                Ok(())
+            }
+            Err(_) => Err(AllocError),
+        }
     }
-    let Some(number) = plain_number(value) else {
-        return Err(SingleFault::Early);
-    };
-    if add(bounds, *column, number).is_err() {
-        return Err(SingleFault::Memory);
+
+    /// Takes a line, or says why not.
+    fn take(
+        &mut self,
+        columns: &IndexMap<&'a [u8], Column, B>,
+        line: &Written<'a>,
+    ) -> Result<(), Stop>
+        ensures ok { (bounds : List Bound) → HasBounds self.old bounds → OnOk result (
+            (set_fault (table columns.now.entries) (bound_set bounds) (written line.now) ≡ None) × HasBounds self.new (written line.now ∷ bounds)) }
+        ensures err { (bounds : List Bound) → HasBounds self.old bounds → IfErr result (λ stop.
+            Stops stop (set_fault (table columns.now.entries) (bound_set bounds) (written line.now))) }
+    {
+        match self.judged(columns, line) {
+            Ok(limits) => match self.keep(line, limits) {
+                Ok(()) => Ok(()),
+                Err(_) => Err(Stop::Memory),
+            },
+            Err(stop) => Err(stop),
+        }
     }
-    *group = Some(*set);
-    Ok(())
+
+    /// Takes the fields of a line, or says why not.
+    pub fn take_line(
+        &mut self,
+        columns: &IndexMap<&'a [u8], Column, B>,
+        fields: &[&'a [u8]],
+    ) -> Result<(), Stop>
+        ensures ok { (entries : List Entry) (bounds : List Bound) → table columns.now.entries ≡ columns_of entries → HasBounds self.old bounds → OnOk result (
+            (bound_line_fault entries bounds (bound_at (texts fields.now)) ≡ None) × HasBounds self.new (onto (bound_at (texts fields.now)) bounds)) }
+        ensures err { (entries : List Entry) (bounds : List Bound) → table columns.now.entries ≡ columns_of entries → HasBounds self.old bounds → IfErr result (λ stop.
+            Stops stop (bound_line_fault entries bounds (bound_at (texts fields.now)))) }
+    {
+        match bound_at(fields) {
+            Some(line) => self.take(columns, &line),
+            None => Err(Stop::Fault(Kind::BadFields)),
+        }
+    }
 }

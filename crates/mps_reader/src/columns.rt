@@ -1,25 +1,21 @@
 //! Lines of COLUMNS.
 
-ghost use Rattle.std.specs.Prelude.{◌≡◌, ℕ, ◌++◌, ◌∷◌, [], OnOk, OnErr, IfErr, IfOk, None, Some, is_some, option_map, length, List, Bool, true, false, MatchResult, IsErrOf};
-ghost use Rattle.mps_reader.specs.Single.{has_plain_values, keeps_column};
-ghost use Rattle.mps_reader.specs.Accepting.{takes_column};
-ghost use Rattle.mps_reader.specs.Words.{named, marker_of};
-ghost use Rattle.mps_reader.specs.Sections.{is_same, with_column, with_run, number, Entry, marker, marked, entries_of, data_line, pairs_of, with_pairs, entry};
-ghost use Rattle.mps_reader.specs.Faults.{entry_fault_after, entry_fault, number_fault, pairs_fault, column_fault, ◌<|>◌};
+ghost use Rattle.std.specs.Prelude.{◌≡◌, ℕ, ◌∷◌, ◌<◌, if◌then◌else◌, false, OnOk, IfErr, IfOk, IfSome, None, Some, List, is_some, length, vec_len};
+ghost use denote.Ref.{Bor};
+ghost use Rattle.mps_reader.specs.Words.{marker_of, named};
+ghost use Rattle.mps_reader.specs.Sections.{is_same, last_of, columns_of, run_of, with_column, Entry, marker, marked, entries_of, data_line, pairs_of, with_pairs, entry};
+ghost use Rattle.mps_reader.specs.Faults.{entry_fault, is_repeated, pairs_fault, column_fault, ◌<|>◌};
 ghost use Rattle.mps_lines.specs.Lines.{Line};
+ghost use Rattle.mps_reader.specs.RowsSoFar.{IsRowAt, IsNew, names_fault};
 ghost use Rattle.mps_reader.specs.State.{HasEntries};
 ghost use Rattle.mps_reader.specs.Tables.{texts, table, Stops, text_of, seen};
-ghost use Rattle.mps_reader.specs.Placing.{all_placed};
-ghost use Rattle.mps_reader.specs.Meaning.{place};
 
 use crate::kinds::{Column, Kind, RowType, Stop};
-use crate::lines::are_fields;
 use crate::names::{add, has};
-use crate::numbers::is_plain;
-use crate::single::SingleFault;
-use fraction::Frac;
+use crate::numbers::number_in;
+use crate::row_terms::RowTerms;
 use indexmap::IndexMap;
-use mps_lines::{NumFault, decimal};
+use std::alloc::AllocError;
 use std::hash::BuildHasher;
 
 /// How many columns there may be.
@@ -35,47 +31,13 @@ pub struct Cell<'a> {
     pub is_marked: bool,
 }
 
-/// An entry by the place of its column.
-#[derive(Clone, Copy)]
-pub struct Placed<'a> {
-    pub row: &'a [u8],
-    pub column: usize,
-    pub number: Frac,
-}
-
-/// The columns so far, the rows of the last one with their numbers, its name, and all entries.
+/// The columns so far, the last one's name and place, and what the columns say of each row.
 #[derive(Drop)]
 pub struct Columns<'a, B: BuildHasher + Drop> {
     pub columns: IndexMap<&'a [u8], Column, B>,
-    pub run: IndexMap<&'a [u8], Frac, B>,
     pub last: Option<&'a [u8]>,
-    pub placed: Vec<Placed<'a>>,
-}
-
-/// The place of a column in the table, or the table's length.
-fn place<'a, B: BuildHasher + Drop>(
-    columns: &IndexMap<&'a [u8], Column, B>,
-    name: &'a [u8],
-) -> usize
-    ensures { result ≡ place (table columns.now.entries) name.now }
-{
-    match columns.get_index_of(name) {
-        Some(index) => index,
-        None => columns.len(),
-    }
-}
-
-/// The number of a field.
-fn number_in(field: &[u8]) -> Result<Frac, Stop>
-    ensures ok { IfOk result (λ q. (q ≡ number field.now) × (number_fault field.now ≡ None)) }
-    ensures err { IfErr result (λ e. Stops e (number_fault field.now)) }
-{
-    match decimal(field) {
-        Ok(number) => Ok(number),
-        Err(NumFault::BadNumber) => Err(Stop::Fault(Kind::BadNumber)),
-        Err(NumFault::TooLarge) => Err(Stop::Fault(Kind::TooLarge)),
-        Err(NumFault::TooFine) => Err(Stop::Fault(Kind::TooFine)),
-    }
+    pub place: u32,
+    pub rows: Vec<RowTerms>,
 }
 
 /// Whether a marker begins whole columns.
@@ -112,66 +74,107 @@ fn is_same(last: Option<&[u8]>, column: &[u8]) -> bool
 }
 
 impl<'a, B: BuildHasher + Drop> Columns<'a, B> {
-    /// Takes an entry, or says why not.
-    pub fn take(&mut self, rows: &IndexMap<&'a [u8], RowType, B>, e: &Cell<'a>) -> Result<(), Stop>
-        ensures fine { let same = is_same (text_of self.old.last) e.now.column.now in
-            OnOk result (entry_fault_after (table rows.now.entries) (table self.old.columns.entries) (table self.old.run.entries) same (seen e.now) ≡ None) }
-        ensures columns { let same = is_same (text_of self.old.last) e.now.column.now in
-            OnOk result (table self.new.columns.entries ≡ with_column same (table self.old.columns.entries) (seen e.now)) }
-        ensures run { let same = is_same (text_of self.old.last) e.now.column.now in
-            OnOk result (table self.new.run.entries ≡ with_run same (table self.old.run.entries) (seen e.now)) }
-        ensures last { OnOk result (text_of self.new.last ≡ Some e.now.column.now) }
-        ensures placed { OnOk result (all_placed self.new.placed.items ≡ all_placed self.old.placed.items
-            ++ (e.now.row.now, (place (table self.new.columns.entries) e.now.column.now, number e.now.value.now)) ∷ []) }
-        ensures err { let same = is_same (text_of self.old.last) e.now.column.now in
-            IfErr result (λ stop. Stops stop (entry_fault_after (table rows.now.entries) (table self.old.columns.entries) (table self.old.run.entries) same (seen e.now))) }
+    /// The index of a row, where ROWS names it.
+    fn index_of(&self, rows: &IndexMap<&'a [u8], RowType, B>, name: &'a [u8]) -> Option<usize>
+        ensures row { IfSome result (λ i. IsRowAt rows.now.entries name.now i) }
+        ensures within { IfSome result (λ i. i < vec_len self.now.rows) }
+        ensures known { (entries : List Entry) → HasEntries self.now (table rows.now.entries) entries → is_some result ≡ is_some (named (table rows.now.entries) name.now) }
     {
-        if !has(rows, e.row) {
-            return Err(Stop::Fault(Kind::UnknownRow));
+        let index = rows.get_index_of(name)?;
+        // Never so in a reader's tables, where each row of ROWS has its terms here.
+        if index >= self.rows.len() {
+            return None;
         }
-        let same = is_same(self.last, e.column);
-        let repeated = if same {
-            has(&self.run, e.row)
+        Some(index)
+    }
+
+    /// Whether the last column names an entry's row already, or the entry's column stands before the last one.
+    fn is_repeated(&self, same: bool, index: usize, e: &Cell<'a>) -> bool
+        requires { index < vec_len self.now.rows }
+        ensures new { same ≡ false → result ≡ is_some (named (table self.now.columns.entries) e.now.column.now) }
+        ensures repeated { (es : List (Bor (List ℕ) × RowType)) (entries : List Entry) → HasEntries self.now (table es) entries → IsRowAt es e.now.row.now index
+            → same ≡ is_same (last_of entries) e.now.column.now → result ≡ is_repeated (columns_of entries) (run_of entries) (is_same (last_of entries) e.now.column.now) (seen e.now) }
+    {
+        if same {
+            self.rows[index].is_named_by(self.place)
         } else {
             has(&self.columns, e.column)
+        }
+    }
+
+    /// The index of an entry's row, or what is wrong with its names.
+    fn row_of(
+        &self,
+        rows: &IndexMap<&'a [u8], RowType, B>,
+        same: bool,
+        e: &Cell<'a>,
+    ) -> Result<usize, Kind>
+        ensures within { IfOk result (λ i. i < vec_len self.now.rows) }
+        ensures row { IfOk result (λ i. IsRowAt rows.now.entries e.now.row.now i) }
+        ensures new { IfOk result (λ i. IsNew same (table self.now.columns.entries) e.now.column.now) }
+        ensures ok { (entries : List Entry) → HasEntries self.now (table rows.now.entries) entries → same ≡ is_same (last_of entries) e.now.column.now
+            → IfOk result (λ i. names_fault (table rows.now.entries) entries (seen e.now) ≡ None) }
+        ensures err { (entries : List Entry) → HasEntries self.now (table rows.now.entries) entries → same ≡ is_same (last_of entries) e.now.column.now
+            → IfErr result (λ k. names_fault (table rows.now.entries) entries (seen e.now) ≡ Some k) }
+    {
+        let Some(index) = self.index_of(rows, e.row) else {
+            return Err(Kind::UnknownRow);
         };
-        if repeated {
-            return Err(Stop::Fault(Kind::Duplicate));
+        if self.is_repeated(same, index, e) {
+            return Err(Kind::Duplicate);
         }
         if !same && self.columns.len() >= LIMIT {
-            return Err(Stop::Fault(Kind::TooMany));
+            return Err(Kind::TooMany);
         }
+        Ok(index)
+    }
+
+    /// Makes an entry's column the last one. The one error is want of memory.
+    fn stand_at(&mut self, same: bool, e: &Cell<'a>) -> Result<(), AllocError>
+        requires { IsNew same (table self.old.columns.entries) e.now.column.now }
+        ensures columns { OnOk result (table self.new.columns.entries ≡ with_column same (table self.old.columns.entries) (seen e.now)) }
+        ensures last { OnOk result (text_of self.new.last ≡ (if same then text_of self.old.last else Some e.now.column.now)) }
+        ensures place { OnOk result (self.new.place ≡ (if same then self.old.place else length (table self.old.columns.entries))) }
+        ensures rows { OnOk result (self.new.rows ≡ self.old.rows) }
+    {
+        if same {
+            return Ok(());
+        }
+        let place = self.columns.len() as u32;
+        let column = Column {
+            line: e.line,
+            is_marked: e.is_marked,
+        };
+        add(&mut self.columns, e.column, column)?;
+        self.last = Some(e.column);
+        self.place = place;
+        Ok(())
+    }
+
+    /// Takes an entry, or says why not.
+    fn take(&mut self, rows: &IndexMap<&'a [u8], RowType, B>, e: &Cell<'a>) -> Result<(), Stop>
+        ensures ok { (entries : List Entry) → HasEntries self.old (table rows.now.entries) entries → OnOk result (
+            (entry_fault (table rows.now.entries) entries (seen e.now) ≡ None) × HasEntries self.new (table rows.now.entries) (seen e.now ∷ entries)) }
+        ensures err { (entries : List Entry) → HasEntries self.old (table rows.now.entries) entries → IfErr result (λ stop.
+            Stops stop (entry_fault (table rows.now.entries) entries (seen e.now))) }
+    {
+        let same = is_same(self.last, e.column);
+        let index = match self.row_of(rows, same, e) {
+            Ok(index) => index,
+            Err(kind) => return Err(Stop::Fault(kind)),
+        };
         let number = match number_in(e.value) {
             Ok(number) => number,
             Err(stop) => return Err(stop),
         };
-        if !same {
-            let column = Column {
-                line: e.line,
-                is_marked: e.is_marked,
-            };
-            if add(&mut self.columns, e.column, column).is_err() {
-                return Err(Stop::Memory);
-            }
-            self.run.clear();
-            self.last = Some(e.column);
-        }
-        if add(&mut self.run, e.row, number).is_err() {
+        if self.stand_at(same, e).is_err() {
             return Err(Stop::Memory);
         }
-        let column = place(&self.columns, e.column);
-        if self
-            .placed
-            .push(Placed {
-                row: e.row,
-                column,
-                number,
-            })
-            .is_err()
-        {
-            return Err(Stop::Memory);
+        let place = self.place;
+        match self.rows[index].take(place, number) {
+            Ok(()) => Ok(()),
+            Err(_) => Err(Stop::Memory),
         }
-        Ok(())
     }
 
     /// Takes two entries, or says why not.
@@ -181,10 +184,10 @@ impl<'a, B: BuildHasher + Drop> Columns<'a, B> {
         first: &Cell<'a>,
         second: &Cell<'a>,
     ) -> Result<(), Stop>
-        ensures ok { (entries : List Entry) → HasEntries self.old entries → OnOk result (
+        ensures ok { (entries : List Entry) → HasEntries self.old (table rows.now.entries) entries → OnOk result (
             ((entry_fault (table rows.now.entries) entries (seen first.now) <|> entry_fault (table rows.now.entries) (seen first.now ∷ entries) (seen second.now) <|> None) ≡ None)
-            × HasEntries self.new (seen second.now ∷ seen first.now ∷ entries)) }
-        ensures err { (entries : List Entry) → HasEntries self.old entries → IfErr result (λ stop.
+            × HasEntries self.new (table rows.now.entries) (seen second.now ∷ seen first.now ∷ entries)) }
+        ensures err { (entries : List Entry) → HasEntries self.old (table rows.now.entries) entries → IfErr result (λ stop.
             Stops stop (entry_fault (table rows.now.entries) entries (seen first.now) <|> entry_fault (table rows.now.entries) (seen first.now ∷ entries) (seen second.now) <|> None)) }
     {
         match self.take(rows, first) {
@@ -202,10 +205,10 @@ impl<'a, B: BuildHasher + Drop> Columns<'a, B> {
         line: u64,
         is_marked: bool,
     ) -> Result<(), Stop>
-        ensures ok { (entries : List Entry) → HasEntries self.old entries → OnOk result (
+        ensures ok { (entries : List Entry) → HasEntries self.old (table rows.now.entries) entries → OnOk result (
             (pairs_fault (table rows.now.entries) (entry line is_marked column.now) entries (pairs_of (texts rest.now)) ≡ None)
-            × HasEntries self.new (with_pairs (entry line is_marked column.now) (pairs_of (texts rest.now)) entries)) }
-        ensures err { (entries : List Entry) → HasEntries self.old entries → IfErr result (λ stop.
+            × HasEntries self.new (table rows.now.entries) (with_pairs (entry line is_marked column.now) (pairs_of (texts rest.now)) entries)) }
+        ensures err { (entries : List Entry) → HasEntries self.old (table rows.now.entries) entries → IfErr result (λ stop.
             Stops stop (pairs_fault (table rows.now.entries) (entry line is_marked column.now) entries (pairs_of (texts rest.now)))) }
     {
         match rest {
@@ -248,11 +251,11 @@ impl<'a, B: BuildHasher + Drop> Columns<'a, B> {
         number: u64,
         fields: &[&'a [u8]],
     ) -> Result<(), Stop>
-        ensures ok { (earlier : List Line) → HasEntries self.old (entries_of earlier) → is_marked.old ≡ marked earlier → OnOk result (
+        ensures ok { (earlier : List Line) → HasEntries self.old (table rows.now.entries) (entries_of earlier) → is_marked.old ≡ marked earlier → OnOk result (
             (column_fault (table rows.now.entries) earlier (data_line number (texts fields.now)) (marker (texts fields.now)) (texts fields.now) ≡ None)
-            × HasEntries self.new (entries_of (data_line number (texts fields.now) ∷ earlier))
+            × HasEntries self.new (table rows.now.entries) (entries_of (data_line number (texts fields.now) ∷ earlier))
             × (is_marked.new ≡ marked (data_line number (texts fields.now) ∷ earlier))) }
-        ensures err { (earlier : List Line) → HasEntries self.old (entries_of earlier) → is_marked.old ≡ marked earlier → IfErr result (λ stop.
+        ensures err { (earlier : List Line) → HasEntries self.old (table rows.now.entries) (entries_of earlier) → is_marked.old ≡ marked earlier → IfErr result (λ stop.
             Stops stop (column_fault (table rows.now.entries) earlier (data_line number (texts fields.now)) (marker (texts fields.now)) (texts fields.now))) }
     {
         if let Some(begins) = marker(fields) {
@@ -263,67 +266,5 @@ impl<'a, B: BuildHasher + Drop> Columns<'a, B> {
             return Err(Stop::Fault(Kind::BadFields));
         };
         self.take_pairs(rows, column, rest, number, *is_marked)
-    }
-}
-
-/// Whether each number of an entry's line is plain.
-fn has_plain_values(fields: &[&[u8]]) -> bool
-    ensures { result ≡ has_plain_values (texts fields.now) }
-{
-    match fields {
-        [_column, _row, value] => is_plain(value),
-        [_column, _row, value, _second_row, second_value] => is_plain(value)
-            && is_plain(second_value),
-        _ => false,
-    }
-}
-
-/// Whether a line of COLUMNS keeps the form.
-fn keeps_column(begun: bool, is_marked: bool, fields: &[&[u8]]) -> bool
-    ensures { result ≡ keeps_column begun is_marked (texts fields.now) }
-{
-    if !begun {
-        return match marker(fields) {
-            Some(begins) => begins,
-            None => false,
-        };
-    }
-    if !is_marked {
-        return false;
-    }
-    match marker(fields) {
-        Some(begins) => !begins,
-        None => has_plain_values(fields),
-    }
-}
-
-/// Takes a line of COLUMNS that keeps the form.
-pub fn kept_column_line<'a, B: BuildHasher + Drop>(
-    columns: &mut Columns<'a, B>,
-    rows: &IndexMap<&'a [u8], RowType, B>,
-    begun: &mut bool,
-    is_marked: &mut bool,
-    number: u64,
-    fields: &[&'a [u8]],
-) -> Result<(), SingleFault>
-    ensures ok { (earlier : List Line) → HasEntries columns.old (entries_of earlier) → is_marked.old ≡ marked earlier → OnOk result (
-        (takes_column (table rows.now.entries) earlier begun.old is_marked.old (data_line number (texts fields.now)) ≡ true)
-        × HasEntries columns.new (entries_of (data_line number (texts fields.now) ∷ earlier))
-        × (is_marked.new ≡ marked (data_line number (texts fields.now) ∷ earlier))) }
-    ensures begun { OnOk result (begun.new ≡ true) }
-    ensures early { (earlier : List Line) → HasEntries columns.old (entries_of earlier) → is_marked.old ≡ marked earlier → IsErrOf result SingleFault.Early
-        → takes_column (table rows.now.entries) earlier begun.old is_marked.old (data_line number (texts fields.now)) ≡ false }
-{
-    if !are_fields(fields) {
-        return Err(SingleFault::Early);
-    }
-    if !keeps_column(*begun, *is_marked, fields) {
-        return Err(SingleFault::Early);
-    }
-    *begun = true;
-    match columns.take_line(rows, is_marked, number, fields) {
-        Ok(()) => Ok(()),
-        Err(Stop::Memory) => Err(SingleFault::Memory),
-        Err(Stop::Fault(_)) => Err(SingleFault::Early),
     }
 }

@@ -1,43 +1,89 @@
 //! The tables before the first line.
 
-ghost use Rattle.std.specs.Prelude.{◌≡◌};
+ghost use Rattle.std.specs.Prelude.{◌≡◌, ℕ, Bool, List, []};
+ghost use Rattle.mps_reader.specs.BoundTables.{HasBounds};
 ghost use Rattle.mps_reader.specs.Faults.{counted};
-ghost use Rattle.mps_reader.specs.Tables.{table};
+ghost use Rattle.mps_reader.specs.Ordered.{HasOrder};
+ghost use Rattle.mps_reader.specs.Sectioned.{HoldsSections};
 ghost use Rattle.mps_reader.specs.Sections.{none_yet};
-ghost use Rattle.mps_reader.specs.Holding.{HasTables};
+ghost use Rattle.mps_reader.specs.SideLines.{HasSideLines};
+ghost use Rattle.mps_reader.specs.State.{HasEntries};
+ghost use Rattle.mps_reader.specs.Tables.{table};
 
+use crate::bounds::Bounds;
 use crate::columns::Columns;
 use crate::keys::Lent;
-use crate::kinds::Stage;
-use crate::state::State;
+use crate::kinds::RowType;
+use crate::order::Order;
+use crate::sides::Sides;
+use crate::tables::Tables;
 use indexmap::IndexMap;
 use std::alloc::Global;
 use std::hash::BuildHasher;
 
+/// No sides.
+fn no_sides<'a, 'k, B: BuildHasher + Drop>(alloc: Global, keys: &'k B) -> Sides<'a, Lent<'k, B>>
+    ensures { (ranged : Bool) (rows : List (List ℕ × RowType)) → HasSideLines ranged rows result [] }
+{
+    Sides {
+        numbers: IndexMap::with_hasher(alloc, Lent::of(keys)),
+        group: None,
+        ranged: 0,
+    }
+}
+
+/// No bounds.
+fn no_bounds<'a, 'k, B: BuildHasher + Drop>(alloc: Global, keys: &'k B) -> Bounds<'a, Lent<'k, B>>
+    ensures { HasBounds result [] }
+{
+    Bounds {
+        limits: IndexMap::with_hasher(alloc, Lent::of(keys)),
+        group: None,
+    }
+}
+
+/// The order before the first section.
+fn no_order() -> Order
+    ensures { HasOrder result none_yet }
+{
+    Order {
+        last: None,
+        has_rhs: false,
+        has_ranges: false,
+        has_bounds: false,
+        has_sense: false,
+    }
+}
+
+/// No columns.
+fn no_columns<'a, 'k, B: BuildHasher + Drop>(alloc: Global, keys: &'k B) -> Columns<'a, Lent<'k, B>>
+    ensures { HasEntries result [] [] }
+{
+    Columns {
+        columns: IndexMap::with_hasher(alloc, Lent::of(keys)),
+        last: None,
+        place: 0,
+        rows: Vec::new(alloc),
+    }
+}
+
 /// Empty tables.
-pub fn empty_state<'a, 'k, B: BuildHasher + Drop>(
+pub fn empty_tables<'a, 'k, B: BuildHasher + Drop>(
     alloc: Global,
     keys: &'k B,
-) -> State<'a, Lent<'k, B>>
-    ensures tables { HasTables result none_yet }
-    ensures stage { result.stage ≡ Stage.Start }
+) -> Tables<'a, Lent<'k, B>>
+    ensures tables { HoldsSections result none_yet }
     ensures count { result.count ≡ counted (table result.rows.entries) }
 {
-    State {
-        stage: Stage::Start,
+    Tables {
+        order: no_order(),
+        rows_at: 0,
         rows: IndexMap::with_hasher(alloc, Lent::of(keys)),
         count: 0,
-        columns: Columns {
-            columns: IndexMap::with_hasher(alloc, Lent::of(keys)),
-            run: IndexMap::with_hasher(alloc, Lent::of(keys)),
-            last: None,
-            placed: Vec::new(alloc),
-        },
-        begun: false,
+        columns: no_columns(alloc, keys),
         is_marked: false,
-        sides: IndexMap::with_hasher(alloc, Lent::of(keys)),
-        side_set: None,
-        bounds: IndexMap::with_hasher(alloc, Lent::of(keys)),
-        bound_set: None,
+        rhs: no_sides(alloc, keys),
+        ranges: no_sides(alloc, keys),
+        bounds: no_bounds(alloc, keys),
     }
 }

@@ -1,5 +1,7 @@
 //! Keys of a hash that several tables share.
 
+ghost use Rattle.std.specs.Prelude.{◌≡◌};
+
 use std::hash::BuildHasher;
 
 /// Keys that are lent.
@@ -8,8 +10,10 @@ pub struct Lent<'a, B: BuildHasher> {
 }
 
 impl<'a, B: BuildHasher> Lent<'a, B> {
-    /// These keys.
-    pub fn of(keys: &'a B) -> Lent<'a, B> {
+    /// These keys: the hashers that it builds are those that they build.
+    pub fn of(keys: &'a B) -> Lent<'a, B>
+        ensures { result.keys.now ≡ keys.now }
+    {
         Lent { keys }
     }
 }

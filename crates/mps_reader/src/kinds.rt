@@ -3,22 +3,39 @@
 /// Why a text is refused.
 #[derive(Clone, Copy, Debug, PartialEq, Eq)]
 pub enum Kind {
+    /// A section word that is none or may not stand here, or a data line outside its section.
     BadSection,
+    /// The objective is to be a maximum.
     Maximise,
+    /// A wrong count of fields, a field outside the limits, or a type that is none.
     BadFields,
+    /// A set's name unlike the one before in its section.
     ManySets,
+    /// A row that ROWS doesn't name.
     UnknownRow,
+    /// A column that COLUMNS doesn't name.
     UnknownColumn,
+    /// A name that came before and may come once.
     Duplicate,
+    /// More rows, columns or bytes than are read.
     TooMany,
+    /// A field that isn't spelled as a number.
     BadNumber,
+    /// An infinity where a number is wanted.
     Infinite,
+    /// A number of a size above 10^9.
     TooLarge,
+    /// A number that is no multiple of 10^-15.
     TooFine,
+    /// The text ends before ENDATA.
     NoEnd,
+    /// No row is of type N.
     NoObjective,
+    /// A column that no marker and no bound makes whole.
     Continuous,
+    /// An upper bound below 0 of a column whose lower bound no line sets.
     NegativeUpper,
+    /// A column without a lower or an upper bound, where none is given for all.
     NoBound,
 }
 
@@ -70,16 +87,4 @@ pub enum Stop {
 pub struct Column {
     pub line: u64,
     pub is_marked: bool,
-}
-
-/// How far a text of the one form has come: the section that the lines stand in.
-#[derive(Clone, Copy, Debug, PartialEq, Eq)]
-pub enum Stage {
-    Start,
-    Name,
-    Rows,
-    Columns,
-    Rhs,
-    Bounds,
-    End,
 }

@@ -6,25 +6,30 @@ mod building;
 mod column_names;
 mod columns;
 mod empty;
+mod ends;
+mod fields;
 mod keys;
 mod kinds;
 pub mod laws;
+mod limits;
 mod lines;
+mod mps;
 mod names;
 mod numbers;
-mod points;
+mod order;
 mod problems;
+mod ranged_rows;
 mod reading;
+mod row_terms;
 mod rows;
 mod sides;
-mod single;
-mod spans;
-mod state;
 mod steps;
+mod tables;
 mod words;
 
-pub use kinds::{BoundType, Column, Kind, RowType, Section, Stop};
-pub use single::{SingleFault, read_single};
+pub use kinds::Kind;
+pub use mps::read_mps;
+pub use reading::ReadFault;
 
 #[cfg(test)]
 mod tests;

@@ -1,32 +1,25 @@
-//! Fields of data lines.
+//! How many lines a text has.
 
-ghost use Rattle.std.specs.Prelude.{◌≡◌, nat_le, ◌&&◌};
-ghost use Rattle.std.specs.List.{list_all};
-ghost use Rattle.mps_reader.specs.Faults.{is_field};
-ghost use Rattle.mps_reader.specs.Tables.{texts};
+ghost use Rattle.std.specs.Prelude.{◌≡◌, ◌≤◌, if◌then◌else◌, length};
+ghost use Rattle.mps_lines.specs.Lines.{raw_lines};
 
-/// Whether each byte is 0x21 to 0x7e.
-fn are_visible(field: &[u8]) -> bool
-    ensures { result ≡ list_all (λ b. nat_le 33 b && nat_le b 126) field.now }
+/// 1 where it holds, else 0.
+fn one_if(holds: bool) -> u64
+    ensures value { result ≡ (if holds then 1 else 0) }
+    ensures small { result ≤ 1 }
 {
-    field.iter().all(|b| *b >= 0x21 && *b <= 0x7e)
+    if holds { 1 } else { 0 }
 }
 
-/// Whether a field is within the limits.
-fn is_field(field: &[u8]) -> bool
-    ensures { result ≡ is_field field.now }
+/// The number of a text's last line, 0 where it has none.
+pub fn line_count(text: &[u8]) -> u64
+    ensures { result ≡ length (raw_lines text.now) }
 {
-    field.len() > 0 && field.len() <= 255 && are_visible(field)
-}
-
-/// Whether all fields are.
-pub fn are_fields(fields: &[&[u8]]) -> bool
-    ensures { result ≡ list_all is_field (texts fields.now) }
-{
-    for field in fields {
-        if !is_field(field) {
-            return false;
-        }
+    let mut count: u64 = 0;
+    let mut is_open = false;
+    for byte in text {
+        count += one_if(*byte == b'\n');
+        is_open = *byte != b'\n';
     }
-    true
+    if is_open { count + 1 } else { count }
 }

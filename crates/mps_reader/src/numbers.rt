@@ -1,52 +1,45 @@
-//! Plain numbers.
+//! Numbers of fields, and their faults.
 
-ghost use Rattle.std.specs.Prelude.{◌≡◌, ℕ, ◌&&◌, ◌||◌, IfSome, IfNone, false, true, None, not, is_some, length, nat_le};
-ghost use Rattle.std.specs.List.{list_all};
-ghost use Rattle.mps_lines.specs.Decimals.{is_digit, sign_at};
-ghost use Rattle.mps_reader.specs.Single.{is_plain, are_few_digits};
-ghost use Rattle.mps_reader.specs.Faults.{infinity_word, infinite, side_number_fault, number_fault};
+ghost use Rattle.std.specs.Prelude.{◌≡◌, IfOk, IfErr, None, Some, Err};
+ghost use Rattle.mps_reader.specs.Faults.{fault_of_number, number_fault, side_number_fault};
 ghost use Rattle.mps_reader.specs.Sections.{number};
-ghost use Rattle.mps_reader.specs.Accepting.{is_plain_number};
+ghost use Rattle.mps_reader.specs.Tables.{Stops};
 
+use crate::kinds::{Kind, Stop};
 use fraction::Frac;
-use mps_lines::decimal;
+use mps_lines::{NumFault, Value, decimal, value_of};
 
-/// Whether each byte is a digit.
-fn are_digits(bytes: &[u8]) -> bool
-    ensures { result ≡ list_all is_digit bytes.now }
+/// The kind of a number's fault.
+pub fn kind_of(fault: NumFault) -> Kind
+    ensures { Some result ≡ fault_of_number (Err fault) }
 {
-    bytes.iter().all(|b| *b >= b'0' && *b <= b'9')
-}
-
-/// Whether these are 1 to 10 digits.
-fn are_few_digits(bytes: &[u8]) -> bool
-    ensures { result ≡ are_few_digits bytes.now }
-{
-    bytes.len() >= 1 && bytes.len() <= 10 && are_digits(bytes)
-}
-
-/// Whether a field is an optional minus sign and 1 to 10 digits.
-pub fn is_plain(field: &[u8]) -> bool
-    ensures { result ≡ is_plain field.now }
-{
-    match field {
-        [b'-', rest @ ..] => are_few_digits(rest),
-        _ => are_few_digits(field),
+    match fault {
+        NumFault::BadNumber => Kind::BadNumber,
+        NumFault::TooLarge => Kind::TooLarge,
+        NumFault::TooFine => Kind::TooFine,
     }
 }
 
-/// The number of a field that is a plain number without a fault.
-#[tactic(auto, using(crate::specs::Plain::not_plain_number, crate::specs::Plain::is_plain_number_by))]
-pub fn plain_number(field: &[u8]) -> Option<Frac>
-    ensures some { IfSome result (λ q. is_plain_number field.now ≡ true) }
-    ensures value { IfSome result (λ q. q ≡ number field.now) }
-    ensures none { result ≡ None → is_plain_number field.now ≡ false }
+/// The number of a field of COLUMNS.
+pub fn number_in(field: &[u8]) -> Result<Frac, Stop>
+    ensures ok { IfOk result (λ q. (q ≡ number field.now) × (number_fault field.now ≡ None)) }
+    ensures err { IfErr result (λ e. Stops e (number_fault field.now)) }
 {
-    if !is_plain(field) {
-        return None;
-    }
     match decimal(field) {
-        Ok(number) => Some(number),
-        Err(_) => None,
+        Ok(number) => Ok(number),
+        Err(fault) => Err(Stop::Fault(kind_of(fault))),
+    }
+}
+
+/// The number of a field of RHS or RANGES.
+pub fn side_number(field: &[u8]) -> Result<Frac, Stop>
+    ensures value { IfOk result (λ q. q ≡ number field.now) }
+    ensures ok { IfOk result (λ q. side_number_fault field.now ≡ None) }
+    ensures err { IfErr result (λ e. Stops e (side_number_fault field.now)) }
+{
+    match value_of(field) {
+        Value::Finite(number) => Ok(number),
+        Value::Infinite(_) => Err(Stop::Fault(Kind::Infinite)),
+        Value::Fault(fault) => Err(Stop::Fault(kind_of(fault))),
     }
 }

@@ -1,51 +1,60 @@
-//! The problem of the reader's tables.
+//! The problem of the reader's tables at ENDATA.
 
-ghost use Rattle.std.specs.Prelude.{◌≡◌, IfOk, IsErrOf};
-ghost use Rattle.mps_reader.specs.Spans.{AreSmall};
-ghost use Rattle.mps_reader.specs.Tabled.{KeepsTables, IsTabled, HasGap};
-ghost use Rattle.mps_reader.specs.Tables.{table};
+ghost use Rattle.std.specs.Prelude.{◌≡◌, IfOk, IfErr, Ok};
+ghost use Rattle.mps_reader.specs.Finished.{HasKept, IsRefusal, said};
+ghost use Rattle.mps_reader.specs.Followed.{HasData};
+ghost use Rattle.mps_reader.specs.Sections.{Sections};
 
-use crate::building::{Parts, rows_and_objective};
+use crate::building::Parts;
 use crate::column_names::column_names;
-use crate::single::SingleFault;
-use crate::spans::fixed_spans;
-use crate::state::State;
+use crate::columns::Columns;
+use crate::ends::spans_or_fault;
+use crate::kinds::Kind;
+use crate::ranged_rows::ranged_parts;
+use crate::reading::ReadFault;
+use crate::tables::Tables;
 use problem::Problem;
 use problem_box::IntBox;
 use std::alloc::Global;
 use std::hash::BuildHasher;
 
-/// The problem of the tables, which keep to its limits.
-///
-/// `Early` where there is no objective, or a column isn't whole or has no bound; `Memory` where memory is wanting.
+/// The problem of the tables, or the fault at the end: no objective, or the first column's that isn't whole or has no bound.
 pub fn problem_of<'a, B: BuildHasher + Drop>(
     alloc: Global,
-    state: &State<'a, B>,
-) -> Result<Problem, SingleFault>
-    requires limits { KeepsTables state.now }
-    requires bounds { AreSmall (table state.now.bounds.entries) }
-    ensures problem { IfOk result (λ p. IsTabled state.now p) }
-    ensures early { IsErrOf result SingleFault.Early → HasGap state.now }
+    tables: Tables<'a, B>,
+    upper: Option<u32>,
+) -> Result<Problem, ReadFault>
+    requires { HasKept tables upper }
+    ensures ok { (s : Sections) → HasData tables.entry s → IfOk result (λ p. said upper s ≡ Ok p) }
+    ensures err { (s : Sections) → HasData tables.entry s → IfErr result (λ f. IsRefusal f (said upper s)) }
 {
-    let columns = &state.columns.columns;
-    let Ok(parts) = rows_and_objective(
+    let Columns {
+        columns,
+        rows: terms,
+        ..
+    } = tables.columns;
+    let Ok(parts) = ranged_parts(
         alloc,
-        &state.rows,
-        &state.sides,
-        state.columns.placed.as_slice(),
+        &tables.rows,
+        &tables.rhs.numbers,
+        &tables.ranges.numbers,
+        terms,
     ) else {
-        return Err(SingleFault::Memory);
+        return Err(ReadFault::Memory);
     };
     let Parts { rows, objective } = parts;
     let Some(objective) = objective else {
-        return Err(SingleFault::Early);
+        return Err(ReadFault::Refused {
+            line: tables.rows_at,
+            kind: Kind::NoObjective,
+        });
     };
-    let spans = match fixed_spans(alloc, columns, &state.bounds) {
+    let spans = match spans_or_fault(alloc, upper, &columns, &tables.bounds) {
         Ok(spans) => spans,
         Err(fault) => return Err(fault),
     };
-    let Ok(names) = column_names(alloc, columns) else {
-        return Err(SingleFault::Memory);
+    let Ok(names) = column_names(alloc, &columns) else {
+        return Err(ReadFault::Memory);
     };
     Ok(Problem::make(names, rows, objective, IntBox::make(spans)))
 }

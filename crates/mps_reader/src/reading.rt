@@ -1,46 +1,67 @@
 //! The lines of a text up to ENDATA.
 
-ghost use Rattle.std.specs.Prelude.{◌≡◌, ℕ, ◌≤◌, ◌<◌, ◌^◌, IfOk, IsErrOf, None, length};
-ghost use Rattle.mps_lines.specs.Left.{lines_of};
-ghost use Rattle.mps_reader.specs.Accepting.{accepted_from};
+ghost use Rattle.std.specs.Prelude.{◌≡◌, ◌≤◌, IfOk, IfErr, length};
 ghost use Rattle.mps_reader.specs.Faults.{counted};
-ghost use Rattle.mps_reader.specs.Tables.{table};
+ghost use Rattle.mps_reader.specs.Followed.{HasSectionsOf, IsFaultIn, fault_at, found_in};
+ghost use Rattle.mps_reader.specs.Sectioned.{HoldsSections};
 ghost use Rattle.mps_reader.specs.Sections.{none_yet};
-ghost use Rattle.mps_reader.specs.Holding.{HasTables};
-ghost use Rattle.mps_reader.specs.Loop.{HasAll};
+ghost use Rattle.mps_reader.specs.Tables.{table};
 
-use crate::kinds::Stage;
-use crate::single::SingleFault;
-use crate::state::State;
+use crate::kinds::{Kind, Stop};
+use crate::lines::line_count;
 use crate::steps::step;
+use crate::tables::Tables;
 use mps_lines::Lines;
 use std::alloc::Global;
 use std::hash::BuildHasher;
 
-/// Takes the lines of a text up to ENDATA into empty tables.
-pub fn read_lines<'a, B: BuildHasher + Drop>(
-    alloc: Global,
-    empty: State<'a, B>,
-    text: &'a [u8],
-) -> Result<State<'a, B>, SingleFault>
-    requires size { length text.now ≤ 4194304 }
-    requires empty { HasTables empty none_yet }
-    requires start { empty.stage ≡ Stage.Start }
-    requires count { empty.count ≡ counted (table empty.rows.entries) }
-    ensures read { IfOk result (λ st. HasAll text.now st) }
-    ensures early { IsErrOf result SingleFault.Early → accepted_from none_yet (lines_of text.now) ≡ None }
+/// Why a text gives no problem.
+#[derive(Clone, Copy, Debug, PartialEq, Eq)]
+pub enum ReadFault {
+    /// The text's first fault with the number of its line, 0 where it stands at none.
+    Refused { line: u64, kind: Kind },
+    /// Memory is wanting.
+    Memory,
+}
+
+/// The fault of a line that isn't taken.
+fn fault_at(line: u64, stop: Stop) -> ReadFault
+    ensures { result ≡ fault_at line stop }
 {
-    let mut state = empty;
+    match stop {
+        Stop::Fault(kind) => ReadFault::Refused { line, kind },
+        Stop::Memory => ReadFault::Memory,
+    }
+}
+
+/// Takes the lines of a text up to ENDATA into empty tables, or finds its first fault.
+pub fn read_sections<'a, B: BuildHasher + Drop>(
+    alloc: Global,
+    empty: Tables<'a, B>,
+    text: &'a [u8],
+) -> Result<Tables<'a, B>, ReadFault>
+    requires size { length text.now ≤ 4194304 }
+    requires empty { HoldsSections empty none_yet }
+    requires count { empty.count ≡ counted (table empty.rows.entries) }
+    ensures read { IfOk result (λ st. HasSectionsOf text.now st) }
+    ensures refused { IfErr result (λ fault. IsFaultIn fault (found_in text.now)) }
+{
+    let mut tables = empty;
     let mut lines = Lines::of(text);
     loop {
         match lines.next(alloc) {
-            Ok(Some(line)) => match step(&mut state, &line) {
-                Ok(true) => return Ok(state),
+            Ok(Some(line)) => match step(alloc, &mut tables, &line) {
+                Ok(true) => return Ok(tables),
                 Ok(false) => {}
-                Err(fault) => return Err(fault),
+                Err(stop) => return Err(fault_at(line.number, stop)),
             },
-            Ok(None) => return Err(SingleFault::Early),
-            Err(_) => return Err(SingleFault::Memory),
+            Ok(None) => {
+                return Err(ReadFault::Refused {
+                    line: line_count(text),
+                    kind: Kind::NoEnd,
+                });
+            }
+            Err(_) => return Err(ReadFault::Memory),
         }
     }
 }

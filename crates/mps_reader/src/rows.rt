@@ -1,17 +1,13 @@
 //! Lines of ROWS.
 
 ghost use Rattle.std.specs.Prelude.{◌≡◌, ℕ, ◌++◌, ◌<◌, ◌≤◌, OnOk, OnErr, IfErr, None, Some, IfSome, is_some, length, Bool, IsErrOf, true, false};
-ghost use Rattle.mps_reader.specs.Single.{is_objective};
-ghost use Rattle.mps_reader.specs.Accepting.{takes_row};
 ghost use Rattle.mps_reader.specs.Words.{row_type_of, named};
 ghost use Rattle.mps_reader.specs.Sections.{row_entry};
 ghost use Rattle.mps_reader.specs.Faults.{row_fault, is_counted, counted};
 ghost use Rattle.mps_reader.specs.Tables.{texts, table, Stops};
 
 use crate::kinds::{Kind, RowType, Stop};
-use crate::lines::are_fields;
 use crate::names::{add, has};
-use crate::single::SingleFault;
 use indexmap::IndexMap;
 use std::hash::BuildHasher;
 
@@ -44,44 +40,6 @@ pub fn is_counted(kind: RowType) -> bool
     match kind {
         RowType::N => false,
         _ => true,
-    }
-}
-
-/// Whether a line is that of the objective: of type N.
-fn is_objective(word: &[u8]) -> bool
-    ensures { result ≡ is_objective (row_type_of word.now) }
-{
-    match row_type_of(word) {
-        Some(RowType::N) => true,
-        _ => false,
-    }
-}
-
-/// Takes a line of ROWS that keeps the form: the first line is the only one of type N.
-pub fn kept_row_line<'a, B: BuildHasher + Drop>(
-    rows: &mut IndexMap<&'a [u8], RowType, B>,
-    count: &mut usize,
-    fields: &[&'a [u8]],
-) -> Result<(), SingleFault>
-    requires { count.old ≡ counted (table rows.old.entries) }
-    ensures taken { OnOk result (takes_row (table rows.old.entries) (texts fields.now) ≡ true) }
-    ensures rows { OnOk result (table rows.new.entries ≡ table rows.old.entries ++ row_entry (texts fields.now)) }
-    ensures count { OnOk result (count.new ≡ counted (table rows.new.entries)) }
-    ensures early { IsErrOf result SingleFault.Early → takes_row (table rows.old.entries) (texts fields.now) ≡ false }
-{
-    if !are_fields(fields) {
-        return Err(SingleFault::Early);
-    }
-    let [word, _name] = fields else {
-        return Err(SingleFault::Early);
-    };
-    if is_objective(word) != rows.is_empty() {
-        return Err(SingleFault::Early);
-    }
-    match row_line(rows, count, fields) {
-        Ok(()) => Ok(()),
-        Err(Stop::Memory) => Err(SingleFault::Memory),
-        Err(Stop::Fault(_)) => Err(SingleFault::Early),
     }
 }
 

@@ -1,114 +1,256 @@
 //! One line after those before it.
 
-ghost use Rattle.std.specs.Prelude.{◌≡◌, ℕ, OnOk, IsErrOf, IfOk, Ok, List, Bool, true, false, Some, None, not, ◌&&◌, length};
+ghost use Rattle.std.specs.Prelude.{◌≡◌, OnOk, IfErr, IfOk, true, false, Some, None};
 ghost use Rattle.mps_lines.specs.Left.{seen};
-ghost use Rattle.mps_reader.specs.Faults.{counted};
+ghost use Rattle.mps_reader.specs.Faults.{counted, line_fault};
+ghost use Rattle.mps_reader.specs.Reading.{ends, is_end};
+ghost use Rattle.mps_reader.specs.Sectioned.{HoldsSections, more_of, with_section};
+ghost use Rattle.mps_reader.specs.Sections.{Sections, first_field, with_line};
+ghost use Rattle.mps_reader.specs.Tables.{Stops, table};
 ghost use Rattle.mps_reader.specs.Words.{section_of};
-ghost use Rattle.mps_reader.specs.Tables.{texts, table, text_of};
-ghost use Rattle.mps_reader.specs.Sections.{Sections, with_line, first_field};
-ghost use Rattle.mps_reader.specs.Holding.{HasTables};
-ghost use Rattle.mps_reader.specs.Accepting.{accepts};
-ghost use Rattle.mps_reader.specs.Stages.{next_stage, words_of, is_end};
-ghost use Rattle.mps_reader.specs.Reading.{ends};
 
-use crate::bounds::bound_line;
-use crate::columns::kept_column_line;
-use crate::kinds::Stage;
-use crate::rows::kept_row_line;
-use crate::sides::side_line;
-use crate::single::SingleFault;
-use crate::state::State;
-use crate::words::next_stage;
+use crate::fields::are_fields;
+use crate::kinds::{Kind, Section, Stop};
+use crate::order::{order_after, sense_fault, word_fault};
+use crate::row_terms::RowTerms;
+use crate::rows::row_line;
+use crate::tables::Tables;
+use crate::words::{first_field, section_of};
 use mps_lines::Line;
+use std::alloc::Global;
 use std::hash::BuildHasher;
 
-/// Takes a section line that keeps the form.
-fn word_line<'a, B: BuildHasher + Drop>(
-    state: &mut State<'a, B>,
+/// Takes the word of OBJSENSE on a data line, or says why not.
+fn sense_line<'a, B: BuildHasher + Drop>(
+    tables: &mut Tables<'a, B>,
     line: &Line<'a>,
-) -> Result<(), SingleFault>
-    ensures next { OnOk result (next_stage state.old.stage (state.old.begun && not state.old.is_marked) (section_of (first_field (texts line.now.fields.items))) (length line.now.fields.items) ≡ Some state.new.stage) }
-    ensures kept { OnOk result (state.new ≡ record state.old { stage = state.new.stage }) }
-    ensures early { IsErrOf result SingleFault.Early → next_stage state.old.stage (state.old.begun && not state.old.is_marked) (section_of (first_field (texts line.now.fields.items))) (length line.now.fields.items) ≡ None }
-{
-    match next_stage(
-        state.stage,
-        state.begun && !state.is_marked,
-        line.fields.as_slice(),
-    ) {
-        Some(stage) => {
-            state.stage = stage;
-            Ok(())
-        }
-        None => Err(SingleFault::Early),
-    }
-}
-
-/// Takes a data line that keeps the form and has no fault.
-fn data_line<'a, B: BuildHasher + Drop>(
-    state: &mut State<'a, B>,
-    line: &Line<'a>,
-) -> Result<(), SingleFault>
-    requires { state.old.count ≡ counted (table state.old.rows.entries) }
-    ensures accepted { (s : Sections) → HasTables state.old s → s.words ≡ words_of state.old.stage → line.now.is_data ≡ true → OnOk result (accepts s (seen line.now) ≡ true) }
-    ensures held { (s : Sections) → HasTables state.old s → s.words ≡ words_of state.old.stage → line.now.is_data ≡ true → OnOk result (HasTables state.new (with_line s (seen line.now))) }
-    ensures stage { OnOk result (state.new.stage ≡ state.old.stage) }
-    ensures count { OnOk result (state.new.count ≡ counted (table state.new.rows.entries)) }
-    ensures early { (s : Sections) → HasTables state.old s → s.words ≡ words_of state.old.stage → line.now.is_data ≡ true → IsErrOf result SingleFault.Early → accepts s (seen line.now) ≡ false }
+) -> Result<(), Stop>
+    requires { tables.old.count ≡ counted (table tables.old.rows.entries) }
+    ensures ok { (s : Sections) → HoldsSections tables.old s → line.now.is_data ≡ true → tables.old.order.last ≡ Some Section.ObjSense → OnOk result (
+        (line_fault s (seen line.now) ≡ None) × HoldsSections tables.new (with_line s (seen line.now))) }
+    ensures err { (s : Sections) → HoldsSections tables.old s → line.now.is_data ≡ true → tables.old.order.last ≡ Some Section.ObjSense → IfErr result (λ stop.
+        Stops stop (line_fault s (seen line.now))) }
+    ensures count { OnOk result (tables.new.count ≡ counted (table tables.new.rows.entries)) }
 {
     let fields = line.fields.as_slice();
-    match state.stage {
-        Stage::Rows => kept_row_line(&mut state.rows, &mut state.count, fields),
-        Stage::Columns => kept_column_line(
-            &mut state.columns,
-            &state.rows,
-            &mut state.begun,
-            &mut state.is_marked,
-            line.number,
-            fields,
-        ),
-        Stage::Rhs => side_line(&state.rows, &mut state.sides, &mut state.side_set, fields),
-        Stage::Bounds => bound_line(
-            &state.columns.columns,
-            &mut state.bounds,
-            &mut state.bound_set,
-            fields,
-        ),
-        Stage::Start | Stage::Name | Stage::End => Err(SingleFault::Early),
+    if fields.len() != 1 || tables.order.has_sense {
+        return Err(Stop::Fault(Kind::BadSection));
+    }
+    match sense_fault(first_field(fields)) {
+        Some(kind) => Err(Stop::Fault(kind)),
+        None => {
+            tables.order.has_sense = true;
+            Ok(())
+        }
     }
 }
 
-/// Takes a line that keeps the form and has no fault, and says whether it is the last one.
-pub fn step<'a, B: BuildHasher + Drop>(
-    state: &mut State<'a, B>,
+/// Takes a line of ROWS, or says why not.
+fn rows_line<'a, B: BuildHasher + Drop>(
+    alloc: Global,
+    tables: &mut Tables<'a, B>,
     line: &Line<'a>,
-) -> Result<bool, SingleFault>
-    requires { state.old.count ≡ counted (table state.old.rows.entries) }
-    ensures accepted { (s : Sections) → HasTables state.old s → s.words ≡ words_of state.old.stage → OnOk result (accepts s (seen line.now) ≡ true) }
-    ensures more { (s : Sections) → HasTables state.old s → s.words ≡ words_of state.old.stage → result ≡ Ok false → (ends (seen line.now) ≡ false)
-        × HasTables state.new (with_line s (seen line.now)) × ((with_line s (seen line.now)).words ≡ words_of state.new.stage) }
-    ensures last { (s : Sections) → HasTables state.old s → s.words ≡ words_of state.old.stage → result ≡ Ok true → (ends (seen line.now) ≡ true) × HasTables state.new s }
-    ensures count { OnOk result (state.new.count ≡ counted (table state.new.rows.entries)) }
-    ensures early { (s : Sections) → HasTables state.old s → s.words ≡ words_of state.old.stage → IsErrOf result SingleFault.Early → accepts s (seen line.now) ≡ false }
+) -> Result<(), Stop>
+    requires { tables.old.count ≡ counted (table tables.old.rows.entries) }
+    ensures ok { (s : Sections) → HoldsSections tables.old s → line.now.is_data ≡ true → tables.old.order.last ≡ Some Section.Rows → OnOk result (
+        (line_fault s (seen line.now) ≡ None) × HoldsSections tables.new (with_line s (seen line.now))) }
+    ensures err { (s : Sections) → HoldsSections tables.old s → line.now.is_data ≡ true → tables.old.order.last ≡ Some Section.Rows → IfErr result (λ stop.
+        Stops stop (line_fault s (seen line.now))) }
+    ensures count { OnOk result (tables.new.count ≡ counted (table tables.new.rows.entries)) }
 {
-    if line.is_data {
-        return match data_line(state, line) {
-            Ok(()) => Ok(false),
-            Err(fault) => Err(fault),
-        };
+    let fields = line.fields.as_slice();
+    if !are_fields(fields) {
+        return Err(Stop::Fault(Kind::BadFields));
     }
-    match word_line(state, line) {
-        Ok(()) => Ok(is_last(state.stage)),
-        Err(fault) => Err(fault),
+    row_line(&mut tables.rows, &mut tables.count, fields)?;
+    match tables.columns.rows.push(RowTerms::new(alloc)) {
+        Ok(()) => Ok(()),
+        Err(_) => Err(Stop::Memory),
     }
 }
 
-/// Whether a text ends at this stage.
-fn is_last(stage: Stage) -> bool
-    ensures { result ≡ is_end stage }
+/// Takes a line of COLUMNS, or says why not.
+fn columns_line<'a, B: BuildHasher + Drop>(
+    tables: &mut Tables<'a, B>,
+    line: &Line<'a>,
+) -> Result<(), Stop>
+    requires { tables.old.count ≡ counted (table tables.old.rows.entries) }
+    ensures ok { (s : Sections) → HoldsSections tables.old s → line.now.is_data ≡ true → tables.old.order.last ≡ Some Section.Columns → OnOk result (
+        (line_fault s (seen line.now) ≡ None) × HoldsSections tables.new (with_line s (seen line.now))) }
+    ensures err { (s : Sections) → HoldsSections tables.old s → line.now.is_data ≡ true → tables.old.order.last ≡ Some Section.Columns → IfErr result (λ stop.
+        Stops stop (line_fault s (seen line.now))) }
+    ensures count { OnOk result (tables.new.count ≡ counted (table tables.new.rows.entries)) }
 {
-    match stage {
-        Stage::End => true,
+    let fields = line.fields.as_slice();
+    if !are_fields(fields) {
+        return Err(Stop::Fault(Kind::BadFields));
+    }
+    tables
+        .columns
+        .take_line(&tables.rows, &mut tables.is_marked, line.number, fields)
+}
+
+/// Takes a line of RHS, or says why not.
+fn rhs_line<'a, B: BuildHasher + Drop>(
+    tables: &mut Tables<'a, B>,
+    line: &Line<'a>,
+) -> Result<(), Stop>
+    requires { tables.old.count ≡ counted (table tables.old.rows.entries) }
+    ensures ok { (s : Sections) → HoldsSections tables.old s → line.now.is_data ≡ true → tables.old.order.last ≡ Some Section.Rhs → OnOk result (
+        (line_fault s (seen line.now) ≡ None) × HoldsSections tables.new (with_line s (seen line.now))) }
+    ensures err { (s : Sections) → HoldsSections tables.old s → line.now.is_data ≡ true → tables.old.order.last ≡ Some Section.Rhs → IfErr result (λ stop.
+        Stops stop (line_fault s (seen line.now))) }
+    ensures count { OnOk result (tables.new.count ≡ counted (table tables.new.rows.entries)) }
+{
+    let fields = line.fields.as_slice();
+    if !are_fields(fields) {
+        return Err(Stop::Fault(Kind::BadFields));
+    }
+    tables
+        .rhs
+        .take_line(&tables.rows, tables.count, false, fields)
+}
+
+/// Takes a line of RANGES, or says why not.
+fn ranges_line<'a, B: BuildHasher + Drop>(
+    tables: &mut Tables<'a, B>,
+    line: &Line<'a>,
+) -> Result<(), Stop>
+    requires { tables.old.count ≡ counted (table tables.old.rows.entries) }
+    ensures ok { (s : Sections) → HoldsSections tables.old s → line.now.is_data ≡ true → tables.old.order.last ≡ Some Section.Ranges → OnOk result (
+        (line_fault s (seen line.now) ≡ None) × HoldsSections tables.new (with_line s (seen line.now))) }
+    ensures err { (s : Sections) → HoldsSections tables.old s → line.now.is_data ≡ true → tables.old.order.last ≡ Some Section.Ranges → IfErr result (λ stop.
+        Stops stop (line_fault s (seen line.now))) }
+    ensures count { OnOk result (tables.new.count ≡ counted (table tables.new.rows.entries)) }
+{
+    let fields = line.fields.as_slice();
+    if !are_fields(fields) {
+        return Err(Stop::Fault(Kind::BadFields));
+    }
+    tables
+        .ranges
+        .take_line(&tables.rows, tables.count, true, fields)
+}
+
+/// Takes a line of BOUNDS, or says why not.
+fn bounds_line<'a, B: BuildHasher + Drop>(
+    tables: &mut Tables<'a, B>,
+    line: &Line<'a>,
+) -> Result<(), Stop>
+    requires { tables.old.count ≡ counted (table tables.old.rows.entries) }
+    ensures ok { (s : Sections) → HoldsSections tables.old s → line.now.is_data ≡ true → tables.old.order.last ≡ Some Section.Bounds → OnOk result (
+        (line_fault s (seen line.now) ≡ None) × HoldsSections tables.new (with_line s (seen line.now))) }
+    ensures err { (s : Sections) → HoldsSections tables.old s → line.now.is_data ≡ true → tables.old.order.last ≡ Some Section.Bounds → IfErr result (λ stop.
+        Stops stop (line_fault s (seen line.now))) }
+    ensures count { OnOk result (tables.new.count ≡ counted (table tables.new.rows.entries)) }
+{
+    let fields = line.fields.as_slice();
+    if !are_fields(fields) {
+        return Err(Stop::Fault(Kind::BadFields));
+    }
+    tables.bounds.take_line(&tables.columns.columns, fields)
+}
+
+/// Takes a data line, or says why not.
+fn data_line<'a, B: BuildHasher + Drop>(
+    alloc: Global,
+    tables: &mut Tables<'a, B>,
+    line: &Line<'a>,
+) -> Result<(), Stop>
+    requires { tables.old.count ≡ counted (table tables.old.rows.entries) }
+    ensures ok { (s : Sections) → HoldsSections tables.old s → line.now.is_data ≡ true → OnOk result (
+        (line_fault s (seen line.now) ≡ None) × HoldsSections tables.new (with_line s (seen line.now))) }
+    ensures err { (s : Sections) → HoldsSections tables.old s → line.now.is_data ≡ true → IfErr result (λ stop. Stops stop (line_fault s (seen line.now))) }
+    ensures count { OnOk result (tables.new.count ≡ counted (table tables.new.rows.entries)) }
+{
+    match tables.order.last {
+        Some(Section::ObjSense) => sense_line(tables, line),
+        Some(Section::Rows) => rows_line(alloc, tables, line),
+        Some(Section::Columns) => columns_line(tables, line),
+        Some(Section::Rhs) => rhs_line(tables, line),
+        Some(Section::Ranges) => ranges_line(tables, line),
+        Some(Section::Bounds) => bounds_line(tables, line),
+        Some(Section::Name | Section::EndData) | None => Err(Stop::Fault(Kind::BadSection)),
+    }
+}
+
+/// Keeps a section word that may stand here.
+fn keep_word<'a, B: BuildHasher + Drop>(tables: &mut Tables<'a, B>, word: Section, line: &Line<'a>)
+    ensures { tables.new ≡ with_section word (more_of (seen line.now)) line.now.number tables.old }
+{
+    tables.order = order_after(tables.order, word, line.fields.as_slice());
+    match word {
+        Section::Rows => tables.rows_at = line.number,
+        _ => {}
+    }
+}
+
+/// Takes a line of this section word and says whether it is ENDATA, or says why not.
+fn known_line<'a, B: BuildHasher + Drop>(
+    tables: &mut Tables<'a, B>,
+    word: Section,
+    line: &Line<'a>,
+) -> Result<bool, Stop>
+    requires { tables.old.count ≡ counted (table tables.old.rows.entries) }
+    ensures ok { (s : Sections) → HoldsSections tables.old s → line.now.is_data ≡ false → section_of (first_field (seen line.now).fields) ≡ Some word → IfOk result (λ last.
+        (line_fault s (seen line.now) ≡ None) × (last ≡ ends (seen line.now)) × HoldsSections tables.new (with_line s (seen line.now))) }
+    ensures err { (s : Sections) → HoldsSections tables.old s → line.now.is_data ≡ false → section_of (first_field (seen line.now).fields) ≡ Some word → IfErr result (λ stop.
+        Stops stop (line_fault s (seen line.now))) }
+    ensures count { OnOk result (tables.new.count ≡ counted (table tables.new.rows.entries)) }
+{
+    match word_fault(tables.order, word, line.fields.as_slice()) {
+        Some(kind) => Err(Stop::Fault(kind)),
+        None => {
+            keep_word(tables, word, line);
+            Ok(is_last(word))
+        }
+    }
+}
+
+/// Takes a section line and says whether it is ENDATA, or says why not.
+fn word_line<'a, B: BuildHasher + Drop>(
+    tables: &mut Tables<'a, B>,
+    line: &Line<'a>,
+) -> Result<bool, Stop>
+    requires { tables.old.count ≡ counted (table tables.old.rows.entries) }
+    ensures ok { (s : Sections) → HoldsSections tables.old s → line.now.is_data ≡ false → IfOk result (λ last. (line_fault s (seen line.now) ≡ None)
+        × (last ≡ ends (seen line.now)) × HoldsSections tables.new (with_line s (seen line.now))) }
+    ensures err { (s : Sections) → HoldsSections tables.old s → line.now.is_data ≡ false → IfErr result (λ stop. Stops stop (line_fault s (seen line.now))) }
+    ensures count { OnOk result (tables.new.count ≡ counted (table tables.new.rows.entries)) }
+{
+    match section_of(first_field(line.fields.as_slice())) {
+        Some(word) => known_line(tables, word, line),
+        None => Err(Stop::Fault(Kind::BadSection)),
+    }
+}
+
+/// Whether a text ends with this section.
+fn is_last(word: Section) -> bool
+    ensures { result ≡ is_end (Some word) }
+{
+    match word {
+        Section::EndData => true,
         _ => false,
+    }
+}
+
+/// Takes a line and says whether it is ENDATA, or says why not.
+pub fn step<'a, B: BuildHasher + Drop>(
+    alloc: Global,
+    tables: &mut Tables<'a, B>,
+    line: &Line<'a>,
+) -> Result<bool, Stop>
+    requires { tables.old.count ≡ counted (table tables.old.rows.entries) }
+    ensures ok { (s : Sections) → HoldsSections tables.old s → IfOk result (λ last. (line_fault s (seen line.now) ≡ None)
+        × (last ≡ ends (seen line.now)) × HoldsSections tables.new (with_line s (seen line.now))) }
+    ensures err { (s : Sections) → HoldsSections tables.old s → IfErr result (λ stop. Stops stop (line_fault s (seen line.now))) }
+    ensures count { OnOk result (tables.new.count ≡ counted (table tables.new.rows.entries)) }
+{
+    if !line.is_data {
+        return word_line(tables, line);
+    }
+    match data_line(alloc, tables, line) {
+        Ok(()) => Ok(false),
+        Err(stop) => Err(stop),
     }
 }

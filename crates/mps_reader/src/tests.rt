@@ -1,131 +1,83 @@
 use super::*;
-use problem::{Problem, Sense, Terms};
+use problem::{Problem, Sense};
 use problem_box::Span;
 use std::hash::{BuildHasherDefault, DefaultHasher};
 
 /// What a text reads as.
-fn read(rt: &HostRuntime, text: &[u8]) -> Result<Problem, SingleFault> {
+fn read(rt: &HostRuntime, text: &str, upper: Option<u32>) -> Result<Problem, ReadFault> {
     let keys: BuildHasherDefault<DefaultHasher> = BuildHasherDefault::new();
-    read_single(rt.alloc(), keys, text)
-}
-
-/// Whether a text is refused as not of the form.
-fn is_early(rt: &HostRuntime, text: &[u8]) -> bool {
-    match read(rt, text) {
-        Err(SingleFault::Early) => true,
-        _ => false,
+    match upper {
+        Some(upper) if upper > 1_000_000_000 => Err(ReadFault::Memory),
+        _ => read_mps(rt.alloc(), keys, text.as_bytes(), upper),
     }
 }
 
-/// Whether these are the terms, with whole coefficients.
-fn are(terms: &Terms, expected: &[(u32, i128)]) -> bool {
-    let terms = terms.as_slice();
-    if terms.len() != expected.len() {
-        return false;
-    }
-    for (index, term) in terms.iter().enumerate() {
-        if term.0 != expected[index].0
-            || term.1.numer() != expected[index].1
-            || term.1.denom() != 1
-        {
-            return false;
-        }
-    }
-    true
+/// Whether a problem's column has this span.
+fn has_span(problem: &Problem, column: usize, lo: i64, hi: i64) -> bool {
+    problem.limits_hold();
+    column < problem.columns() && problem.root().span(column) == Span { lo, hi }
 }
 
-/// Whether a row is there with this sense, whole right side and terms.
-fn has_row(
-    problem: &Problem,
-    index: usize,
-    sense: Sense,
-    rhs: i128,
-    terms: &[(u32, i128)],
-) -> bool {
+/// Whether a problem's row has this sense and whole right side.
+fn has_side(problem: &Problem, index: usize, sense: Sense, rhs: i128) -> bool {
     if index >= problem.rows() {
         return false;
     }
     let row = problem.row(index);
-    row.sense == sense && row.rhs.numer() == rhs && row.rhs.denom() == 1 && are(&row.terms, terms)
+    row.sense == sense && row.rhs.numer() == rhs && row.rhs.denom() == 1
 }
 
-/// Whether a column is there with this name and one number.
-fn has_column(problem: &Problem, index: usize, name: &[u8], number: i64) -> bool {
-    problem.limits_hold();
-    if index >= problem.columns() {
-        return false;
+// One text of each kind of fault that a section can have, as the rules of the format give its line.
+#[test]
+fn refuses_at_the_first_fault(rt: HostRuntime) {
+    let refused = [
+        ("ROWS\n* more\r\n", 2, Kind::NoEnd),
+        ("OBJSENSE\n MAX\n", 2, Kind::Maximise),
+        ("ROWS\n N r\n G r\n", 3, Kind::Duplicate),
+        ("ROWS\n G r\nCOLUMNS\n x q 1e10\n", 4, Kind::UnknownRow),
+        (
+            "ROWS\n G r\nCOLUMNS\nRHS\n s r 1\n t q 2\n",
+            6,
+            Kind::ManySets,
+        ),
+        (
+            "ROWS\n G r\nCOLUMNS\n x r 1\nBOUNDS\n UP x -inf\n",
+            6,
+            Kind::Infinite,
+        ),
+        (
+            "ROWS\n N o\nCOLUMNS\n x o 1\nBOUNDS\n UI x -1\nENDATA\n",
+            4,
+            Kind::NegativeUpper,
+        ),
+    ];
+    for (text, line, kind) in refused {
+        match read(&rt, text, None) {
+            Err(fault) => assert!(rt; fault == ReadFault::Refused { line, kind }),
+            Ok(_) => panic!(rt; "read"),
+        }
     }
-    let span = Span {
-        lo: number,
-        hi: number,
-    };
-    problem.name(index) == name && problem.root().span(index) == span
 }
 
 #[test]
-fn reads_one_column(rt: HostRuntime) {
+fn reads_bounds(rt: HostRuntime) {
     let text =
-        b"NAME one\nROWS\n N obj\n G r\nCOLUMNS\n m 'MARKER' 'INTORG'\n x obj 3 r 1\n m 'MARKER' 'INTEND'\nRHS\n rhs r 1\nBOUNDS\n FX b x 2\nENDATA\n";
-    let Ok(problem) = read(&rt, text.as_slice()) else {
+        "ROWS\n N o\nCOLUMNS\n m 'MARKER' 'INTORG'\n x o 1\n z o 1\nBOUNDS\n UP b x 3.5\n LO x -1.5\n MI b z junk\n UP z 9\nENDATA\n";
+    let Ok(problem) = read(&rt, text, Some(7)) else {
         panic!(rt; "refused");
     };
-    assert_eq!(rt; problem.columns(), 1);
-    assert_eq!(rt; problem.rows(), 1);
-    assert!(rt; has_column(&problem, 0, b"x".as_slice(), 2));
-    assert!(rt; has_row(&problem, 0, Sense::G, 1, &[(0, 1)]));
-    assert!(rt; are(problem.objective(), &[(0, 3)]));
+    assert!(rt; has_span(&problem, 0, -1, 3));
+    assert!(rt; has_span(&problem, 1, -7, 9));
 }
 
 #[test]
-fn reads_rows_in_order(rt: HostRuntime) {
+fn reads_ranges(rt: HostRuntime) {
     let text =
-        b"* each sense\r\nNAME\r\nROWS\r\n N obj\r\n G r\r\n L s\r\n E t\r\n G u\r\nCOLUMNS\r\n m 'MARKER' 'INTORG'\r\n x t 2 obj 3\r\n x r 1\r\n y s -1 obj 0\r\n y t 1\r\n m 'MARKER' 'INTEND'\r\nRHS\r\n rhs t 7\r\n rhs r 2\r\nBOUNDS\r\n FX b y 3\r\n FX b x 2\r\nENDATA";
-    let Ok(problem) = read(&rt, text.as_slice()) else {
+        "ROWS\n N o\n L l\n E f\n G h\nCOLUMNS\nRHS\n l 2\n s f 4\nRANGES\n l 5 f -5\nENDATA\n";
+    let Ok(problem) = read(&rt, text, None) else {
         panic!(rt; "refused");
     };
-    assert_eq!(rt; problem.columns(), 2);
-    assert_eq!(rt; problem.rows(), 4);
-    assert!(rt; has_column(&problem, 0, b"x".as_slice(), 2));
-    assert!(rt; has_column(&problem, 1, b"y".as_slice(), 3));
-    assert!(rt; has_row(&problem, 0, Sense::G, 2, &[(0, 1)]));
-    assert!(rt; has_row(&problem, 1, Sense::L, 0, &[(1, -1)]));
-    assert!(rt; has_row(&problem, 2, Sense::E, 7, &[(0, 2), (1, 1)]));
-    assert!(rt; has_row(&problem, 3, Sense::G, 0, &[]));
-    assert!(rt; are(problem.objective(), &[(0, 3)]));
-}
-
-#[test]
-fn refuses_other_forms(rt: HostRuntime) {
-    assert!(rt; is_early(&rt, b"".as_slice()));
-    assert!(rt; is_early(&rt, b"ROWS\n".as_slice()));
-    assert!(rt; is_early(&rt, b"NAME a\nOBJSENSE MAX\n".as_slice()));
-    assert!(rt; is_early(&rt, b"NAME a\nROWS\n G r\n".as_slice()));
-    assert!(rt; is_early(&rt, b"NAME a\nROWS\n N obj\n N other\n".as_slice()));
-    assert!(rt; is_early(&rt, b"NAME a\nROWS\n N obj\n G obj\n".as_slice()));
-    assert!(rt; is_early(&rt, b"NAME a\nROWS\n N obj\nCOLUMNS\n x obj 1\n".as_slice()));
-}
-
-#[test]
-fn refuses_other_problems(rt: HostRuntime) {
-    // x doesn't satisfy r
-    assert!(rt;
-        is_early(
-            &rt,
-            b"NAME\nROWS\n N obj\n G r\nCOLUMNS\n m 'MARKER' 'INTORG'\n x obj 3 r 1\n m 'MARKER' 'INTEND'\nRHS\n rhs r 3\nBOUNDS\n FX b x 2\nENDATA\n".as_slice()
-        )
-    );
-    // y has no bound
-    assert!(rt;
-        is_early(
-            &rt,
-            b"NAME\nROWS\n N obj\nCOLUMNS\n m 'MARKER' 'INTORG'\n x obj 3\n y obj 1\n m 'MARKER' 'INTEND'\nRHS\nBOUNDS\n FX b x 2\nENDATA\n".as_slice()
-        )
-    );
-    // there is no objective
-    assert!(rt;
-        is_early(
-            &rt,
-            b"NAME\nROWS\nCOLUMNS\n m 'MARKER' 'INTORG'\n m 'MARKER' 'INTEND'\nRHS\nBOUNDS\nENDATA\n".as_slice()
-        )
-    );
+    assert!(rt; has_side(&problem, 0, Sense::G, -3) && has_side(&problem, 1, Sense::L, 2));
+    assert!(rt; has_side(&problem, 2, Sense::G, -1) && has_side(&problem, 3, Sense::L, 4));
+    assert!(rt; has_side(&problem, 4, Sense::G, 0));
 }

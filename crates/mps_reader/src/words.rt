@@ -1,15 +1,14 @@
-//! Section lines.
+//! Words of sections and of bounds.
 
 ghost use Rattle.std.specs.Prelude.{◌≡◌, ℕ, IfSome, None, Some, List, [], ◌∷◌, true, false, is_some, length};
-ghost use Rattle.mps_reader.specs.Words.{section_of};
+ghost use Rattle.mps_reader.specs.Words.{bound_type_of, section_of};
 ghost use Rattle.mps_reader.specs.Sections.{first_field};
 ghost use Rattle.mps_reader.specs.Tables.{texts};
-ghost use Rattle.mps_reader.specs.Stages.{next_stage};
 
-use crate::kinds::{Section, Stage};
+use crate::kinds::{BoundType, Section};
 
 /// The section that a word names.
-fn section_of(word: &[u8]) -> Option<Section>
+pub fn section_of(word: &[u8]) -> Option<Section>
     ensures { result ≡ section_of word.now }
 {
     if word == b"NAME".as_slice() {
@@ -40,7 +39,7 @@ fn section_of(word: &[u8]) -> Option<Section>
 }
 
 /// The first field, or nothing.
-fn first_field<'a>(fields: &[&'a [u8]]) -> &'a [u8]
+pub fn first_field<'a>(fields: &[&'a [u8]]) -> &'a [u8]
     ensures { result.now ≡ first_field (texts fields.now) }
 {
     match fields {
@@ -49,18 +48,36 @@ fn first_field<'a>(fields: &[&'a [u8]]) -> &'a [u8]
     }
 }
 
-/// The stage behind a section line, where the line keeps the form.
-pub fn next_stage(stage: Stage, is_closed: bool, fields: &[&[u8]]) -> Option<Stage>
-    ensures { result ≡ next_stage stage is_closed (section_of (first_field (texts fields.now))) (length fields.now) }
+/// The type of a bound that a word names.
+pub fn bound_type_of(word: &[u8]) -> Option<BoundType>
+    ensures { result ≡ bound_type_of word.now }
 {
-    let alone = fields.len() <= 1;
-    match (stage, section_of(first_field(fields))) {
-        (Stage::Start, Some(Section::Name)) => Some(Stage::Name),
-        (Stage::Name, Some(Section::Rows)) if alone => Some(Stage::Rows),
-        (Stage::Rows, Some(Section::Columns)) if alone => Some(Stage::Columns),
-        (Stage::Columns, Some(Section::Rhs)) if alone && is_closed => Some(Stage::Rhs),
-        (Stage::Rhs, Some(Section::Bounds)) if alone => Some(Stage::Bounds),
-        (Stage::Bounds, Some(Section::EndData)) if alone => Some(Stage::End),
-        _ => None,
+    if word == b"UP".as_slice() {
+        return Some(BoundType::Up);
     }
+    if word == b"LO".as_slice() {
+        return Some(BoundType::Lo);
+    }
+    if word == b"FX".as_slice() {
+        return Some(BoundType::Fx);
+    }
+    if word == b"LI".as_slice() {
+        return Some(BoundType::Li);
+    }
+    if word == b"UI".as_slice() {
+        return Some(BoundType::Ui);
+    }
+    if word == b"FR".as_slice() {
+        return Some(BoundType::Fr);
+    }
+    if word == b"MI".as_slice() {
+        return Some(BoundType::Mi);
+    }
+    if word == b"PL".as_slice() {
+        return Some(BoundType::Pl);
+    }
+    if word == b"BV".as_slice() {
+        return Some(BoundType::Bv);
+    }
+    None
 }

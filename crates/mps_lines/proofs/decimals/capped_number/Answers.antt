@@ -1,4 +1,4 @@
-use Rattle.std.proofs.Common.{◌≡◌, ℕ, ◌+◌, ◌-◌, ◌*◌, ◌<◌, ◌≤◌, ◌^◌, Bool, true, List, length, take, drop, get_or, refl, sym, ap, ◌∙◌, arith, add-one, ◌++◌, rules}
+use Rattle.std.proofs.Common.{◌+◌, ◌*◌, get_or, refl, ap, ◌∙◌}
 use Rattle.mps_lines.specs.Decimals.{capped}
 use Rattle.mps_lines.specs.Places.{capped_more}
 use Rattle.mps_lines.proofs.decimals.capped_number.Goals as goal

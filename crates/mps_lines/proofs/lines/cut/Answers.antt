@@ -1,4 +1,4 @@
-use Rattle.std.proofs.Common.{◌≡◌, ◌<◌, ◌+◌, length, ap, ◌∙◌, arith, sym, ◌∷◌}
+use Rattle.std.proofs.Common.{◌<◌, ◌+◌, length, ap, ◌∙◌, arith, sym, ◌∷◌}
 use Rattle.std.proofs.lemmas.List.{take_rest}
 use Rattle.mps_lines.specs.Lines.{raw_lines}
 use Rattle.mps_lines.specs.Ends.{cut_at, last_line}

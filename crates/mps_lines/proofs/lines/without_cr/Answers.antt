@@ -1,4 +1,4 @@
-use Rattle.std.proofs.Common.{◌≡◌, ◌-◌, length, ap, ◌∙◌, arith, sym, suc, ne_eqb}
+use Rattle.std.proofs.Common.{◌-◌, length, arith, sym, ne_eqb}
 use Rattle.mps_lines.specs.Ends.{cr_cut, cr_kept}
 use Rattle.mps_lines.proofs.lines.without_cr.Goals as goal
 

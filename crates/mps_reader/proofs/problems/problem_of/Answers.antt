@@ -1,45 +1,45 @@
-use Rattle.std.proofs.Common.{◌<◌, List, All, length, sym, subst}
-use Rattle.problem.specs.Program.{Program}
-use Rattle.problem.specs.Rising.{AreRising, AreNonzero}
-use Rattle.mps_reader.specs.Placing.{all_placed, terms_in}
-use Rattle.mps_reader.specs.Tables.{table, text_of}
-use Rattle.mps_reader.specs.Tabled.{IsTabled, keeps_limited, columns_below, names_ascii, tabled_by, tabled_limits}
-use Rattle.mps_reader.specs.declared.columns.Placed.{Placed}
+use Rattle.std.proofs.Common.{Ok, Err, sym, ap, ◌∙◌}
+use Rattle.mps_reader.specs.Finished.{kept_names, made_limited, made_said, nothing_said, parts_count, parts_nonzero, parts_ranges, parts_rising, parts_sides, refusal_said}
+use Rattle.mps_reader.specs.TableLimits.{names_ascii}
+use Rattle.mps_reader.specs.declared.kinds.Kind.TheVariants as kind
 use Rattle.mps_reader.proofs.problems.problem_of.Goals as goal
 
-pub rows_and_objective-requires-clause-columns : goal.rows_and_objective-requires-clause-columns
-rows_and_objective-requires-clause-columns g c =
-    let k = c.requires.limits.columns in
-    subst (λ (es : List Placed). All (λ (e : Placed). e.column < 1000) es) (sym c.as_slice.ensures.value)
-    (columns_below (length (table c.args.state.now.columns.columns.entries)) c.args.state.now.columns.placed.items k.few k.places)
+pub ranged_parts-requires-clause-count : goal.ranged_parts-requires-clause-count
+ranged_parts-requires-clause-count g c = parts_count c.args.tables c.args.upper c.requires
 
-pub rows_and_objective-requires-clause-rising : goal.rows_and_objective-requires-clause-rising
-rows_and_objective-requires-clause-rising g c name =
-    let st = c.args.state.now in
-    subst (λ (es : List Placed). AreRising (terms_in name (all_placed es))) (sym c.as_slice.ensures.value)
-    (keeps_limited (table st.columns.columns.entries) (table st.columns.run.entries) (text_of st.columns.last) (all_placed st.columns.placed.items) c.requires.limits.columns name).rising
+pub ranged_parts-requires-clause-rising : goal.ranged_parts-requires-clause-rising
+ranged_parts-requires-clause-rising g c = parts_rising c.args.tables c.args.upper c.requires
 
-pub rows_and_objective-requires-clause-nonzero : goal.rows_and_objective-requires-clause-nonzero
-rows_and_objective-requires-clause-nonzero g c name =
-    let st = c.args.state.now in
-    subst (λ (es : List Placed). AreNonzero (terms_in name (all_placed es))) (sym c.as_slice.ensures.value)
-    (keeps_limited (table st.columns.columns.entries) (table st.columns.run.entries) (text_of st.columns.last) (all_placed st.columns.placed.items) c.requires.limits.columns name).nonzero
+pub ranged_parts-requires-clause-nonzero : goal.ranged_parts-requires-clause-nonzero
+ranged_parts-requires-clause-nonzero g c = parts_nonzero c.args.tables c.args.upper c.requires
+
+pub ranged_parts-requires-clause-sides : goal.ranged_parts-requires-clause-sides
+ranged_parts-requires-clause-sides g c name = parts_sides c.args.tables c.args.upper c.requires name
+
+pub ranged_parts-requires-clause-ranges : goal.ranged_parts-requires-clause-ranges
+ranged_parts-requires-clause-ranges g c name = parts_ranges c.args.tables c.args.upper c.requires name
 
 pub column_names-requires : goal.column_names-requires
-column_names-requires g c = names_ascii c.args.state.now.columns.columns.entries c.requires.limits.columns.names
+column_names-requires g c = names_ascii c.args.tables.columns.columns.entries (kept_names c.args.tables c.args.upper c.requires)
+
+pub returns-in_default-objective-clause-err : goal.returns-in_default-objective-clause-err
+returns-in_default-objective-clause-err g c s h =
+    nothing_said c.args.tables s h c.args.upper (sym c.in_default-objective.is ∙ c.in-Ok.ensures.objective) ∙ ap (λ n. Err (n, kind.NoObjective)) (sym h.rows_at)
+
+pub returns-in-Err-clause-err : goal.returns-in-Err-clause-err
+returns-in-Err-clause-err g c s h =
+    refusal_said c.args.tables s h c.args.upper c.in-Some.objective (sym c.in-Some.is ∙ c.in-Ok.ensures.objective)
+    c.in-Err.fault c.in-Err.ensures.fault
 
 pub make-requires-2 : goal.make-requires-2
 make-requires-2 g c =
-    let st = c.args.state.now in
-    let p : Program = record { names = c.in-Ok-column_names.names; rows = c.in-Ok.parts.rows.items; objective = c.in-Some.objective; spans = c.make.result } in
-    tabled_limits st c.requires.limits c.requires.bounds p
-    (tabled_by st c.as_slice.result.now c.as_slice.ensures.value p c.in-Ok.parts.objective c.in-Ok-fixed_spans.spans.items c.in-Ok-column_names.ensures c.in-Ok.ensures.rows c.in-Ok.ensures.objective c.in-Some.is
-    c.in-Ok-fixed_spans.ensures.spans c.make.ensures)
+    let k = c.requires in
+    made_limited c.args.tables k.s k.tables c.args.upper c.in-Some.objective (sym c.in-Some.is ∙ c.in-Ok.ensures.objective)
+    c.in-Ok-spans_or_fault.spans.items c.in-Ok-spans_or_fault.ensures.spans c.in-Ok-column_names.names c.in-Ok-column_names.ensures c.in-Ok.parts.rows.items c.in-Ok.ensures.rows c.make.result c.make.ensures k.keeps k.modest
 
-pub returns-clause-problem : goal.returns-clause-problem
-returns-clause-problem g c =
-    let st = c.args.state.now in
-    let p : Program = record { names = c.in-Ok-column_names.names; rows = c.in-Ok.parts.rows.items; objective = c.in-Some.objective; spans = c.make.result } in
-    subst (λ (p : Program). IsTabled st p) (sym c.make-2.ensures)
-    (tabled_by st c.as_slice.result.now c.as_slice.ensures.value p c.in-Ok.parts.objective c.in-Ok-fixed_spans.spans.items c.in-Ok-column_names.ensures c.in-Ok.ensures.rows c.in-Ok.ensures.objective c.in-Some.is
-    c.in-Ok-fixed_spans.ensures.spans c.make.ensures)
+pub returns-clause-ok : goal.returns-clause-ok
+returns-clause-ok g c s h =
+    let k = c.requires in
+    made_said c.args.tables s h c.args.upper c.in-Some.objective (sym c.in-Some.is ∙ c.in-Ok.ensures.objective)
+    c.in-Ok-spans_or_fault.spans.items c.in-Ok-spans_or_fault.ensures.spans c.in-Ok-column_names.names c.in-Ok-column_names.ensures c.in-Ok.parts.rows.items c.in-Ok.ensures.rows c.make.result c.make.ensures
+    ∙ ap Ok (sym c.make-2.ensures)

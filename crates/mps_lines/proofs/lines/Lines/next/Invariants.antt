@@ -1,4 +1,4 @@
-use Rattle.std.proofs.Common.{◌≡◌, ◌≤◌, ◌<◌, ◌^◌, length}
+use Rattle.std.proofs.Common.{◌≡◌, ◌≤◌}
 use Rattle.mps_lines.specs.Left.{left, room, text_len}
 use Rattle.mps_lines.proofs.lines.Lines.next.Given as goal
 

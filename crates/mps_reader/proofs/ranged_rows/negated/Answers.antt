@@ -1,0 +1,7 @@
+use Rattle.std.proofs.Common.{sym, subst}
+use Rattle.fraction.specs.Rational.{ℚ}
+use Rattle.mps_reader.specs.RangedRows.{IsHeld, neg_held}
+use Rattle.mps_reader.proofs.ranged_rows.negated.Goals as goal
+
+pub returns-clause-held : goal.returns-clause-held
+returns-clause-held c = subst (λ (q : ℚ). IsHeld q) (sym c.neg.ensures.value) (neg_held c.args.number c.requires)

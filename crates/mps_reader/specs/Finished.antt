@@ -1,0 +1,203 @@
+-- The problem of the tables at ENDATA, or its fault at the end.
+use Rattle.std.specs.Prelude.{◌≡◌, ℕ, ◌<◌, ◌≤◌, ◌^◌, Bool, true, false, not, nat_lt, cond, List, ◌∷◌, map, Option, Some, None, is_some, Result, Ok, Err, length, IfSome, All, []}
+use Rattle.std.specs.List.{list_all}
+use Rattle.std.proofs.lemmas.List.{length-map}
+use Rattle.std.proofs.lemmas.List.Elements.{All-cons, All-map, All-nil}
+use Rattle.problem.specs.Rising.{AreNonzero, AreRising}
+use Rattle.mps_reader.specs.declared.kinds.RowType.{RowType}
+use Rattle.mps_reader.specs.declared.row_terms.RowTerms.{RowTerms}
+use Rattle.std.specs.Option.{option_or, option_map}
+use Rattle.std.proofs.Common.{refl, sym, ap, ◌∙◌, subst, arith}
+use Rattle.fraction.specs.Rational.{ℚ}
+use Rattle.problem.specs.declared.row.Row.{Row}
+use Rattle.problem.specs.Limited.{AreLimited, IsLimited}
+use Rattle.problem.specs.Program.{Program}
+use Rattle.problem_box.specs.declared.span.Span.{Span}
+use Rattle.mps_lines.specs.Lines.{lines_of, raw_lines}
+use Rattle.mps_reader.specs.SideNumbers.{numbers_of}
+use Rattle.mps_reader.specs.Ended.{IsEndFault, ended, ends_are, ends_of}
+use Rattle.mps_reader.specs.Building.{modest_within, side_in}
+use Rattle.mps_reader.specs.Faultless.{KeepsAll, all_keep, none_all}
+use Rattle.mps_reader.specs.Faults.{when}
+use Rattle.mps_reader.specs.Followed.{HasData, HasSectionsOf, IsFaultIn, found_in}
+use Rattle.mps_reader.specs.Kept.{AreKept, is_visible}
+use Rattle.mps_reader.specs.Made.{ranges_held, whole_limited}
+use Rattle.mps_reader.specs.Meaning.{terms_of, at_line, columns_end_fault, end_fault, objective_name, objective_terms, problem_of, span}
+use Rattle.mps_reader.specs.Placing.{placed_of, terms_placed}
+use Rattle.mps_reader.specs.RangedRows.{IsHeld}
+use Rattle.mps_reader.specs.RowsMade.{made_objective, made_rows, objective_made, rows_made}
+use Rattle.mps_reader.specs.RowsSoFar.{so_far}
+use Rattle.mps_reader.specs.Reading.{IsRefused, finish, problem_or_fault, reading, text_limit}
+use Rattle.mps_reader.specs.Sections.{Sections, none_yet, bounds_of, columns_of, entries_of, last_of, rows_of, run_of, sides_of}
+use Rattle.mps_reader.specs.TableLimits.{keeps_limited, objective_by, side_modest}
+use Rattle.mps_reader.specs.Tables.{length-table, table}
+use Rattle.mps_reader.specs.Words.{named}
+use Rattle.mps_reader.specs.declared.kinds.Kind.{Kind}
+use Rattle.mps_reader.specs.declared.kinds.Kind.TheVariants as kind
+use Rattle.mps_reader.specs.declared.reading.ReadFault.{ReadFault}
+use Rattle.mps_reader.specs.declared.reading.ReadFault.TheVariants as fault
+use Rattle.mps_reader.specs.declared.tables.Tables.{Tables}
+
+-- a fault is the one that is found; want of memory says nothing
+abbrev pub IsRefusal : ReadFault → Result Program (ℕ × Kind) → Type 0
+IsRefusal (fault.Refused line k) r = r ≡ Err (line, k)
+IsRefusal fault.Memory r = Unit {0}
+
+abbrev pub IsModestUpper : Option ℕ → Type 0
+IsModestUpper upper = IfSome upper (λ n. n ≤ 10 ^ 9)
+
+-- what the sections at ENDATA say, or the fault at the end
+abbrev pub said : Option ℕ → Sections → Result Program (ℕ × Kind)
+said upper s = problem_or_fault upper s (end_fault upper s)
+
+-- the tables are those of sections that keep to the limits
+pub record HasKept {B H : Type 0} (st : Tables B H) (upper : Option ℕ) : Type 0 where
+  pub s : Sections
+  pub tables : HasData st s
+  pub keeps : KeepsAll s
+  pub modest : IsModestUpper upper
+
+ended_ok : (o : Option (ℕ × Kind)) (ss ts : List Span) → ended o ss ≡ Ok ts → (o ≡ None) × (ts ≡ ss)
+ended_ok None ss ts h = (refl, same ts ss _ _ refl refl (sym h))
+  where
+    same : (a b : List Span) (x y : Result (List Span) (ℕ × Kind)) → x ≡ Ok a → y ≡ Ok b → x ≡ y → a ≡ b
+    same a b x y p q r = cc
+ended_ok (Some f) ss ts h = cc
+
+ended_err : (o : Option (ℕ × Kind)) (ss : List Span) (f : ℕ × Kind) → ended o ss ≡ Err f → o ≡ Some f
+ended_err None ss f h = cc
+ended_err (Some g) ss f h = ap Some (same g f _ _ refl refl h)
+  where
+    same : (a b : ℕ × Kind) (x y : Result (List Span) (ℕ × Kind)) → x ≡ Err a → y ≡ Err b → x ≡ y → a ≡ b
+    same a b x y p q r = cc
+
+module _ {B H : Type 0} (st : Tables B H) (s : Sections) (h : HasData st s) (upper : Option ℕ) where
+  terms_are : st.columns.rows.items ≡ map (so_far (entries_of s.columns)) (rows_of s.rows)
+  terms_are = h.entries.terms ∙ ap (map (so_far (entries_of s.columns))) h.rows
+
+  rows_same : made_rows (table st.rhs.numbers.entries) (table st.ranges.numbers.entries) (table st.rows.entries) st.columns.rows.items ≡ (problem_of upper s).rows
+  rows_same = (λ i. made_rows (h.rhs.sides.numbers i) (h.ranges.sides.numbers i) (h.rows i) (terms_are i)) ∙ rows_made (entries_of s.columns) (sides_of s.rhs) (sides_of s.ranges) (rows_of s.rows)
+
+  objective_same : made_objective (table st.rows.entries) st.columns.rows.items ≡ option_map (λ name. terms_of name (entries_of s.columns)) (objective_name (rows_of s.rows))
+  objective_same = (λ i. made_objective (h.rows i) (terms_are i)) ∙ objective_made (entries_of s.columns) (rows_of s.rows)
+
+  ends_same : ends_of upper (table st.bounds.limits.entries) (table st.columns.columns.entries)
+      ≡ ended (columns_end_fault upper (bounds_of s.bounds) (columns_of (entries_of s.columns))) (map (span upper (bounds_of s.bounds)) (columns_of (entries_of s.columns)))
+  ends_same = ap (ends_of upper (table st.bounds.limits.entries)) h.entries.columns
+      ∙ ends_are upper (table st.bounds.limits.entries) (bounds_of s.bounds) h.bounds.limits (columns_of (entries_of s.columns))
+
+  fault_with : is_some (objective_name (rows_of s.rows)) ≡ true → end_fault upper s ≡ columns_end_fault upper (bounds_of s.bounds) (columns_of (entries_of s.columns))
+  fault_with o = ap (λ b. option_or (at_line s.rows_at (when (not b) kind.NoObjective)) (columns_end_fault upper (bounds_of s.bounds) (columns_of (entries_of s.columns)))) o
+
+  no_name : {A B : Type 0} (f : A → B) (o : Option A) → None ≡ option_map f o → is_some o ≡ false
+  no_name f None h = refl
+  no_name f (Some a) h = cc
+
+  -- no row is of type N
+  pub nothing_said : None ≡ made_objective (table st.rows.entries) st.columns.rows.items → said upper s ≡ Err (s.rows_at, kind.NoObjective)
+  nothing_said e =
+      ap (λ b. problem_or_fault upper s (option_or (at_line s.rows_at (when (not b) kind.NoObjective)) (columns_end_fault upper (bounds_of s.bounds) (columns_of (entries_of s.columns)))))
+      (no_name (λ name. terms_of name (entries_of s.columns)) (objective_name (rows_of s.rows)) (e ∙ objective_same))
+
+  module _ (objective : List (ℕ × ℚ)) (e : Some objective ≡ made_objective (table st.rows.entries) st.columns.rows.items) where
+    named_by : (is_some (objective_name (rows_of s.rows)) ≡ true) × (objective ≡ objective_terms (objective_name (rows_of s.rows)) (entries_of s.columns))
+    named_by = objective_by (entries_of s.columns) (objective_name (rows_of s.rows)) objective (e ∙ objective_same)
+
+    -- a column is at fault
+    pub fault_said : (f : ℕ × Kind) → ends_of upper (table st.bounds.limits.entries) (table st.columns.columns.entries) ≡ Err f → said upper s ≡ Err f
+    fault_said f k = ap (problem_or_fault upper s) (fault_with named_by.0 ∙ ended_err _ _ f (sym ends_same ∙ k))
+
+    pub refusal_said : (f : ReadFault) → IsEndFault f (ends_of upper (table st.bounds.limits.entries) (table st.columns.columns.entries)) → IsRefusal f (said upper s)
+    refusal_said (fault.Refused line k) e = fault_said (line, k) e
+    refusal_said fault.Memory e = tt
+
+    module _ (ss : List Span) (k : ends_of upper (table st.bounds.limits.entries) (table st.columns.columns.entries) ≡ Ok ss) (names : List (List ℕ)) (n : names ≡ map (λ c. c.0) (table st.columns.columns.entries))
+        (rows : List Row) (r : rows ≡ made_rows (table st.rhs.numbers.entries) (table st.ranges.numbers.entries) (table st.rows.entries) st.columns.rows.items) (spans : List Span) (z : spans ≡ ss) where
+      abbrev pub Made : Program
+      Made = record { names = names; rows = rows; objective = objective; spans = spans }
+
+      pub made_is : Made ≡ problem_of upper s
+      made_is =
+          let q = ended_ok _ _ ss (sym ends_same ∙ k) in
+          λ i. record {
+            names = (n ∙ ap (λ cs. map (λ c. c.0) cs) h.entries.columns) i;
+            rows = (r ∙ rows_same) i;
+            objective = named_by.1 i;
+            spans = (z ∙ q.1) i;
+          }
+
+      pub made_said : said upper s ≡ Ok Made
+      made_said = ap (problem_or_fault upper s) (fault_with named_by.0 ∙ (ended_ok _ _ ss (sym ends_same ∙ k)).0) ∙ ap Ok (sym made_is)
+
+      pub made_limited : KeepsAll s → IsModestUpper upper → IsLimited Made
+      made_limited l u = subst (λ (p : Program). IsLimited p) (sym made_is) (whole_limited s l upper u)
+
+-- ---- what the limits give
+All-each : {A : Type 0} (P : A → Type 0) (xs : List A) → ((x : A) → P x) → All P xs
+All-each P [] h = All-nil P
+All-each P (x ∷ xs) h = All-cons P x xs (h x) (All-each P xs h)
+
+module _ {B H : Type 0} (st : Tables B H) (upper : Option ℕ) (h : HasKept st upper) where
+  kept_columns : AreKept (entries_of h.s.columns)
+  kept_columns = h.keeps.limits.columns
+
+  pub kept_names : list_all (λ c. is_visible c.0) (table st.columns.columns.entries) ≡ true
+  kept_names = ap (list_all (λ c. is_visible c.0)) h.tables.entries.columns ∙ kept_columns.names
+
+  -- the terms of a row keep to the limits
+  row_limited : (r : List ℕ × RowType) → AreLimited (length (columns_of (entries_of h.s.columns))) (so_far (entries_of h.s.columns) r).terms
+  row_limited r = subst (λ ts. AreLimited (length (columns_of (entries_of h.s.columns))) ts) (sym (terms_placed r.0 (entries_of h.s.columns)))
+      (keeps_limited (columns_of (entries_of h.s.columns)) (run_of (entries_of h.s.columns)) (last_of (entries_of h.s.columns)) (placed_of (entries_of h.s.columns)) kept_columns r.0)
+
+  pub parts_count : length st.columns.rows.items ≡ length st.rows.entries
+  parts_count = ap length h.tables.entries.terms ∙ length-map (table st.rows.entries) (so_far (entries_of h.s.columns)) ∙ length-table st.rows.entries
+
+  pub parts_rising : All (λ t. AreRising t.terms) st.columns.rows.items
+  parts_rising = subst (λ ts. All (λ (t : RowTerms). AreRising t.terms) ts) (sym h.tables.entries.terms)
+      (All-map (λ (t : RowTerms). AreRising t.terms) (so_far (entries_of h.s.columns)) (table st.rows.entries) (All-each (λ r. AreRising (so_far (entries_of h.s.columns) r).terms) (table st.rows.entries) (λ r. (row_limited r).rising)))
+
+  pub parts_nonzero : All (λ t. AreNonzero t.terms) st.columns.rows.items
+  parts_nonzero = subst (λ ts. All (λ (t : RowTerms). AreNonzero t.terms) ts) (sym h.tables.entries.terms)
+      (All-map (λ (t : RowTerms). AreNonzero t.terms) (so_far (entries_of h.s.columns)) (table st.rows.entries) (All-each (λ r. AreNonzero (so_far (entries_of h.s.columns) r).terms) (table st.rows.entries) (λ r. (row_limited r).nonzero)))
+
+  pub parts_sides : (name : List ℕ) → IsHeld (side_in (table st.rhs.numbers.entries) name)
+  parts_sides name = subst (λ sides. IsHeld (side_in sides name)) (sym h.tables.rhs.sides.numbers) (modest_within (side_in (numbers_of (sides_of h.s.rhs)) name) (side_modest (sides_of h.s.rhs) name h.keeps.limits.sides))
+
+  pub parts_ranges : (name : List ℕ) → IfSome (named (table st.ranges.numbers.entries) name) (λ q. IsHeld q)
+  parts_ranges name = subst (λ ranges. IfSome (named ranges name) (λ q. IsHeld q)) (sym h.tables.ranges.sides.numbers) (ranges_held (sides_of h.s.ranges) name h.keeps.ranges)
+
+-- ---- the whole text
+-- the text is refused with this fault; want of memory says nothing
+abbrev pub IsRefusedWith : List ℕ → Option ℕ → ReadFault → Type 0
+IsRefusedWith text upper (fault.Refused line k) = IsRefused text upper line k
+IsRefusedWith text upper fault.Memory = Unit {0}
+
+module _ {B H : Type 0} (text : List ℕ) (st : Tables B H) (h : HasSectionsOf text st) (upper : Option ℕ) where
+  pub has_kept : IsModestUpper upper → HasKept st upper
+  has_kept u = record { s = h.s; tables = h.tables; keeps = all_keep (length (raw_lines text)) none_yet (lines_of text) h.s none_all h.found; modest = u }
+
+  pub read_is : length text ≤ 4194304 → reading text upper ≡ said upper h.s
+  unfolding reading
+  read_is l =
+      let within : nat_lt text_limit (length text) ≡ false = grind arith in
+      ap (λ (b : Bool). cond b (Err (0, kind.TooMany)) (finish upper (found_in text))) within ∙ ap (finish upper) h.found
+
+pub refused_is : (text : List ℕ) (upper : Option ℕ) (line : ℕ) (k : Kind) → length text ≤ 4194304 → found_in text ≡ Err (line, k) → reading text upper ≡ Err (line, k)
+unfolding reading
+refused_is text upper line k l e =
+    let within : nat_lt text_limit (length text) ≡ false = grind arith in
+    ap (λ (b : Bool). cond b (Err (0, kind.TooMany)) (finish upper (found_in text))) within ∙ ap (finish upper) e
+
+pub refused_by : (text : List ℕ) (upper : Option ℕ) (f : ReadFault) → length text ≤ 4194304 → IsFaultIn f (found_in text) → IsRefusedWith text upper f
+refused_by text upper (fault.Refused line k) l e = refused_is text upper line k l e
+refused_by text upper fault.Memory l e = tt
+
+pub refused_at_end : (text : List ℕ) (upper : Option ℕ) (s : Sections) (f : ReadFault) → reading text upper ≡ said upper s → IsRefusal f (said upper s) → IsRefusedWith text upper f
+refused_at_end text upper s (fault.Refused line k) r e = r ∙ e
+refused_at_end text upper s fault.Memory r e = tt
+
+pub too_long : (text : List ℕ) (upper : Option ℕ) → 4194304 < length text → reading text upper ≡ Err (0, kind.TooMany)
+unfolding reading
+too_long text upper l =
+    let over : nat_lt text_limit (length text) ≡ true = grind arith in
+    ap (λ (b : Bool). cond b (Err (0, kind.TooMany)) (finish upper (found_in text))) over

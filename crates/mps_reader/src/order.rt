@@ -1,0 +1,142 @@
+//! The order of the sections.
+
+ghost use Rattle.std.specs.Prelude.{◌≡◌, ◌==◌, ◌&&◌, ◌||◌, Some, not, drop, length};
+ghost use Rattle.mps_reader.specs.Faults.{rest_fault, sense_fault, word_fault};
+ghost use Rattle.mps_reader.specs.Ordered.{HasOrder, follows, order_after, stage_at};
+ghost use Rattle.mps_reader.specs.Sections.{Sections};
+ghost use Rattle.mps_reader.specs.Tables.{texts};
+ghost use Rattle.mps_reader.specs.Words.{sense_of};
+
+use crate::kinds::{Kind, Section};
+
+/// The last section word, which of the later sections have come, and whether OBJSENSE has its word.
+#[derive(Clone, Copy)]
+pub struct Order {
+    pub last: Option<Section>,
+    pub has_rhs: bool,
+    pub has_ranges: bool,
+    pub has_bounds: bool,
+    pub has_sense: bool,
+}
+
+/// How far the sections have come: 0 nothing, 1 NAME, 2 OBJSENSE, 3 ROWS, 4 COLUMNS or a later one, 5 ENDATA.
+fn stage_at(last: Option<Section>) -> u8
+    ensures { result ≡ stage_at last }
+{
+    match last {
+        None => 0,
+        Some(Section::Name) => 1,
+        Some(Section::ObjSense) => 2,
+        Some(Section::Rows) => 3,
+        Some(Section::EndData) => 5,
+        Some(Section::Columns | Section::Rhs | Section::Ranges | Section::Bounds) => 4,
+    }
+}
+
+/// Whether a section may come now.
+fn follows(order: Order, word: Section) -> bool
+    ensures { result ≡ follows order word }
+{
+    let stage = stage_at(order.last);
+    match word {
+        Section::Name => stage == 0,
+        Section::ObjSense => stage <= 1,
+        Section::Rows => stage <= 2,
+        Section::Columns => stage == 3,
+        Section::Rhs => stage == 4 && !order.has_rhs,
+        Section::Ranges => stage == 4 && !order.has_ranges,
+        Section::Bounds => stage == 4 && !order.has_bounds,
+        Section::EndData => stage == 4,
+    }
+}
+
+/// Whether a word of OBJSENSE is a maximum.
+fn sense_of(word: &[u8]) -> Option<bool>
+    ensures { result ≡ sense_of word.now }
+{
+    if word == b"MIN".as_slice() {
+        return Some(false);
+    }
+    if word == b"MINIMIZE".as_slice() {
+        return Some(false);
+    }
+    if word == b"MAX".as_slice() {
+        return Some(true);
+    }
+    if word == b"MAXIMIZE".as_slice() {
+        return Some(true);
+    }
+    None
+}
+
+/// What is wrong with a word of OBJSENSE.
+pub fn sense_fault(word: &[u8]) -> Option<Kind>
+    ensures { result ≡ sense_fault word.now }
+{
+    match sense_of(word) {
+        Some(false) => None,
+        Some(true) => Some(Kind::Maximise),
+        None => Some(Kind::BadSection),
+    }
+}
+
+/// What is wrong with the fields behind the section word.
+fn rest_fault(word: Section, rest: &[&[u8]]) -> Option<Kind>
+    ensures { result ≡ rest_fault word (texts rest.now) }
+{
+    match word {
+        Section::Name => None,
+        Section::ObjSense => match rest {
+            [] => None,
+            [sense] => sense_fault(sense),
+            _ => Some(Kind::BadSection),
+        },
+        _ => match rest {
+            [] => None,
+            _ => Some(Kind::BadSection),
+        },
+    }
+}
+
+/// The fields behind the first one.
+fn rest_of<'f, 'a>(fields: &'f [&'a [u8]]) -> &'f [&'a [u8]]
+    ensures { texts result.now ≡ drop 1 (texts fields.now) }
+{
+    match fields {
+        [_, rest @ ..] => rest,
+        [] => fields,
+    }
+}
+
+/// Whether a section may not come now, or OBJSENSE has no word yet.
+fn is_out_of_order(order: Order, word: Section) -> bool
+    ensures { result ≡ (not (follows order word) || ((stage_at order.last == 2) && not order.has_sense)) }
+{
+    !follows(order, word) || (stage_at(order.last) == 2 && !order.has_sense)
+}
+
+/// What is wrong with a line of this section after the order so far.
+pub fn word_fault(order: Order, word: Section, fields: &[&[u8]]) -> Option<Kind>
+    ensures { (s : Sections) → HasOrder order s → result ≡ word_fault s (drop 1 (texts fields.now)) (Some word) }
+{
+    if is_out_of_order(order, word) {
+        return Some(Kind::BadSection);
+    }
+    rest_fault(word, rest_of(fields))
+}
+
+/// The order after a section line.
+pub fn order_after(order: Order, word: Section, fields: &[&[u8]]) -> Order
+    ensures { result ≡ order_after word (not (length (drop 1 (texts fields.now)) == 0)) order }
+{
+    let mut new = order;
+    new.last = Some(word);
+    match word {
+        Section::ObjSense => new.has_sense = !rest_of(fields).is_empty(),
+        Section::Rhs => new.has_rhs = true,
+        Section::Ranges => new.has_ranges = true,
+        Section::Bounds => new.has_bounds = true,
+        Section::Name | Section::Rows | Section::Columns | Section::EndData => {}
+    }
+    new
+}

@@ -1,0 +1,176 @@
+//! The rows and the objective of a problem, where a ranged row gives two rows.
+
+ghost use Rattle.std.specs.Prelude.{◌≡◌, ℕ, ◌++◌, ◌<◌, OnOk, IfOk, IfSome, List, All, Some, length, slice_get};
+ghost use Rattle.std.specs.Option.{option_or};
+ghost use Rattle.fraction.specs.Checked.{abs_ℚ};
+ghost use Rattle.fraction.specs.Rational.{◌+ℚ◌, neg_ℚ};
+ghost use Rattle.problem.specs.Rising.{AreNonzero, AreRising};
+ghost use Rattle.mps_reader.specs.Building.{objective_with, side_in};
+ghost use Rattle.mps_reader.specs.Meaning.{range_of, ranged_rows, rows_from};
+ghost use Rattle.mps_reader.specs.RangedRows.{IsHeld};
+ghost use Rattle.mps_reader.specs.RowsMade.{made_objective, made_rows};
+ghost use Rattle.mps_reader.specs.Tables.{table};
+ghost use Rattle.mps_reader.specs.Words.{named};
+
+use crate::building::{Parts, side_at};
+use crate::kinds::RowType;
+use crate::row_terms::RowTerms;
+use crate::rows::is_counted;
+use fraction::Frac;
+use indexmap::IndexMap;
+use problem::{Row, Sense, Terms};
+use std::alloc::{AllocError, Global};
+use std::hash::BuildHasher;
+
+/// The sum of two numbers of a text.
+#[tactic(auto, using(crate::specs::RangedRows::sum_is))]
+fn sum(left: Frac, right: Frac) -> Frac
+    requires left { IsHeld left }
+    requires right { IsHeld right }
+    ensures { result ≡ left +ℚ right }
+{
+    left.add(right).unwrap()
+}
+
+/// The size of a range.
+fn size_of(range: Frac) -> Frac
+    requires { IsHeld range }
+    ensures value { result ≡ abs_ℚ range }
+    ensures held { IsHeld result }
+{
+    range.abs()
+}
+
+/// The number with the other sign.
+fn negated(number: Frac) -> Frac
+    requires { IsHeld number }
+    ensures value { result ≡ neg_ℚ number }
+    ensures held { IsHeld result }
+{
+    number.neg()
+}
+
+/// The least and the greatest value of a ranged row.
+fn range_of(kind: RowType, rhs: Frac, range: Frac) -> (Frac, Frac)
+    requires rhs { IsHeld rhs }
+    requires range { IsHeld range }
+    ensures { result ≡ range_of kind rhs range }
+{
+    let size = size_of(range);
+    match kind {
+        RowType::N => (rhs, rhs),
+        RowType::G => (rhs, sum(rhs, size)),
+        RowType::L => (sum(rhs, negated(size)), rhs),
+        RowType::E => {
+            if range.numer() < 0 {
+                (sum(rhs, negated(size)), rhs)
+            } else {
+                (rhs, sum(rhs, size))
+            }
+        }
+    }
+}
+
+/// Takes a ranged row as a G row and an L row. The one error is want of memory.
+fn take_ranged(
+    alloc: Global,
+    parts: &mut Parts,
+    ends: (Frac, Frac),
+    terms: Terms,
+) -> Result<(), AllocError>
+    requires rising { AreRising terms }
+    requires nonzero { AreNonzero terms }
+    ensures rows { OnOk result (parts.new.rows.items ≡ parts.old.rows.items ++ ranged_rows ends terms) }
+    ensures objective { OnOk result (parts.new.objective ≡ parts.old.objective) }
+{
+    let copy = terms.copy(alloc)?;
+    parts.rows.push(Row::make(Sense::G, ends.0, copy))?;
+    parts.rows.push(Row::make(Sense::L, ends.1, terms))?;
+    Ok(())
+}
+
+/// Takes a row of the text with its range, where it has one. The one error is want of memory.
+fn take_row(
+    alloc: Global,
+    parts: &mut Parts,
+    kind: RowType,
+    rhs: Frac,
+    range: Option<Frac>,
+    terms: Terms,
+) -> Result<(), AllocError>
+    requires rising { AreRising terms }
+    requires nonzero { AreNonzero terms }
+    requires rhs { IsHeld rhs }
+    requires range { IfSome range (λ q. IsHeld q) }
+    ensures rows { OnOk result (parts.new.rows.items ≡ parts.old.rows.items ++ rows_from kind rhs range terms) }
+    ensures objective { OnOk result (parts.new.objective ≡ option_or parts.old.objective (objective_with kind terms)) }
+{
+    match range {
+        Some(range) if is_counted(kind) => {
+            take_ranged(alloc, parts, range_of(kind, rhs, range), terms)
+        }
+        _ => parts.take(kind, rhs, terms),
+    }
+}
+
+/// The number of a name, where the table has one.
+#[tactic(auto, using(crate::specs::Tables::named_table))]
+fn number_of<'a, B: BuildHasher + Drop>(
+    numbers: &IndexMap<&'a [u8], Frac, B>,
+    name: &'a [u8],
+) -> Option<Frac>
+    ensures { result ≡ named (table numbers.now.entries) name.now }
+{
+    numbers.get(name).copied()
+}
+
+/// The name and the type of the row at an index.
+fn row_at<'a, B: BuildHasher + Drop>(
+    rows: &IndexMap<&'a [u8], RowType, B>,
+    index: usize,
+) -> (&'a [u8], RowType)
+    requires { index < length rows.now.entries }
+    ensures { slice_get (table rows.now.entries) index ≡ Some (result.0.now, result.1) }
+{
+    let (name, kind) = rows.get_index(index).unwrap();
+    (*name, *kind)
+}
+
+/// The rows of the problem, and the terms of the first N row where there is one, in one pass over the rows.
+///
+/// In each row the columns rise and no number is 0. The one error is want of memory.
+pub fn ranged_parts<'a, B: BuildHasher + Drop>(
+    alloc: Global,
+    rows: &IndexMap<&'a [u8], RowType, B>,
+    sides: &IndexMap<&'a [u8], Frac, B>,
+    ranges: &IndexMap<&'a [u8], Frac, B>,
+    terms: Vec<RowTerms>,
+) -> Result<Parts, AllocError>
+    requires count { length terms.items ≡ length rows.now.entries }
+    requires rising { All (λ t. AreRising t.terms) terms.items }
+    requires nonzero { All (λ t. AreNonzero t.terms) terms.items }
+    requires sides { (name : List ℕ) → IsHeld (side_in (table sides.now.entries) name) }
+    requires ranges { (name : List ℕ) → IfSome (named (table ranges.now.entries) name) (λ q. IsHeld q) }
+    ensures rows { IfOk result (λ p. p.rows.items ≡ made_rows (table sides.now.entries) (table ranges.now.entries) (table rows.now.entries) terms.items) }
+    ensures objective { IfOk result (λ p. p.objective ≡ made_objective (table rows.now.entries) terms.items) }
+{
+    let mut parts = Parts {
+        rows: Vec::new(alloc),
+        objective: None,
+    };
+    let mut index = 0;
+    for row in terms {
+        let (name, kind) = row_at(rows, index);
+        let RowTerms { terms, named_by: _ } = row;
+        take_row(
+            alloc,
+            &mut parts,
+            kind,
+            side_at(sides, name),
+            number_of(ranges, name),
+            terms.into_terms(),
+        )?;
+        index += 1;
+    }
+    Ok(parts)
+}

@@ -1,0 +1,24 @@
+//! What the reader has seen so far.
+
+use crate::bounds::Bounds;
+use crate::columns::Columns;
+use crate::kinds::RowType;
+use crate::order::Order;
+use crate::sides::Sides;
+use indexmap::IndexMap;
+use std::hash::BuildHasher;
+
+/// The tables of the lines so far: the order of the sections, the line of ROWS, the rows and how many of them count, the columns and
+/// whether the last marker begins whole ones, and the later sections.
+#[derive(Drop)]
+pub struct Tables<'a, B: BuildHasher + Drop> {
+    pub order: Order,
+    pub rows_at: u64,
+    pub rows: IndexMap<&'a [u8], RowType, B>,
+    pub count: usize,
+    pub columns: Columns<'a, B>,
+    pub is_marked: bool,
+    pub rhs: Sides<'a, B>,
+    pub ranges: Sides<'a, B>,
+    pub bounds: Bounds<'a, B>,
+}
