@@ -1,0 +1,69 @@
+-- Which words are a command, and what it asks for.
+use Rattle.std.specs.Prelude.{◌≤◌, IfSome, option_map, ℕ, Bool, not, ◌&&◌, List, [], ◌∷◌, Option, Some, None, is_some, unwrap_or, codes, string_bytes, if◌then◌else◌}
+use Rattle.std.specs.Str.{bytes_eq}
+use Rattle.std.specs.Str.Parse.{digits_value, without_leading_plus}
+use Rattle.clap.specs.Words.{Row, Text, fault_of, first_of, one_of, subcommand_of}
+use Rattle.clap.specs.Kinds.{Kinds}
+use Rattle.clap.specs.ValueTests.{is_unsigned_in}
+use Rattle.command_words.specs.Table.{commands}
+use Rattle.command_words.specs.declared.command.Command.{Command}
+use Rattle.command_words.specs.declared.command.Command.TheVariants as command
+use Rattle.command_words.specs.declared.paths.Paths.{Paths}
+
+-- What a command asks for.
+pub data Asked : Type 0 where
+  -- the paths of the model, the journal and the certificate; the most nodes; the bound for columns that have none
+  solve : Text → Text → Text → ℕ → Option ℕ → Asked
+
+abbrev pub are_different : Text → Text → Text → Bool
+are_different model journal cert = not (bytes_eq model journal) && (not (bytes_eq model cert) && not (bytes_eq journal cert))
+
+-- The number of an option: none where the words don't have the option, and no answer where its text isn't a whole number
+-- from low to high. The text has decimal digits, and a plus may stand before them.
+abbrev pub number_in : ℕ → ℕ → Option Text → Option (Option ℕ)
+number_in low high None = Some None
+number_in low high (Some text) = if is_unsigned_in low high text then Some (Some (digits_value 10 (without_leading_plus text))) else None
+
+abbrev pub solve_with : Option Text → Option Text → Option Text → Option (Option ℕ) → Option (Option ℕ) → Option Asked
+solve_with (Some model) (Some journal) (Some cert) (Some nodes) (Some upper) =
+    if are_different model journal cert then Some (solve model journal cert (unwrap_or nodes 1000000) upper) else None
+solve_with model journal cert nodes upper = None
+
+-- what the matches of `solve` ask for: three paths that are all different, and the numbers in their ranges
+abbrev pub solve_of : List Row → Option Asked
+solve_of rows =
+    solve_with (first_of (codes "MODEL") rows) (first_of (codes "JOURNAL") rows) (first_of (codes "CERT") rows)
+    (number_in 1 1000000000 (one_of (codes "nodes") rows)) (number_in 0 1000000000 (one_of (codes "upper") rows))
+
+-- what the command of this name asks for by its matches
+abbrev pub asked_of : Option (Text × List Row) → Option Asked
+asked_of None = None
+asked_of (Some entered) = if bytes_eq entered.0 (codes "solve") then solve_of entered.1 else None
+
+abbrev pub unless_fault : Kinds → Option Asked → Option Asked
+unless_fault [] asked = asked
+unless_fault (kind ∷ kinds) asked = None
+
+-- What the words ask for. They are a command exactly where clap finds no fault by the table, and the paths and the numbers
+-- of its matches are as above.
+unfoldable pub command_of : List Text → Option Asked
+command_of words = unless_fault (fault_of commands words) (asked_of (subcommand_of commands words))
+
+abbrev pub is_command : List Text → Bool
+is_command words = is_some (command_of words)
+
+-- what a command asks for, as plain values
+abbrev pub asked : Command → Asked
+asked (command.Solve model journal cert nodes upper) = solve (string_bytes model) (string_bytes journal) (string_bytes cert) nodes upper
+
+-- its numbers are in their ranges
+abbrev pub HasRanges : Command → Type 0
+HasRanges (command.Solve model journal cert nodes upper) = (1 ≤ nodes) × (nodes ≤ 1000000000) × IfSome upper (λ u. u ≤ 1000000000)
+
+-- the paths of what is asked, each there as the command has it
+abbrev pub paths_asked : Asked → Option Text × Option Text × Option Text
+paths_asked (solve model journal cert nodes upper) = (Some model, Some journal, Some cert)
+
+-- the same of paths
+abbrev pub texts_of : Paths → Option Text × Option Text × Option Text
+texts_of paths = (option_map string_bytes paths.model, option_map string_bytes paths.journal, option_map string_bytes paths.cert)

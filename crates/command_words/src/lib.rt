@@ -1,0 +1,16 @@
+//! The words of a command line, read as a command by clap.
+#![tactic(auto)]
+
+mod command;
+mod fault;
+mod paths;
+mod solve_matches;
+mod table;
+#[cfg(test)]
+mod tests;
+mod words;
+
+pub use command::{Command, parse};
+pub use fault::WordsFault;
+pub use paths::{Paths, paths_of};
+pub use words::Words;
