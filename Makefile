@@ -1,4 +1,5 @@
-# make test: the gate. It proves each crate, tries the edits that have to be refused, and runs the tests.
+# make test: the gate. It proves each crate, tries the edits that have to be refused, and runs the tests. Then it sees that the examples are
+# the models that the cases run.
 # make demo: builds the program, solves examples/one.mps, and shows the answer and the certificate.
 # make install PREFIX=DIR: puts the program into DIR/bin, by default /usr/local/bin.
 #
@@ -11,6 +12,7 @@ program = crates/bnc_cli/out/bnc_cli
 
 test: kit
 	rt ci
+	@for model in crates/model_cases/data/*.mps; do cmp "$$model" "examples/$${model##*/}" || exit 1; done
 
 demo: build
 	@work=$$(mktemp -d) && trap 'rm -rf "$$work"' EXIT && cp examples/one.mps "$$work" && cd "$$work" \

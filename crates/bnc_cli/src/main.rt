@@ -1,4 +1,11 @@
-//! The program `bnc`.
+//! The program `bnc`: `bnc solve MODEL JOURNAL CERT [--nodes N] [--upper U]`.
+//!
+//! It reads an integer program in free MPS from MODEL, minimises its objective, writes a VIPR 1.0 certificate of the answer to
+//! CERT, and prints a few lines. The search has at most N nodes, 1 to 1,000,000,000, and 1,000,000 where the words don't say; U, 0
+//! to 1,000,000,000, bounds each column that has no bound. JOURNAL is a path, and nothing is kept there yet.
+//!
+//! All of that is `run` of `solve_top`. Here are the real files that it reads and writes, and the exit status: the number of a
+//! `Status` of `solve_top`.
 #![tactic(auto)]
 
 mod file_sink;
@@ -57,6 +64,8 @@ fn status_of<R: Threads + Wait + Sync + Files<File = File>, B: BuildHasher + Dro
     ran.status
 }
 
+/// Runs the words of the command line over the files that they name. Words that are no command name none, and are refused by the
+/// run. Where memory runs out before it, nothing is printed.
 fn main(rt: HostRuntime) -> ExitCode {
     let Ok(words) = words_of(&rt) else {
         return ExitCode::from(Status::Memory.number());

@@ -1,3 +1,7 @@
 mod Fronts
-mod Points
 mod Texts
+mod Outcomes
+mod LongTexts
+mod Refusals
+mod Solutions
+mod Asked

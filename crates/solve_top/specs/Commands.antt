@@ -1,22 +1,20 @@
--- Which words are a command: `solve MODEL JOURNAL CERT`.
-use Rattle.std.specs.Prelude.{ℕ, Bool, false, not, ◌&&◌, ◌==◌, List, [], ◌∷◌, Option, Some, None, codes, length, slice_index, string_bytes}
-use Rattle.std.specs.declared.string.String.{String}
-use Rattle.std.specs.Str.{bytes_eq}
+-- What the words of a command ask of its search.
+use Rattle.std.specs.Prelude.{ℕ, List, Option, Some, None}
+use Rattle.command_words.specs.Commands.{Asked, solve, command_of}
 
--- a path isn't empty and doesn't begin with a minus sign
-abbrev pub is_path : List ℕ → Bool
-is_path text = not (length text == 0) && not (slice_index text 0 == 45)
+-- where the words are no command there is no search, and the number is the one of a command that doesn't say
+abbrev pub nodes_asked : Option Asked → ℕ
+nodes_asked None = 1000000
+nodes_asked (Some (solve model journal cert nodes upper)) = nodes
 
--- three paths, all different
-abbrev pub are_paths : List ℕ → List ℕ → List ℕ → Bool
-are_paths model journal cert =
-    is_path model && (is_path journal && (is_path cert && (not (bytes_eq model journal) && (not (bytes_eq model cert) && not (bytes_eq journal cert)))))
+abbrev pub upper_asked : Option Asked → Option ℕ
+upper_asked None = None
+upper_asked (Some (solve model journal cert nodes upper)) = upper
 
-abbrev pub is_command : List (List ℕ) → Bool
-is_command (first ∷ model ∷ journal ∷ cert ∷ []) = bytes_eq first (codes "solve") && are_paths model journal cert
-is_command words = false
+-- the most nodes of the search
+unfoldable pub budget_of : List (List ℕ) → ℕ
+budget_of words = nodes_asked (command_of words)
 
--- the text of a path, and no text where there is none
-abbrev pub text_of_path : {A : Type 0} → Option (String A) → List ℕ
-text_of_path None = []
-text_of_path (Some path) = string_bytes path
+-- the upper bound of each column that has none, where the words give one
+unfoldable pub upper_of : List (List ℕ) → Option ℕ
+upper_of words = upper_asked (command_of words)

@@ -1,5 +1,6 @@
 -- The lines on the second output.
 use Rattle.std.specs.Prelude.{◌≡◌, ◌⊎◌, ℕ, List, ◌++◌, codes}
+use Rattle.std.specs.Fmt.{decimal}
 use Rattle.outside.specs.Faults.{Rose}
 use Rattle.outside.specs.Stream.{AppendsFront}
 use Rattle.cert_rows.specs.declared.certificate.Goal.{Goal}
@@ -11,12 +12,21 @@ abbrev pub answer_line : Goal → List ℕ
 answer_line Infeas = codes "infeasible\n"
 answer_line (Range lb ub) = codes "optimal " ++ spelled_number ub ++ codes "\n"
 
--- the numbers of nodes and cuts of a search that ended at its first node
-abbrev pub count_lines : List ℕ
-count_lines = codes "nodes 1\n" ++ codes "cuts 0\n"
+-- a word with a number
+abbrev pub number_line : List ℕ → ℕ → List ℕ
+number_line word n = word ++ decimal n ++ codes "\n"
 
-abbrev pub answer_lines : Goal → List ℕ
-answer_lines claim = answer_line claim ++ count_lines
+-- the numbers of nodes and cuts
+abbrev pub count_lines : ℕ → List ℕ
+count_lines nodes = number_line (codes "nodes ") nodes ++ codes "cuts 0\n"
+
+-- the lines of a search that is finished
+abbrev pub answer_lines : Goal → ℕ → List ℕ
+answer_lines claim nodes = answer_line claim ++ count_lines nodes
+
+-- the lines of a search that stopped with so many nodes, so many of them open
+abbrev pub spent_lines : ℕ → ℕ → List ℕ
+spent_lines nodes waiting = (codes "spent\n" ++ count_lines nodes) ++ number_line (codes "open ") waiting
 
 -- The sink took all of the text, and no fault was counted; or it took a front of it, and one was.
 abbrev pub Told : List ℕ → List ℕ → ℕ → ℕ → List ℕ → Type 0

@@ -1,5 +1,9 @@
--- The numbers with which the program ends.
-use Rattle.std.specs.Prelude.{ℕ, List, codes}
+-- The numbers with which the program ends, and the lines of refusals.
+use Rattle.std.specs.Prelude.{ℕ, List, ◌++◌, Option, codes}
+use Rattle.std.specs.Fmt.{decimal}
+use Rattle.mps_reader.specs.Reading.{IsRefused}
+use Rattle.mps_reader.specs.declared.kinds.Kind.{Kind}
+use Rattle.mps_reader.specs.declared.kinds.Kind.TheVariants as kind
 use Rattle.solve_top.specs.declared.model.Refusal.{Refusal}
 use Rattle.solve_top.specs.declared.model.Refusal.TheVariants as refusal
 use Rattle.solve_top.specs.declared.status.Status.{Status}
@@ -11,16 +15,47 @@ number_of status.Usage = 2
 number_of status.Model = 3
 number_of status.ReadFault = 5
 number_of status.Sink = 7
+number_of status.Spent = 8
 number_of status.Memory = 9
 
--- how a model that is refused ends the run
+-- the names of the kinds of faults
+abbrev pub kind_name : Kind → List ℕ
+kind_name kind.BadSection = codes "BadSection"
+kind_name kind.Maximise = codes "Maximise"
+kind_name kind.BadFields = codes "BadFields"
+kind_name kind.ManySets = codes "ManySets"
+kind_name kind.UnknownRow = codes "UnknownRow"
+kind_name kind.UnknownColumn = codes "UnknownColumn"
+kind_name kind.Duplicate = codes "Duplicate"
+kind_name kind.TooMany = codes "TooMany"
+kind_name kind.BadNumber = codes "BadNumber"
+kind_name kind.Infinite = codes "Infinite"
+kind_name kind.TooLarge = codes "TooLarge"
+kind_name kind.TooFine = codes "TooFine"
+kind_name kind.NoEnd = codes "NoEnd"
+kind_name kind.NoObjective = codes "NoObjective"
+kind_name kind.Continuous = codes "Continuous"
+kind_name kind.NegativeUpper = codes "NegativeUpper"
+kind_name kind.NoBound = codes "NoBound"
+
+-- the line of a text that is refused, with the number of its first line at fault and the kind of the fault
+abbrev pub refused_line : ℕ → Kind → List ℕ
+refused_line line k = codes "refused model " ++ decimal line ++ codes " " ++ kind_name k ++ codes "\n"
+
+-- how a model that gives no problem ends the run
 abbrev pub status_of : Refusal → Status
-status_of refusal.Model = status.Model
+status_of (refusal.Model line k) = status.Model
 status_of refusal.Read = status.ReadFault
 status_of refusal.Memory = status.Memory
 
 -- the line that tells of it
 abbrev pub refusal_line : Refusal → List ℕ
-refusal_line refusal.Model = codes "refused model 0 Early\n"
+refusal_line (refusal.Model line k) = refused_line line k
 refusal_line refusal.Read = codes "fault read\n"
 refusal_line refusal.Memory = codes "no memory\n"
+
+-- a fault that is told is the text's first one
+abbrev pub IsRefusalOf : List ℕ → Option ℕ → Refusal → Type 0
+IsRefusalOf text upper (refusal.Model line k) = IsRefused text upper line k
+IsRefusalOf text upper refusal.Read = Unit {0}
+IsRefusalOf text upper refusal.Memory = Unit {0}

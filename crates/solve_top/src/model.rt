@@ -1,14 +1,11 @@
 // Reads the model.
-ghost use Rattle.std.specs.Prelude.{◌≡◌, true, IfOk, IsErrOf};
+ghost use Rattle.std.specs.Prelude.{◌≡◌, ◌^◌, ◌++◌, true, IfOk, IfErr, IsErrOf};
 ghost use Rattle.outside.specs.Faults.{Rose};
-ghost use Rattle.problem.specs.Program.{Program};
-ghost use Rattle.problem.specs.Feasible.{IsFeasible};
-ghost use Rattle.problem_box.specs.Changes.{IsFixed};
-ghost use Rattle.mps_reader.specs.Single.{IsSingle, fixed_point};
-ghost use Rattle.solve_top.specs.Statuses.{status_of, refusal_line};
+ghost use Rattle.mps_reader.specs.Finished.{IsModestUpper};
+ghost use Rattle.mps_reader.specs.Reading.{Reads};
+ghost use Rattle.solve_top.specs.Statuses.{IsRefusalOf, kind_name};
 
-use crate::Status;
-use mps_reader::{SingleFault, read_single};
+use mps_reader::{Kind, read_mps};
 use outside::{ReadFault, Source, read_all};
 use problem::Problem;
 use std::alloc::Global;
@@ -20,43 +17,22 @@ const TEXT_LIMIT: usize = 4_194_304;
 // Why there is no problem.
 #[derive(Clone, Copy, Debug, PartialEq, Eq)]
 pub enum Refusal {
-    Model,
+    // The text's first fault with the number of its line, 0 where it stands at none.
+    Model { line: u64, kind: Kind },
     Read,
     Memory,
 }
 
-impl Refusal {
-    pub fn status(self) -> Status
-        ensures { result ≡ status_of self }
-    {
-        match self {
-            Refusal::Model => Status::Model,
-            Refusal::Read => Status::ReadFault,
-            Refusal::Memory => Status::Memory,
-        }
-    }
-
-    pub fn line(self) -> &'static [u8]
-        ensures { result.now ≡ refusal_line self }
-    {
-        match self {
-            Refusal::Model => b"refused model 0 Early\n",
-            Refusal::Read => b"fault read\n",
-            Refusal::Memory => b"no memory\n",
-        }
-    }
-}
-
-// Reads a model to its end and gives its problem.
+// Reads a model to its end and gives its problem. `upper` is the upper bound of columns that have none.
 pub fn read_model<B: BuildHasher + Drop, S: Source>(
     alloc: Global,
     keys: B,
     model: &mut S,
+    upper: Option<u32>,
 ) -> Result<Problem, Refusal>
-    ensures fixed { IfOk result (λ p. IsFixed p.spans) }
-    ensures feasible { IfOk result (λ p. IsFeasible p (fixed_point p.spans)) }
-    ensures reads { S.tells ≡ true → IfOk result (λ p. IsSingle (S.left model.old) p) }
-    ensures refused { S.tells ≡ true → IsErrOf result Refusal.Model → (p : Program) → IsSingle (S.left model.old) p → ⊥ }
+    requires { IsModestUpper upper }
+    ensures reads { S.tells ≡ true → IfOk result (λ p. Reads (S.left model.old) upper p) }
+    ensures refused { S.tells ≡ true → IfErr result (IsRefusalOf (S.left model.old) upper) }
     ensures fault { IsErrOf result Refusal.Read → Rose (S.faults model.old) (S.faults model.new) }
     ensures whole { ¬ IsErrOf result Refusal.Read → S.faults model.new ≡ S.faults model.old }
 {
@@ -66,11 +42,39 @@ pub fn read_model<B: BuildHasher + Drop, S: Source>(
         Err(ReadFault::Memory) => return Err(Refusal::Memory),
     };
     if text.len() > TEXT_LIMIT {
-        return Err(Refusal::Model);
+        return Err(Refusal::Model {
+            line: 0,
+            kind: Kind::TooMany,
+        });
     }
-    match read_single(alloc, keys, &text) {
+    match read_mps(alloc, keys, &text, upper) {
         Ok(problem) => Ok(problem),
-        Err(SingleFault::Early) => Err(Refusal::Model),
-        Err(SingleFault::Memory) => Err(Refusal::Memory),
+        Err(mps_reader::ReadFault::Refused { line, kind }) => Err(Refusal::Model { line, kind }),
+        Err(mps_reader::ReadFault::Memory) => Err(Refusal::Memory),
+    }
+}
+
+// The name of a kind of fault.
+pub fn kind_name(kind: Kind) -> &'static [u8]
+    ensures { result.now ≡ kind_name kind }
+{
+    match kind {
+        Kind::BadSection => b"BadSection",
+        Kind::Maximise => b"Maximise",
+        Kind::BadFields => b"BadFields",
+        Kind::ManySets => b"ManySets",
+        Kind::UnknownRow => b"UnknownRow",
+        Kind::UnknownColumn => b"UnknownColumn",
+        Kind::Duplicate => b"Duplicate",
+        Kind::TooMany => b"TooMany",
+        Kind::BadNumber => b"BadNumber",
+        Kind::Infinite => b"Infinite",
+        Kind::TooLarge => b"TooLarge",
+        Kind::TooFine => b"TooFine",
+        Kind::NoEnd => b"NoEnd",
+        Kind::NoObjective => b"NoObjective",
+        Kind::Continuous => b"Continuous",
+        Kind::NegativeUpper => b"NegativeUpper",
+        Kind::NoBound => b"NoBound",
     }
 }

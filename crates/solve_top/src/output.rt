@@ -1,11 +1,14 @@
 // The lines on the second output.
-ghost use Rattle.std.specs.Prelude.{◌≡◌, ◌++◌, true, OnOk, OnErr, IfOk, is_err};
-ghost use Rattle.outside.specs.Faults.{Counts};
-ghost use Rattle.outside.specs.Stream.{AppendsFront};
-ghost use Rattle.solve_top.specs.Output.{Told, answer_line, count_lines};
+ghost use Rattle.std.specs.Prelude.{◌≡◌, ◌++◌, true, OnOk, IfOk};
+ghost use Rattle.std.specs.Fmt.{decimal};
+ghost use Rattle.solve_top.specs.Output.{Told, answer_line, number_line, count_lines, answer_lines, spent_lines};
+ghost use Rattle.solve_top.specs.Statuses.{refused_line};
 
+use crate::model::kind_name;
 use cert_rows::Goal;
-use outside::{Failed, Sink, write_all};
+use itoa::Buffer;
+use mps_reader::Kind;
+use outside::{Sink, write_all};
 use std::alloc::{AllocError, Global};
 use vipr_print::push_number;
 
@@ -16,37 +19,79 @@ pub fn tell<O: Sink>(out: &mut O, line: &[u8])
     let _ = write_all(out, line);
 }
 
-// The first line of a search that is done.
-pub fn answer_text(alloc: Global, claim: &Goal) -> Result<Vec<u8>, AllocError>
-    ensures { IfOk result (λ text. text.items ≡ answer_line claim.now) }
+// Pushes a number in decimal.
+fn push_decimal(text: &mut Vec<u8>, number: u64) -> Result<(), AllocError>
+    ensures { OnOk result (text.new.items ≡ text.old.items ++ decimal number) }
 {
-    let mut text = Vec::new(alloc);
+    let mut buffer = Buffer::new();
+    text.extend_from_slice(buffer.format(number).as_bytes())?;
+    Ok(())
+}
+
+// Pushes a word with a number, as a line.
+fn push_number_line(text: &mut Vec<u8>, word: &[u8], number: u64) -> Result<(), AllocError>
+    ensures { OnOk result (text.new.items ≡ text.old.items ++ number_line word.now number) }
+{
+    text.extend_from_slice(word)?;
+    push_decimal(text, number)?;
+    text.extend_from_slice(b"\n")?;
+    Ok(())
+}
+
+// Pushes the numbers of nodes and cuts.
+fn push_counts(text: &mut Vec<u8>, nodes: usize) -> Result<(), AllocError>
+    ensures { OnOk result (text.new.items ≡ text.old.items ++ count_lines nodes) }
+{
+    push_number_line(text, b"nodes ", nodes as u64)?;
+    text.extend_from_slice(b"cuts 0\n")?;
+    Ok(())
+}
+
+// Pushes the answer of a certificate.
+fn push_answer(text: &mut Vec<u8>, claim: &Goal) -> Result<(), AllocError>
+    ensures { OnOk result (text.new.items ≡ text.old.items ++ answer_line claim.now) }
+{
     match claim {
         Goal::Infeas => text.extend_from_slice(b"infeasible\n")?,
         Goal::Range { lb: _, ub } => {
             text.extend_from_slice(b"optimal ")?;
-            push_number(&mut text, *ub)?;
+            push_number(text, *ub)?;
             text.extend_from_slice(b"\n")?;
         }
     }
+    Ok(())
+}
+
+// The lines of a search that is finished.
+pub fn answer_text(alloc: Global, claim: &Goal, nodes: usize) -> Result<Vec<u8>, AllocError>
+    ensures { IfOk result (λ text. text.items ≡ answer_lines claim.now nodes) }
+{
+    let mut text = Vec::new(alloc);
+    push_answer(&mut text, claim)?;
+    push_counts(&mut text, nodes)?;
     Ok(text)
 }
 
-// The lines of a search that is done: its answer, and the numbers of nodes and cuts.
-pub fn tell_answer<O: Sink>(out: &mut O, answer: &[u8]) -> Result<(), Failed>
-    ensures whole { O.tells ≡ true → OnOk result (O.taken out.new ≡ O.taken out.old ++ (answer.now ++ count_lines)) }
-    ensures front { O.tells ≡ true → OnErr result (AppendsFront (O.taken out.old) (O.taken out.new) (answer.now ++ count_lines)) }
-    ensures cause { Counts (O.faults out.old) (O.faults out.new) (is_err result) }
+// The lines of a search that stopped with open nodes.
+pub fn spent_text(alloc: Global, nodes: usize, waiting: usize) -> Result<Vec<u8>, AllocError>
+    ensures { IfOk result (λ text. text.items ≡ spent_lines nodes waiting) }
 {
-    write_all(out, answer)?;
-    tell_counts(out)
+    let mut text = Vec::new(alloc);
+    text.extend_from_slice(b"spent\n")?;
+    push_counts(&mut text, nodes)?;
+    push_number_line(&mut text, b"open ", waiting as u64)?;
+    Ok(text)
 }
 
-fn tell_counts<O: Sink>(out: &mut O) -> Result<(), Failed>
-    ensures whole { O.tells ≡ true → OnOk result (O.taken out.new ≡ O.taken out.old ++ count_lines) }
-    ensures front { O.tells ≡ true → OnErr result (AppendsFront (O.taken out.old) (O.taken out.new) count_lines) }
-    ensures cause { Counts (O.faults out.old) (O.faults out.new) (is_err result) }
+// The line of a text that is refused.
+pub fn refused_text(alloc: Global, line: u64, kind: Kind) -> Result<Vec<u8>, AllocError>
+    ensures { IfOk result (λ text. text.items ≡ refused_line line kind) }
 {
-    write_all(out, b"nodes 1\n")?;
-    write_all(out, b"cuts 0\n")
+    let mut text = Vec::new(alloc);
+    text.extend_from_slice(b"refused model ")?;
+    push_decimal(&mut text, line)?;
+    text.extend_from_slice(b" ")?;
+    text.extend_from_slice(kind_name(kind))?;
+    text.extend_from_slice(b"\n")?;
+    Ok(text)
 }

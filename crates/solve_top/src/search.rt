@@ -1,57 +1,37 @@
-// Solves a problem whose one point is feasible.
-ghost use Rattle.std.specs.Prelude.{◌≡◌, ◌≢◌, ◌⊎◌, ◌++◌, true, codes, IfOk};
+// Solves a problem, and tells how that ended.
+ghost use Rattle.std.specs.Prelude.{◌≡◌, ◌≢◌, ◌⊎◌, ◌++◌, ◌<◌, ◌≤◌, ◌+◌, ◌*◌, ◌^◌, [], length, true, codes};
 ghost use Rattle.outside.specs.Faults.{Rose};
 ghost use Rattle.outside.specs.Stream.{AppendsFront};
-ghost use Rattle.mps_reader.specs.Single.{fixed_point};
-ghost use Rattle.problem_box.specs.Changes.{IsFixed};
-ghost use Rattle.problem.specs.Feasible.{IsFeasible};
-ghost use Rattle.problem.specs.Best.{IsBest};
 ghost use Rattle.cert_rows.specs.Validity.{IsValid};
-ghost use Rattle.solve_top.specs.Headline.{certificate_of, certificate_text, claim_of};
-ghost use Rattle.solve_top.specs.Output.{BreaksOff, Told, answer_lines};
+ghost use Rattle.cert_merge.specs.Open.{so_far};
+ghost use Rattle.cert_tree.specs.Laws.{IsAnswer};
+ghost use Rattle.plain_search.specs.PointCount.{point_count};
+ghost use Rattle.solve_top.specs.Headline.{ended, certificate_of, certificate_text, lines_of, IsFinal, IsOutOfNodes};
+ghost use Rattle.solve_top.specs.Output.{BreaksOff, Told};
 
 use crate::Status;
-use crate::output::{answer_text, tell, tell_answer};
-use cert_merge::merge_fixed;
-use cert_rows::Cert;
-use outside::{Failed, Sink};
-use problem::{Point, Problem};
-use problem_box::IntBox;
+use crate::output::{answer_text, spent_text, tell};
+use cert_merge::{Search, merge};
+use outside::{Failed, Sink, write_all};
+use plain_search::{
+    Outcome, finished_searches_are_done, first_searches_are_plain, search, searches_end,
+};
+use problem::Problem;
 use std::alloc::{AllocError, Global};
 use vipr_print::{PrintFault, print};
 
-// The lower bound of each column.
-fn lower_point(alloc: Global, root: &IntBox) -> Result<Point, AllocError>
-    ensures { IfOk result (λ p. p ≡ fixed_point root.now) }
-{
-    let mut numbers = Vec::with_capacity(alloc, root.len())?;
-    for column in 0..root.len() {
-        numbers.push(root.span(column).lo)?;
-    }
-    Ok(Point::make(numbers))
-}
-
-// The certificate of a problem whose one point is feasible.
-fn certified(alloc: Global, problem: &Problem) -> Result<Cert, AllocError>
-    requires fixed { IsFixed problem.now.spans }
-    requires feasible { IsFeasible problem.now (fixed_point problem.now.spans) }
-    ensures table { IfOk result (λ c. c ≡ certificate_of problem.now) }
-    ensures valid { IfOk result (λ _. IsValid problem.now (certificate_of problem.now)) }
-    ensures best { IfOk result (λ _. IsBest problem.now (fixed_point problem.now.spans)) }
-{
-    let point = lower_point(alloc, problem.root())?;
-    merge_fixed(alloc, problem, &point)
-}
-
-// Writes the certificate and the lines of a problem whose one point is feasible.
-pub fn solve<C: Sink, O: Sink>(
+// Writes the certificate and the lines of a finished search.
+fn certify<C: Sink, O: Sink>(
     alloc: Global,
     problem: &Problem,
+    budget: u32,
+    search: &Search,
     cert: &mut C,
     out: &mut O,
 ) -> Status
-    requires fixed { IsFixed problem.now.spans }
-    requires feasible { IsFeasible problem.now (fixed_point problem.now.spans) }
+    requires budget { budget ≤ 10 ^ 9 }
+    requires finished { IsFinal problem.now budget }
+    requires search { search.now ≡ so_far (ended problem.now budget).search }
     ensures named { (result ≡ Status.Done) ⊎ (result ≡ Status.Sink) ⊎ (result ≡ Status.Memory) }
 
     // A sink's fault is not hidden, and none is made up.
@@ -60,32 +40,29 @@ pub fn solve<C: Sink, O: Sink>(
     ensures kept { result ≢ Status.Sink → C.faults cert.new ≡ C.faults cert.old }
     ensures quiet { result ≡ Status.Done → O.faults out.new ≡ O.faults out.old }
 
-    // The certificate is valid and its point the best one.
-    ensures valid { (result ≡ Status.Done) ⊎ (result ≡ Status.Sink) → IsValid problem.now (certificate_of problem.now) }
-    ensures best { (result ≡ Status.Done) ⊎ (result ≡ Status.Sink) → IsBest problem.now (fixed_point problem.now.spans) }
-
-    // What was written of it: all, also where the lines failed, and else a front.
+    // What was written of the certificate: all, also where the lines failed, and else a front.
     ensures spelled { C.tells ≡ true → result ≡ Status.Done
-        → C.taken cert.new ≡ C.taken cert.old ++ certificate_text problem.now }
+        → C.taken cert.new ≡ C.taken cert.old ++ certificate_text problem.now budget }
     ensures printed { C.tells ≡ true → result ≡ Status.Sink → Rose (C.faults cert.old) (C.faults cert.new)
-        ⊎ (C.taken cert.new ≡ C.taken cert.old ++ certificate_text problem.now) }
+        ⊎ (C.taken cert.new ≡ C.taken cert.old ++ certificate_text problem.now budget) }
     ensures front { C.tells ≡ true
-        → AppendsFront (C.taken cert.old) (C.taken cert.new) (certificate_text problem.now) }
+        → AppendsFront (C.taken cert.old) (C.taken cert.new) (certificate_text problem.now budget) }
 
     // The lines, or a front of them.
     ensures answered { O.tells ≡ true → result ≡ Status.Done
-        → O.taken out.new ≡ O.taken out.old ++ answer_lines (claim_of problem.now) }
+        → O.taken out.new ≡ O.taken out.old ++ lines_of problem.now budget }
     ensures stopped { O.tells ≡ true → result ≡ Status.Sink
         → BreaksOff (C.faults cert.old) (C.faults cert.new) (O.taken out.old) (O.taken out.new)
-        (O.faults out.old) (O.faults out.new) (answer_lines (claim_of problem.now)) }
+        (O.faults out.old) (O.faults out.new) (lines_of problem.now budget) }
     ensures short { O.tells ≡ true → result ≡ Status.Memory
         → Told (O.taken out.old) (O.taken out.new) (O.faults out.old) (O.faults out.new) (codes "no memory\n") }
 {
-    let Ok(certificate) = certified(alloc, problem) else {
+    first_searches_are_plain(problem);
+    let Ok(certificate) = merge(alloc, problem, search) else {
         tell(out, b"no memory\n");
         return Status::Memory;
     };
-    let Ok(answer) = answer_text(alloc, &certificate.claim) else {
+    let Ok(lines) = answer_text(alloc, &certificate.claim, search.len()) else {
         tell(out, b"no memory\n");
         return Status::Memory;
     };
@@ -100,8 +77,99 @@ pub fn solve<C: Sink, O: Sink>(
             return Status::Memory;
         }
     }
-    match tell_answer(out, &answer) {
+    match write_all(out, &lines) {
         Ok(()) => Status::Done,
         Err(Failed) => Status::Sink,
+    }
+}
+
+// Tells that a search stopped with open nodes.
+fn tell_spent<O: Sink>(
+    alloc: Global,
+    problem: &Problem,
+    budget: u32,
+    nodes: usize,
+    waiting: usize,
+    out: &mut O,
+) -> Status
+    requires open { ¬ IsFinal problem.now budget }
+    requires nodes { nodes ≡ length (ended problem.now budget).search.nodes }
+    requires waiting { waiting ≡ length (ended problem.now budget).pending }
+    ensures named { (result ≡ Status.Spent) ⊎ (result ≡ Status.Sink) ⊎ (result ≡ Status.Memory) }
+    ensures sink { result ≡ Status.Sink → Rose (O.faults out.old) (O.faults out.new) }
+    ensures quiet { result ≡ Status.Spent → O.faults out.new ≡ O.faults out.old }
+    ensures answered { O.tells ≡ true → result ≡ Status.Spent
+        → O.taken out.new ≡ O.taken out.old ++ lines_of problem.now budget }
+    ensures stopped { O.tells ≡ true → result ≡ Status.Sink
+        → AppendsFront (O.taken out.old) (O.taken out.new) (lines_of problem.now budget) }
+    ensures short { O.tells ≡ true → result ≡ Status.Memory
+        → Told (O.taken out.old) (O.taken out.new) (O.faults out.old) (O.faults out.new) (codes "no memory\n") }
+{
+    let Ok(lines) = spent_text(alloc, nodes, waiting) else {
+        tell(out, b"no memory\n");
+        return Status::Memory;
+    };
+    match write_all(out, &lines) {
+        Ok(()) => Status::Spent,
+        Err(Failed) => Status::Sink,
+    }
+}
+
+// Searches a problem in at most so many nodes, or in node 0 alone, and writes the certificate and the lines.
+pub fn solve<C: Sink, O: Sink>(
+    alloc: Global,
+    problem: &Problem,
+    budget: u32,
+    cert: &mut C,
+    out: &mut O,
+) -> Status
+    requires { budget ≤ 10 ^ 9 }
+    ensures named { (result ≡ Status.Done) ⊎ (result ≡ Status.Spent) ⊎ (result ≡ Status.Sink) ⊎ (result ≡ Status.Memory) }
+
+    // A sink's fault is not hidden, and none is made up.
+    ensures sink { result ≡ Status.Sink
+        → Rose (C.faults cert.old) (C.faults cert.new) ⊎ Rose (O.faults out.old) (O.faults out.new) }
+    ensures kept { result ≢ Status.Sink → C.faults cert.new ≡ C.faults cert.old }
+    ensures quiet { (result ≡ Status.Done) ⊎ (result ≡ Status.Spent) → O.faults out.new ≡ O.faults out.old }
+
+    // Where no node is open at the end of the search, its certificate is valid and its incumbent answers the problem.
+    ensures valid { IsFinal problem.now budget → IsValid problem.now (certificate_of problem.now budget) }
+    ensures answer { IsFinal problem.now budget → IsAnswer problem.now (ended problem.now budget).search.incumbent }
+
+    // Whether the search is finished.
+    ensures finished { result ≡ Status.Done → IsFinal problem.now budget }
+    ensures spent { result ≡ Status.Spent → IsOutOfNodes problem.now budget }
+    ensures few { result ≡ Status.Spent → budget + 1 < 2 * point_count problem.now.spans }
+
+    // What was written of the certificate: all, also where the lines failed; or a front; or nothing where the search is spent.
+    ensures spelled { C.tells ≡ true → result ≡ Status.Done
+        → C.taken cert.new ≡ C.taken cert.old ++ certificate_text problem.now budget }
+    ensures printed { C.tells ≡ true → result ≡ Status.Sink → Rose (C.faults cert.old) (C.faults cert.new)
+        ⊎ ((IsFinal problem.now budget × (C.taken cert.new ≡ C.taken cert.old ++ certificate_text problem.now budget))
+        ⊎ (IsOutOfNodes problem.now budget × (C.taken cert.new ≡ C.taken cert.old))) }
+    ensures front { C.tells ≡ true → (C.taken cert.new ≡ C.taken cert.old)
+        ⊎ (IsFinal problem.now budget × AppendsFront (C.taken cert.old) (C.taken cert.new) (certificate_text problem.now budget)) }
+    ensures none { C.tells ≡ true → result ≡ Status.Spent → C.taken cert.new ≡ C.taken cert.old }
+
+    // The lines, or a front of them.
+    ensures answered { O.tells ≡ true → (result ≡ Status.Done) ⊎ (result ≡ Status.Spent)
+        → O.taken out.new ≡ O.taken out.old ++ lines_of problem.now budget }
+    ensures stopped { O.tells ≡ true → result ≡ Status.Sink
+        → BreaksOff (C.faults cert.old) (C.faults cert.new) (O.taken out.old) (O.taken out.new)
+        (O.faults out.old) (O.faults out.new) (lines_of problem.now budget) }
+    ensures short { O.tells ≡ true → result ≡ Status.Memory
+        → Told (O.taken out.old) (O.taken out.new) (O.faults out.old) (O.faults out.new) (codes "no memory\n") }
+{
+    finished_searches_are_done(problem);
+    searches_end(problem);
+    match search(alloc, problem, budget) {
+        Ok(Outcome::Finished(search)) => certify(alloc, problem, budget, &search, cert, out),
+        Ok(Outcome::Spent { nodes, waiting }) => {
+            tell_spent(alloc, problem, budget, nodes, waiting, out)
+        }
+        Err(AllocError) => {
+            tell(out, b"no memory\n");
+            Status::Memory
+        }
     }
 }

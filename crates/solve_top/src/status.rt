@@ -15,6 +15,8 @@ pub enum Status {
     ReadFault,
     /// The certificate or the lines can't be written.
     Sink,
+    /// The search may have no more nodes, and isn't finished.
+    Spent,
     /// Memory ran out.
     Memory,
 }
@@ -30,6 +32,7 @@ impl Status {
             Status::Model => 3,
             Status::ReadFault => 5,
             Status::Sink => 7,
+            Status::Spent => 8,
             Status::Memory => 9,
         }
     }

@@ -1,10 +1,11 @@
 //! Whole runs over sources and sinks in memory.
 
-use crate::{Ran, Status, Words, WordsFault, paths_of, run, run_one};
+use crate::{Ran, Status, Words, run, run_one};
 use outside::{MemDisk, MemSink, MemSource, NoHold};
 use std::alloc::{AllocError, Global};
 use std::hash::{BuildHasherDefault, DefaultHasher};
 
+/// Minimise 3x where x is at least 1, and is 2.
 const ONE: &str =
     "NAME one\nROWS\n N obj\n G r\nCOLUMNS\n m 'MARKER' 'INTORG'\n x obj 3 r 1\n m 'MARKER' 'INTEND'\nRHS\n rhs r 1\nBOUNDS\n FX b x 2\nENDATA\n";
 
@@ -13,7 +14,18 @@ const ONE_CERTIFICATE: &str =
 
 const ONE_LINES: &str = "optimal 6\nnodes 1\ncuts 0\n";
 
-/// The words of a command line.
+/// The line of that model that has the bound of x.
+const BOUND: &str = " FX b x 2\n";
+
+/// That model with another line in the place of one.
+fn changed(alloc: Global, line: &'static str, other: &str) -> Result<String, AllocError> {
+    let mut text = String::new(alloc);
+    for old in ONE.split_inclusive('\n') {
+        text.push_str(if old == line { other } else { old })?;
+    }
+    Ok(text)
+}
+
 fn words_of(alloc: Global, line: &str) -> Result<Words, AllocError> {
     let mut words = Words::new(alloc);
     for word in line.split(' ') {
@@ -22,8 +34,8 @@ fn words_of(alloc: Global, line: &str) -> Result<Words, AllocError> {
     Ok(words)
 }
 
-/// What a run of these words on this model answers. Its certificate goes to `cert` and its lines to `out`.
-fn answer(
+/// The status of a run of these words on this model.
+fn status_of(
     alloc: Global,
     line: &str,
     mut model: MemSource,
@@ -32,42 +44,38 @@ fn answer(
 ) -> Result<u8, AllocError> {
     let words = words_of(alloc, line)?;
     let keys: BuildHasherDefault<DefaultHasher> = BuildHasherDefault::new();
-    let Ran { status, disk: _ } = run_one(
-        alloc,
-        keys,
-        &words,
-        &mut model,
-        MemDisk::new(alloc),
-        cert,
-        out,
-    );
+    let disk = MemDisk::new(alloc);
+    let Ran { status, disk: _ } = run_one(alloc, keys, &words, &mut model, disk, cert, out);
     Ok(status)
+}
+
+/// Whether such a run ends with this status and these lines, and writes a certificate where it is done and nothing else.
+fn ends(
+    alloc: Global,
+    line: &str,
+    text: &str,
+    wanted: Status,
+    lines: &str,
+) -> Result<bool, AllocError> {
+    let model = MemSource::new(alloc, text.as_bytes())?;
+    let mut cert = MemSink::new(alloc);
+    let mut out = MemSink::new(alloc);
+    let status = status_of(alloc, line, model, &mut cert, &mut out)?;
+    Ok(
+        status == wanted.number()
+            && out.bytes() == lines.as_bytes()
+            && cert.bytes().is_empty() == (wanted != Status::Done),
+    )
 }
 
 #[test]
 fn one_point(rt: HostRuntime) -> Result<(), AllocError> {
     let alloc = rt.alloc();
-    for most in [usize::MAX, 1, 7] {
-        assert!(rt; 0 < most);
-        let model = MemSource::new(alloc, ONE.as_bytes())?.in_pieces(most);
-        let mut cert = MemSink::new(alloc).in_pieces(most);
-        let mut out = MemSink::new(alloc).in_pieces(most);
-        let status = answer(alloc, "solve m j c", model, &mut cert, &mut out)?;
-        assert_eq!(rt; status, Status::Done.number());
-        assert!(rt; cert.bytes() == ONE_CERTIFICATE.as_bytes());
-        assert!(rt; out.bytes() == ONE_LINES.as_bytes());
-    }
-    Ok(())
-}
-
-#[test]
-fn one_point_by_run(rt: HostRuntime) -> Result<(), AllocError> {
-    let alloc = rt.alloc();
     let words = words_of(alloc, "solve m j c")?;
     let keys: BuildHasherDefault<DefaultHasher> = BuildHasherDefault::new();
-    let mut model = MemSource::new(alloc, ONE.as_bytes())?;
-    let mut cert = MemSink::new(alloc);
-    let mut out = MemSink::new(alloc);
+    let mut model = MemSource::new(alloc, ONE.as_bytes())?.in_pieces(7);
+    let mut cert = MemSink::new(alloc).in_pieces(7);
+    let mut out = MemSink::new(alloc).in_pieces(7);
     let disk = MemDisk::new(alloc);
     let Ran { status, disk: _ } = run(
         &rt, alloc, keys, &words, &mut model, disk, &mut cert, &mut out, &NoHold,
@@ -78,52 +86,82 @@ fn one_point_by_run(rt: HostRuntime) -> Result<(), AllocError> {
     Ok(())
 }
 
-/// A model of that many columns, each fixed at a million, with a price of a thousand million.
-fn dear_model(alloc: Global, columns: usize) -> Result<String, AllocError> {
-    let mut text = String::from_str(
-        alloc,
-        "NAME dear\nROWS\n N obj\nCOLUMNS\n m 'MARKER' 'INTORG'\n",
-    )?;
-    for column in 0..columns {
-        write!(text, " x{column} obj 1000000000\n")?;
-    }
-    text.push_str(" m 'MARKER' 'INTEND'\nRHS\nBOUNDS\n")?;
-    for column in 0..columns {
-        write!(text, " FX b x{column} 1000000\n")?;
-    }
-    text.push_str("ENDATA\n")?;
-    Ok(text)
-}
-
 #[test]
-fn most_columns(rt: HostRuntime) -> Result<(), AllocError> {
+fn infeasible(rt: HostRuntime) -> Result<(), AllocError> {
     let alloc = rt.alloc();
-    let text = dear_model(alloc, 1000)?;
-    let model = MemSource::new(alloc, text.as_bytes())?;
-    let mut cert = MemSink::new(alloc);
-    let mut out = MemSink::new(alloc);
-    let status = answer(alloc, "solve m j c", model, &mut cert, &mut out)?;
-    assert_eq!(rt; status, Status::Done.number());
-    assert!(rt; out.bytes() == b"optimal 1000000000000000000\nnodes 1\ncuts 0\n".as_slice());
-    let more = dear_model(alloc, 1001)?;
-    let model = MemSource::new(alloc, more.as_bytes())?;
-    let status = answer(alloc, "solve m j c", model, &mut cert, &mut out)?;
-    assert_eq!(rt; status, Status::Model.number());
+    let text = changed(alloc, " rhs r 1\n", " rhs r 3\n")?;
+    let lines = "infeasible\nnodes 1\ncuts 0\n";
+    assert!(rt; ends(alloc, "solve m j c", text.as_str(), Status::Done, lines)?);
     Ok(())
 }
 
 #[test]
-fn read_faults(rt: HostRuntime) -> Result<(), AllocError> {
+fn spent(rt: HostRuntime) -> Result<(), AllocError> {
     let alloc = rt.alloc();
-    for failing in [0, 1, 5] {
-        let model = MemSource::failing(alloc, ONE.as_bytes(), &[failing])?.in_pieces(20);
-        let mut cert = MemSink::new(alloc);
-        let mut out = MemSink::new(alloc);
-        let status = answer(alloc, "solve m j c", model, &mut cert, &mut out)?;
-        assert_eq!(rt; status, Status::ReadFault.number());
-        assert!(rt; cert.bytes().is_empty());
-        assert!(rt; out.bytes() == b"fault read\n".as_slice());
+    let text = changed(alloc, BOUND, " UP b x 5\n")?;
+    let lines = "spent\nnodes 1\ncuts 0\nopen 1\n";
+    assert!(rt;
+        ends(
+            alloc,
+            "solve m j c --nodes 2",
+            text.as_str(),
+            Status::Spent,
+            lines
+        )?
+    );
+    Ok(())
+}
+
+#[test]
+fn upper(rt: HostRuntime) -> Result<(), AllocError> {
+    let alloc = rt.alloc();
+    let text = changed(alloc, BOUND, " LO b x 2\n")?;
+    let lines = "optimal 6\nnodes 3\ncuts 0\n";
+    assert!(rt;
+        ends(
+            alloc,
+            "solve m j c --upper 3",
+            text.as_str(),
+            Status::Done,
+            lines
+        )?
+    );
+    let lines = "refused model 7 NoBound\n";
+    assert!(rt; ends(alloc, "solve m j c", text.as_str(), Status::Model, lines)?);
+    Ok(())
+}
+
+#[test]
+fn refused_model(rt: HostRuntime) -> Result<(), AllocError> {
+    let alloc = rt.alloc();
+    let text = changed(alloc, " rhs r 1\n", " rhs r 1\n rhs2 r 1\n")?;
+    let lines = "refused model 11 ManySets\n";
+    assert!(rt; ends(alloc, "solve m j c", text.as_str(), Status::Model, lines)?);
+    Ok(())
+}
+
+#[test]
+fn usage(rt: HostRuntime) -> Result<(), AllocError> {
+    let alloc = rt.alloc();
+    for line in ["", "solve m j j", "solve m j c --nodes 0"] {
+        assert!(rt;
+            ends(alloc, line, ONE, Status::Usage, "refused usage\n")?,
+            "{line}"
+        );
     }
+    Ok(())
+}
+
+#[test]
+fn read_fault(rt: HostRuntime) -> Result<(), AllocError> {
+    let alloc = rt.alloc();
+    let model = MemSource::failing(alloc, ONE.as_bytes(), &[1])?.in_pieces(20);
+    let mut cert = MemSink::new(alloc);
+    let mut out = MemSink::new(alloc);
+    let status = status_of(alloc, "solve m j c", model, &mut cert, &mut out)?;
+    assert_eq!(rt; status, Status::ReadFault.number());
+    assert!(rt; cert.bytes().is_empty());
+    assert!(rt; out.bytes() == b"fault read\n".as_slice());
     Ok(())
 }
 
@@ -133,79 +171,16 @@ fn sink_faults(rt: HostRuntime) -> Result<(), AllocError> {
     let mut cert = MemSink::failing(alloc, &[1])?;
     let mut out = MemSink::new(alloc);
     let model = MemSource::new(alloc, ONE.as_bytes())?;
-    let status = answer(alloc, "solve m j c", model, &mut cert, &mut out)?;
+    let status = status_of(alloc, "solve m j c", model, &mut cert, &mut out)?;
     assert_eq!(rt; status, Status::Sink.number());
     assert!(rt; cert.bytes() == b"VER 1.0\n".as_slice());
     assert!(rt; out.bytes() == b"fault sink\n".as_slice());
     let mut cert = MemSink::new(alloc);
-    let mut out = MemSink::failing(alloc, &[1])?;
+    let mut out = MemSink::failing(alloc, &[1])?.in_pieces(10);
     let model = MemSource::new(alloc, ONE.as_bytes())?;
-    let status = answer(alloc, "solve m j c", model, &mut cert, &mut out)?;
+    let status = status_of(alloc, "solve m j c", model, &mut cert, &mut out)?;
     assert_eq!(rt; status, Status::Sink.number());
     assert!(rt; cert.bytes() == ONE_CERTIFICATE.as_bytes());
     assert!(rt; out.bytes() == b"optimal 6\n".as_slice());
-    Ok(())
-}
-
-#[test]
-fn no_commands(rt: HostRuntime) -> Result<(), AllocError> {
-    let alloc = rt.alloc();
-    for line in [
-        "",
-        "solve a b",
-        "solve a b b",
-        "solve a a c",
-        "solve a b c d",
-        "solve a b c --workers 17",
-        "drill x c",
-        "resume a b c",
-        "solve -a b c",
-        "solve a  c",
-    ] {
-        let model = MemSource::new(alloc, ONE.as_bytes())?;
-        let mut cert = MemSink::new(alloc);
-        let mut out = MemSink::new(alloc);
-        let status = answer(alloc, line, model, &mut cert, &mut out)?;
-        assert_eq!(rt; status, Status::Usage.number(), "{line}");
-        assert!(rt; cert.bytes().is_empty());
-        assert!(rt; out.bytes() == b"refused usage\n".as_slice());
-        assert!(rt;
-            matches!(
-                paths_of(alloc, &words_of(alloc, line)?),
-                Err(WordsFault::Usage)
-            )
-        );
-    }
-    Ok(())
-}
-
-#[test]
-fn other_models(rt: HostRuntime) -> Result<(), AllocError> {
-    let alloc = rt.alloc();
-    for text in ["", "NAME one\nENDATA\n", "ROWS\n N obj\nCOLUMNS\nENDATA\n"] {
-        let model = MemSource::new(alloc, text.as_bytes())?;
-        let mut cert = MemSink::new(alloc);
-        let mut out = MemSink::failing(alloc, &[1])?.in_pieces(8);
-        let status = answer(alloc, "solve m j c", model, &mut cert, &mut out)?;
-        assert_eq!(rt; status, Status::Model.number());
-        assert!(rt; cert.bytes().is_empty());
-        assert!(rt; out.bytes() == b"refused ".as_slice());
-    }
-    Ok(())
-}
-
-#[test]
-fn paths(rt: HostRuntime) -> Result<(), AllocError> {
-    let alloc = rt.alloc();
-    let Ok(paths) = paths_of(alloc, &words_of(alloc, "solve m j c")?) else {
-        return Err(AllocError);
-    };
-    for (path, text) in [
-        (&paths.model, "m"),
-        (&paths.journal, "j"),
-        (&paths.cert, "c"),
-    ] {
-        assert!(rt; matches!(path, Some(path) if path.as_str() == text));
-    }
     Ok(())
 }

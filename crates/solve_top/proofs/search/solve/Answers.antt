@@ -1,40 +1,66 @@
-use Rattle.std.proofs.Common.{◌≡◌, inl, inr, ◌∙◌}
-use Rattle.solve_top.proofs.Fronts.{front_all, sink_rose}
-use Rattle.solve_top.proofs.Texts.{whole_text, front_text, whole_lines, front_lines}
+use Rattle.std.proofs.Common.{inl, inr, refl}
+use Rattle.solve_top.proofs.Outcomes.{outcome_finished, outcome_spent}
+use Rattle.solve_top.proofs.Texts.{done_end, spent_end, few_end}
 use Rattle.solve_top.proofs.search.solve.Goals as goal
 
-pub returns-in_default-answer_text-clause-short : goal.returns-in_default-answer_text-clause-short
-returns-in_default-answer_text-clause-short g c told is = c.tell-in_default-answer_text.ensures told
+pub certify-requires-clause-finished : goal.certify-requires-clause-finished
+certify-requires-clause-finished g c = (outcome_finished _ _ _ _ c.in-Ok-Finished.field-0-is c.in-Ok-Finished.ensures).0
 
-pub returns-in-Err-Sink-clause-front : goal.returns-in-Err-Sink-clause-front
-returns-in-Err-Sink-clause-front g c told = front_text _ _ _ _ c.in-Ok.ensures.table (c.in-Err-Sink.ensures.front told)
+pub certify-requires-clause-search : goal.certify-requires-clause-search
+certify-requires-clause-search g c = (outcome_finished _ _ _ _ c.in-Ok-Finished.field-0-is c.in-Ok-Finished.ensures).1
 
-pub returns-in-Err-Sink-clause-stopped : goal.returns-in-Err-Sink-clause-stopped
-returns-in-Err-Sink-clause-stopped g c told is =
-    inl (sink_rose _ _ _ c.in-Err-Sink.field-0-is c.in-Err-Sink.ensures.cause, c.tell-in-Err-Sink.ensures told)
+pub tell_spent-requires-clause-open : goal.tell_spent-requires-clause-open
+tell_spent-requires-clause-open g c = (outcome_spent _ _ _ _ _ c.in-Ok-Spent.field-0-is c.in-Ok-Spent.ensures).0
 
-pub returns-in-Err-Memory-clause-front : goal.returns-in-Err-Memory-clause-front
-returns-in-Err-Memory-clause-front g c told = front_text _ _ _ _ c.in-Ok.ensures.table (c.in-Err-Memory.ensures.front told)
+pub tell_spent-requires-clause-nodes : goal.tell_spent-requires-clause-nodes
+tell_spent-requires-clause-nodes g c = (outcome_spent _ _ _ _ _ c.in-Ok-Spent.field-0-is c.in-Ok-Spent.ensures).1
 
-pub returns-in-Err-Memory-clause-short : goal.returns-in-Err-Memory-clause-short
-returns-in-Err-Memory-clause-short g c told is = c.tell-in-Err-Memory.ensures told
+pub tell_spent-requires-clause-waiting : goal.tell_spent-requires-clause-waiting
+tell_spent-requires-clause-waiting g c = (outcome_spent _ _ _ _ _ c.in-Ok-Spent.field-0-is c.in-Ok-Spent.ensures).2
 
-pub returns-in-Ok-tell_answer-clause-spelled : goal.returns-in-Ok-tell_answer-clause-spelled
-returns-in-Ok-tell_answer-clause-spelled g c told is = whole_text _ _ _ _ c.in-Ok.ensures.table (c.in-Ok-print.ensures.whole told)
+pub returns-in-Ok-Finished-clause-valid : goal.returns-in-Ok-Finished-clause-valid
+returns-in-Ok-Finished-clause-valid g c f = (done_end _ _ c.finished_searches_are_done.ensures f).valid
 
-pub returns-in-Ok-tell_answer-clause-front : goal.returns-in-Ok-tell_answer-clause-front
-returns-in-Ok-tell_answer-clause-front g c told = front_all _ _ _ (whole_text _ _ _ _ c.in-Ok.ensures.table (c.in-Ok-print.ensures.whole told))
+pub returns-in-Ok-Finished-clause-answer : goal.returns-in-Ok-Finished-clause-answer
+returns-in-Ok-Finished-clause-answer g c f = (done_end _ _ c.finished_searches_are_done.ensures f).answer
 
-pub returns-in-Ok-tell_answer-clause-answered : goal.returns-in-Ok-tell_answer-clause-answered
-returns-in-Ok-tell_answer-clause-answered g c told is = whole_lines _ _ _ _ _ c.in-Ok.ensures.table (c.deref.ensures.value ∙ c.in-Ok-answer_text.ensures) (c.in-Ok-tell_answer.ensures.whole told)
+pub returns-in-Ok-Finished-clause-finished : goal.returns-in-Ok-Finished-clause-finished
+returns-in-Ok-Finished-clause-finished g c is = (outcome_finished _ _ _ _ c.in-Ok-Finished.field-0-is c.in-Ok-Finished.ensures).0
 
-pub returns-clause-printed : goal.returns-clause-printed
-returns-clause-printed g c told is = inr (whole_text _ _ _ _ c.in-Ok.ensures.table (c.in-Ok-print.ensures.whole told))
+pub returns-in-Ok-Finished-clause-printed : goal.returns-in-Ok-Finished-clause-printed
+returns-in-Ok-Finished-clause-printed g c told is =
+    elim (c.certify.ensures.printed told is) [
+      | inl rose ↦ inl rose
+      | inr whole ↦ inr (inl ((outcome_finished _ _ _ _ c.in-Ok-Finished.field-0-is c.in-Ok-Finished.ensures).0, whole))
+    ]
 
-pub returns-clause-front : goal.returns-clause-front
-returns-clause-front g c told = front_all _ _ _ (whole_text _ _ _ _ c.in-Ok.ensures.table (c.in-Ok-print.ensures.whole told))
+pub returns-in-Ok-Finished-clause-front : goal.returns-in-Ok-Finished-clause-front
+returns-in-Ok-Finished-clause-front g c told =
+    inr ((outcome_finished _ _ _ _ c.in-Ok-Finished.field-0-is c.in-Ok-Finished.ensures).0, c.certify.ensures.front told)
 
-pub returns-clause-stopped : goal.returns-clause-stopped
-returns-clause-stopped g c told is =
-    let kept : g.C.Sink.faults c.print.new.sink ≡ g.C.Sink.faults c.args.cert.now = c.in-Ok-print.ensures.cause in
-    inr (kept, front_lines _ _ _ _ _ c.in-Ok.ensures.table (c.deref.ensures.value ∙ c.in-Ok-answer_text.ensures) (c.in-Err.ensures.front told), c.in-Err.ensures.cause.1)
+pub returns-in-Ok-Spent-clause-valid : goal.returns-in-Ok-Spent-clause-valid
+returns-in-Ok-Spent-clause-valid g c f = (done_end _ _ c.finished_searches_are_done.ensures f).valid
+
+pub returns-in-Ok-Spent-clause-answer : goal.returns-in-Ok-Spent-clause-answer
+returns-in-Ok-Spent-clause-answer g c f = (done_end _ _ c.finished_searches_are_done.ensures f).answer
+
+pub returns-in-Ok-Spent-clause-spent : goal.returns-in-Ok-Spent-clause-spent
+returns-in-Ok-Spent-clause-spent g c is =
+    spent_end _ _ c.searches_end.ensures.spent (outcome_spent _ _ _ _ _ c.in-Ok-Spent.field-0-is c.in-Ok-Spent.ensures).0
+
+pub returns-in-Ok-Spent-clause-few : goal.returns-in-Ok-Spent-clause-few
+returns-in-Ok-Spent-clause-few g c is =
+    few_end c.args.problem.now c.args.budget c.searches_end.ensures.budget (outcome_spent _ _ _ _ _ c.in-Ok-Spent.field-0-is c.in-Ok-Spent.ensures).0
+
+pub returns-in-Ok-Spent-clause-printed : goal.returns-in-Ok-Spent-clause-printed
+returns-in-Ok-Spent-clause-printed g c told is =
+    inr (inr (spent_end _ _ c.searches_end.ensures.spent (outcome_spent _ _ _ _ _ c.in-Ok-Spent.field-0-is c.in-Ok-Spent.ensures).0, refl))
+
+pub returns-in-Err-clause-valid : goal.returns-in-Err-clause-valid
+returns-in-Err-clause-valid g c f = (done_end _ _ c.finished_searches_are_done.ensures f).valid
+
+pub returns-in-Err-clause-answer : goal.returns-in-Err-clause-answer
+returns-in-Err-clause-answer g c f = (done_end _ _ c.finished_searches_are_done.ensures f).answer
+
+pub returns-in-Err-clause-short : goal.returns-in-Err-clause-short
+returns-in-Err-clause-short g c told is = c.tell.ensures told

@@ -1,0 +1,52 @@
+// What a run answers.
+
+ghost use Rattle.std.specs.Prelude.{◌≡◌, ◌≢◌, [], true, None, IfSome};
+
+use crate::case::Expected;
+use outside::{MemDisk, MemSink, MemSource};
+use solve_top::{Ran, Words, run_one};
+use std::alloc::{AllocError, Global};
+use std::hash::{BuildHasherDefault, DefaultHasher};
+
+/// What a run answered.
+#[derive(Drop)]
+pub struct Outcome {
+    pub status: u8,
+    pub lines: Vec<u8>,
+    pub certificate: Vec<u8>,
+}
+
+/// A run of the top call over memory.
+pub fn outcome_of(alloc: Global, words: &Words, model: &[u8]) -> Result<Outcome, AllocError> {
+    let keys: BuildHasherDefault<DefaultHasher> = BuildHasherDefault::new();
+    let mut model = MemSource::new(alloc, model)?;
+    let mut cert = MemSink::new(alloc);
+    let mut out = MemSink::new(alloc);
+    let disk = MemDisk::new(alloc);
+    let Ran { status, disk: _ } = run_one(
+        alloc, keys, words, &mut model, disk, &mut cert, &mut out,
+    );
+    Ok(Outcome {
+        status,
+        lines: out.bytes().to_vec(alloc)?,
+        certificate: cert.bytes().to_vec(alloc)?,
+    })
+}
+
+impl Outcome {
+    /// Whether this is what a case expects.
+    pub fn meets(&self, expected: &Expected) -> bool
+        ensures status { result ≡ true → self.now.status ≡ expected.now.status }
+        ensures lines { result ≡ true → self.now.lines.items ≡ expected.now.lines.items }
+        ensures certificate { result ≡ true → IfSome expected.now.certificate (λ c. self.now.certificate.items ≡ c.items) }
+        ensures none { result ≡ true → expected.now.certificate ≡ None → self.now.status ≢ 0 → self.now.certificate.items ≡ [] }
+    {
+        let is_certified = match &expected.certificate {
+            Some(certificate) => self.certificate.as_slice() == certificate.as_slice(),
+            None => self.status == 0 || self.certificate.is_empty(),
+        };
+        is_certified
+            && self.status == expected.status
+            && self.lines.as_slice() == expected.lines.as_slice()
+    }
+}

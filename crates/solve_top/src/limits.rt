@@ -1,0 +1,50 @@
+// What the words ask of a search.
+ghost use Rattle.std.specs.Prelude.{◌≡◌, ◌≤◌, ◌^◌, true, false, IfOk, IsErrOf};
+ghost use Rattle.mps_reader.specs.Finished.{IsModestUpper};
+ghost use Rattle.command_words.specs.Commands.{HasRanges, asked, is_command};
+ghost use Rattle.solve_top.specs.Commands.{budget_of, nodes_asked, upper_asked, upper_of};
+
+use command_words::{Command, Words, WordsFault, parse};
+use std::alloc::Global;
+
+// The limits of a search.
+#[derive(Clone, Copy, Debug, PartialEq, Eq)]
+pub struct Limits {
+    // The most nodes.
+    pub budget: u32,
+    // The upper bound of each column that has none.
+    pub upper: Option<u32>,
+}
+
+// The limits that this command asks for.
+fn limits_in(command: &Command) -> Limits
+    ensures budget { result.budget ≡ nodes_asked (Some (asked command.now)) }
+    ensures upper { result.upper ≡ upper_asked (Some (asked command.now)) }
+    ensures ranges { HasRanges command.now → (result.budget ≤ 10 ^ 9) × IsModestUpper result.upper }
+{
+    match command {
+        Command::Solve {
+            model: _,
+            journal: _,
+            cert: _,
+            nodes,
+            upper,
+        } => Limits {
+            budget: *nodes,
+            upper: *upper,
+        },
+    }
+}
+
+// The limits that the words ask for. `Usage`: they are no command.
+pub fn limits_of(alloc: Global, words: &Words) -> Result<Limits, WordsFault>
+    ensures command { IfOk result (λ l. is_command words.now ≡ true) }
+    ensures usage { IsErrOf result WordsFault.Usage → is_command words.now ≡ false }
+    ensures budget { IfOk result (λ l. l.budget ≡ budget_of words.now) }
+    ensures upper { IfOk result (λ l. l.upper ≡ upper_of words.now) }
+    ensures few { IfOk result (λ l. l.budget ≤ 10 ^ 9) }
+    ensures modest { IfOk result (λ l. IsModestUpper l.upper) }
+{
+    let command = parse(alloc, words)?;
+    Ok(limits_in(&command))
+}
