@@ -211,7 +211,7 @@ fn read(text: &[u8]) -> Result<Problem, Fault> {
             continue;
         }
         fields.clear();
-        fields.extend(line.split(|b| *b == b' ' || *b == b'\t').filter(|field| !field.is_empty()));
+        fields.extend(line.split(|b| *b == b' ' || *b == b'\t').filter(|field| !field.is_empty()).take(6));
         if fields.is_empty() {
             continue;
         }

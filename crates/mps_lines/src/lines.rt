@@ -2,7 +2,7 @@
 
 ghost use Rattle.std.specs.Prelude.{◌≡◌, ℕ, ◌+◌, ◌-◌, ◌<◌, ◌≤◌, ◌∷◌, [], map, length, take, drop, Bool, true, List, ◌++◌, not, ◌==◌, IfOk, OnErr, MatchOption, ◌^◌, is_some, false};
 ghost use Rattle.std.specs.List.{list_all, position_or_len};
-ghost use Rattle.mps_lines.specs.Lines.{is_blank, is_passed_over, begins_blank, begins_with, fields_of, raw_lines, line_of, numbered};
+ghost use Rattle.mps_lines.specs.Lines.{is_blank, is_passed_over, begins_blank, begins_with, kept_fields, raw_lines, line_of, numbered};
 ghost use Rattle.mps_lines.specs.Ends.{without_cr};
 ghost use Rattle.mps_lines.specs.Left.{left, room, text_len, with_first, lines_of};
 
@@ -51,12 +51,14 @@ fn begins_blank(line: &[u8]) -> bool
     }
 }
 
-/// The fields of a line.
-fn fields_of<'a>(alloc: Global, line: &'a [u8]) -> Result<Vec<&'a [u8]>, AllocError>
-    ensures { IfOk result (λ v. map (λ f. f.now) v.items ≡ fields_of line.now) }
+/// The first six fields of a line. No line needs more than five, so these tell where there are too many,
+/// and a line of very many fields takes no more memory than any other.
+fn kept_fields<'a>(alloc: Global, line: &'a [u8]) -> Result<Vec<&'a [u8]>, AllocError>
+    ensures { IfOk result (λ v. map (λ f. f.now) v.items ≡ kept_fields line.now) }
 {
     line.split(|b| *b == b' ' || *b == b'\t')
         .filter(|field| !(field.len() == 0))
+        .take(6)
         .collect(alloc)
 }
 
@@ -100,14 +102,14 @@ fn cut(text: &[u8]) -> (&[u8], &[u8])
     (without_cr(&text[..at]), &text[at + 1..])
 }
 
-/// A line that isn't passed over: its number from 1, whether it is a data line, and its fields.
+/// A line that isn't passed over: its number from 1, whether it is a data line, and its first fields.
 #[derive(Drop)]
 pub struct Line<'a> {
     /// The line's number in the text.
     pub number: u64,
     /// Whether the line begins with a blank or a tab.
     pub is_data: bool,
-    /// The fields in order; each isn't empty.
+    /// The first six fields in order; each isn't empty. No line needs more than five.
     pub fields: Vec<&'a [u8]>,
 }
 
@@ -139,7 +141,7 @@ impl<'a> Lines<'a> {
         while !self.text.is_empty() {
             let (line, rest) = cut(self.text);
             if !is_passed_over(line) {
-                let fields = fields_of(alloc, line)?;
+                let fields = kept_fields(alloc, line)?;
                 let number = self.number;
                 self.text = rest;
                 self.number += 1;

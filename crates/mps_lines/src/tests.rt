@@ -93,3 +93,18 @@ fn lines_and_fields(rt: HostRuntime) -> Result<(), AllocError> {
     assert!(rt; lines.next(rt.alloc())?.is_none());
     Ok(())
 }
+
+#[test]
+fn six_fields_kept(rt: HostRuntime) -> Result<(), AllocError> {
+    for text in [
+        b"a b c d e f".as_slice(),
+        b"a b c d e f g".as_slice(),
+        b" a\tb  c d e f g h i j k".as_slice(),
+    ] {
+        let Some(line) = Lines::of(text).next(rt.alloc())? else {
+            return Err(AllocError);
+        };
+        assert!(rt; line.fields.len() == 6 && line.fields[5] == b"f".as_slice());
+    }
+    Ok(())
+}

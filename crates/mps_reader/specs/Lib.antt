@@ -28,3 +28,5 @@ pub mod RangedRows
 pub mod Faultless
 pub mod Made
 pub mod Finished
+pub mod FieldNames
+pub mod ManyFields
