@@ -5,3 +5,5 @@ mod LongTexts
 mod Refusals
 mod Solutions
 mod Asked
+mod Labels
+mod Uniqueness

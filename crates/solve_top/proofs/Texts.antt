@@ -1,5 +1,5 @@
 -- The text of a certificate and the lines, as those of its program.
-use Rattle.std.proofs.Common.{refl, ◌≡◌, ◌<◌, ◌≤◌, ◌+◌, ◌*◌, ◌^◌, ◌∙◌, ◌++◌, ℕ, ℤ, List, [], ◌∷◌, Option, Some, None, length, ap, sym, subst}
+use Rattle.std.proofs.Common.{refl, ◌≡◌, ◌<◌, ◌≤◌, ◌+◌, ◌*◌, ◌^◌, ◌∙◌, ◌++◌, ℕ, ℤ, List, [], ◌∷◌, Option, Some, None, length, All, ap, sym, subst}
 use Rattle.std.proofs.lemmas.List.{length-map}
 use Rattle.outside.specs.Stream.{AppendsFront}
 use Rattle.problem.specs.Program.{Program}
@@ -13,9 +13,11 @@ use Rattle.plain_search.specs.Laws.{SpentIsSpent, SpentIsBelow, IsDone, Finished
 use Rattle.cert_merge.specs.Plain.{IsPlain}
 use Rattle.plain_search.specs.PointCount.{point_count}
 use Rattle.vipr_print.specs.Spelling.{text_of}
+use Rattle.vipr_print.specs.Unique.{IsWord, SpellsOnly}
 use Rattle.mps_reader.specs.Reading.{Reads}
 use Rattle.solve_top.specs.Headline.{ended, certificate_of, certificate_text, lines_at, lines_of, IsFinal, IsOutOfNodes, IsTrueClaim, IsSolved}
 use Rattle.solve_top.specs.Output.{answer_lines, spent_lines}
+use Rattle.solve_top.proofs.Uniqueness.{names_are_words}
 
 -- ---- where a search ends
 pub plain_end : (p : Program) (n : ℕ) (s : Search) → FinishedIsPlain p → n ≤ 10 ^ 9 → IsFinal p n → s ≡ so_far (ended p n).search → IsPlain p s
@@ -35,9 +37,12 @@ unfolding ended
 few_end p n law o = law n o
 
 -- ---- the text
+pub certificate_is : (p : Program) (n : ℕ) (s : Search) (c : Cert) → s ≡ so_far (ended p n).search → c ≡ merged p s → c ≡ certificate_of p n
+certificate_is p n s c q e = e ∙ ap (merged p) q
+
 pub text_is : (p : Program) (n : ℕ) (s : Search) (c : Cert) → s ≡ so_far (ended p n).search → c ≡ merged p s → text_of c ≡ certificate_text p n
 unfolding certificate_text
-text_is p n s c q e = ap text_of (e ∙ ap (merged p) q)
+text_is p n s c q e = ap text_of (certificate_is p n s c q e)
 
 pub whole_text : (p : Program) (n : ℕ) (s : Search) (c : Cert) (b a : List ℕ) → s ≡ so_far (ended p n).search → c ≡ merged p s → a ≡ b ++ text_of c → a ≡ b ++ certificate_text p n
 whole_text p n s c b a q e h = h ∙ ap (λ l. b ++ l) (text_is p n s c q e)
@@ -84,14 +89,15 @@ unfolding certificate_text
 spelled p n b a e = e
 
 pub solved : (text : List ℕ) (upper : Option ℕ) (n : ℕ) (b a : List ℕ) (p : Program) → Reads text upper p → IsFinal p n → IsValid p (certificate_of p n) → IsAnswer p (ended p n).search.incumbent
-    → a ≡ b ++ certificate_text p n → IsSolved text upper n b a
-solved text upper n b a p reads final valid answer e = record {
+    → (All IsWord p.names → SpellsOnly (certificate_of p n)) → a ≡ b ++ certificate_text p n → IsSolved text upper n b a
+solved text upper n b a p reads final valid answer only e = record {
   program = p;
   certificate = certificate_of p n;
   reads = reads;
   finished = final;
   merges = refl;
   spells = spelled p n b a e;
+  only = only (names_are_words text upper p reads);
   valid = valid;
   claim = claim_true p (ended p n).search (ended p n).search.incumbent refl answer;
 }

@@ -14,6 +14,7 @@ use Rattle.plain_search.specs.FirstSearch.{State, first_search}
 use Rattle.plain_search.specs.Laws.{IsSpent}
 use Rattle.plain_search.specs.PointCount.{point_count}
 use Rattle.vipr_print.specs.Spelling.{text_of}
+use Rattle.vipr_print.specs.Unique.{SpellsOnly}
 use Rattle.mps_reader.specs.Reading.{Reads, IsRefused}
 use Rattle.mps_reader.specs.declared.kinds.Kind.{Kind}
 use Rattle.solve_top.specs.Output.{Told, answer_lines, spent_lines, BreaksOff}
@@ -53,6 +54,7 @@ IsTrueClaim p c Infeas = IsVoid p
 IsTrueClaim p c (Range lb ub) = (x : List ℤ) × (c.points ≡ x ∷ []) × IsBest p x × (lb ≡ objective_at p x) × (ub ≡ objective_at p x)
 
 -- The text reads as a program whose search is finished, and what the sink took spells a certificate of it that is valid and claims the truth.
+-- No other spellable certificate has that text.
 pub record IsSolved (text : List ℕ) (upper : Option ℕ) (budget : ℕ) (before after : List ℕ) : Type 0 where
   pub program : Program
   pub certificate : Cert
@@ -60,6 +62,7 @@ pub record IsSolved (text : List ℕ) (upper : Option ℕ) (budget : ℕ) (befor
   pub finished : IsFinal program budget
   pub merges : certificate ≡ certificate_of program budget
   pub spells : after ≡ before ++ text_of certificate
+  pub only : SpellsOnly certificate
   pub valid : IsValid program certificate
   pub claim : IsTrueClaim program certificate certificate.claim
 

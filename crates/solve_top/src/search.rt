@@ -1,24 +1,41 @@
 // Solves a problem, and tells how that ended.
-ghost use Rattle.std.specs.Prelude.{◌≡◌, ◌≢◌, ◌⊎◌, ◌++◌, ◌<◌, ◌≤◌, ◌+◌, ◌*◌, ◌^◌, [], length, true, codes};
+ghost use Rattle.std.specs.Prelude.{◌≡◌, ◌≢◌, ◌⊎◌, ◌++◌, ◌<◌, ◌≤◌, ◌+◌, ◌*◌, ◌^◌, [], length, true, codes, All};
 ghost use Rattle.outside.specs.Faults.{Rose};
 ghost use Rattle.outside.specs.Stream.{AppendsFront};
 ghost use Rattle.cert_rows.specs.Validity.{IsValid};
+ghost use Rattle.cert_merge.specs.Merged.{merged};
 ghost use Rattle.cert_merge.specs.Open.{so_far};
 ghost use Rattle.cert_tree.specs.Laws.{IsAnswer};
 ghost use Rattle.plain_search.specs.PointCount.{point_count};
+ghost use Rattle.vipr_print.specs.Unique.{IsWord, SpellsOnly};
 ghost use Rattle.solve_top.specs.Headline.{ended, certificate_of, certificate_text, lines_of, IsFinal, IsOutOfNodes};
 ghost use Rattle.solve_top.specs.Output.{BreaksOff, Told};
 
 use crate::Status;
 use crate::output::{answer_text, spent_text, tell};
 use cert_merge::{Search, merge};
+use cert_rows::Cert;
 use outside::{Failed, Sink, write_all};
 use plain_search::{
     Outcome, finished_searches_are_done, first_searches_are_plain, search, searches_end,
 };
 use problem::Problem;
 use std::alloc::{AllocError, Global};
+use vipr_print::laws::{numbers_are_short, texts_spell_one_certificate, valid_points_are_whole};
 use vipr_print::{PrintFault, print};
+
+// No other certificate has the text of a valid one, where the names of the problem are words. This reads each part of the certificate once
+// and has no effect: its contract is for callers' proofs.
+#[tactic(auto, using(crate::proofs::Uniqueness::spells_only))]
+fn text_spells_no_other(problem: &Problem, search: &Search, certificate: &Cert)
+    requires merged { certificate.now ≡ merged problem.now search.now }
+    requires valid { IsValid problem.now certificate.now }
+    ensures { All IsWord problem.now.names → SpellsOnly certificate.now }
+{
+    valid_points_are_whole(problem);
+    numbers_are_short(certificate);
+    texts_spell_one_certificate();
+}
 
 // Writes the certificate and the lines of a finished search.
 fn certify<C: Sink, O: Sink>(
@@ -32,6 +49,7 @@ fn certify<C: Sink, O: Sink>(
     requires budget { budget ≤ 10 ^ 9 }
     requires finished { IsFinal problem.now budget }
     requires search { search.now ≡ so_far (ended problem.now budget).search }
+    requires valid { IsValid problem.now (certificate_of problem.now budget) }
     ensures named { (result ≡ Status.Done) ⊎ (result ≡ Status.Sink) ⊎ (result ≡ Status.Memory) }
 
     // A sink's fault is not hidden, and none is made up.
@@ -47,6 +65,10 @@ fn certify<C: Sink, O: Sink>(
         ⊎ (C.taken cert.new ≡ C.taken cert.old ++ certificate_text problem.now budget) }
     ensures front { C.tells ≡ true
         → AppendsFront (C.taken cert.old) (C.taken cert.new) (certificate_text problem.now budget) }
+
+    // Where the names of the problem are words, no other certificate has this text.
+    ensures only { (result ≡ Status.Done) ⊎ (result ≡ Status.Sink) → All IsWord problem.now.names
+        → SpellsOnly (certificate_of problem.now budget) }
 
     // The lines, or a front of them.
     ensures answered { O.tells ≡ true → result ≡ Status.Done
@@ -66,6 +88,7 @@ fn certify<C: Sink, O: Sink>(
         tell(out, b"no memory\n");
         return Status::Memory;
     };
+    text_spells_no_other(problem, search, &certificate);
     match print(alloc, &certificate, cert) {
         Ok(()) => {}
         Err(PrintFault::Sink) => {
@@ -150,6 +173,10 @@ pub fn solve<C: Sink, O: Sink>(
     ensures front { C.tells ≡ true → (C.taken cert.new ≡ C.taken cert.old)
         ⊎ (IsFinal problem.now budget × AppendsFront (C.taken cert.old) (C.taken cert.new) (certificate_text problem.now budget)) }
     ensures none { C.tells ≡ true → result ≡ Status.Spent → C.taken cert.new ≡ C.taken cert.old }
+
+    // Where the names of the problem are words, no other certificate has the text of the one that was written.
+    ensures only { IsFinal problem.now budget → (result ≡ Status.Done) ⊎ (result ≡ Status.Sink) → All IsWord problem.now.names
+        → SpellsOnly (certificate_of problem.now budget) }
 
     // The lines, or a front of them.
     ensures answered { O.tells ≡ true → (result ≡ Status.Done) ⊎ (result ≡ Status.Spent)

@@ -77,6 +77,11 @@ pub record IsSpellable (c : Cert) : Type 0 where
   pub points : HasWholePoints c
   pub numbers : HasShortNumbers c
 
+-- a certificate that its text tells: it is spellable, and no other spellable one has this text
+pub record SpellsOnly (c : Cert) : Type 0 where
+  pub spellable : IsSpellable c
+  pub only : (d : Cert) → IsSpellable d → text_of d ≡ text_of c → d ≡ c
+
 -- certificates with one text are one
 abbrev pub TextsSpellOneCertificate : Type 0
 TextsSpellOneCertificate = (c d : Cert) → IsSpellable c → IsSpellable d → text_of c ≡ text_of d → c ≡ d

@@ -29,14 +29,14 @@ returns-in-Ok-clause-complete g c told reads read cert out = where_nothing_fails
 pub returns-in-Ok-clause-done : goal.returns-in-Ok-clause-done
 returns-in-Ok-clause-done g c reads told is =
     let f = c.solve.ensures.finished is in
-    solved _ _ _ _ _ _ (c.in-Ok.ensures.reads reads) f (c.solve.ensures.valid f) (c.solve.ensures.answer f) (c.solve.ensures.spelled told is)
+    solved _ _ _ _ _ _ (c.in-Ok.ensures.reads reads) f (c.solve.ensures.valid f) (c.solve.ensures.answer f) (c.solve.ensures.only f (inl is)) (c.solve.ensures.spelled told is)
 
 pub returns-in-Ok-clause-printed : goal.returns-in-Ok-clause-printed
 returns-in-Ok-clause-printed g c reads told is =
     elim (c.solve.ensures.printed told is) [
       | inl rose ↦ inl rose
       | inr rest ↦ elim rest [
-        | inl whole ↦ inr (inl (solved _ _ _ _ _ _ (c.in-Ok.ensures.reads reads) whole.0 (c.solve.ensures.valid whole.0) (c.solve.ensures.answer whole.0) whole.1))
+        | inl whole ↦ inr (inl (solved _ _ _ _ _ _ (c.in-Ok.ensures.reads reads) whole.0 (c.solve.ensures.valid whole.0) (c.solve.ensures.answer whole.0) (c.solve.ensures.only whole.0 (inr is)) whole.1))
         | inr spent ↦ inr (inr ((c.in-Ok.problem, c.in-Ok.ensures.reads reads, spent.0), spent.1))
       ]
     ]

@@ -1,6 +1,8 @@
-use Rattle.std.proofs.Common.{◌≡◌, inl, inr, ◌∙◌, ap}
+use Rattle.std.proofs.Common.{◌≡◌, inl, inr, ◌∙◌, ap, subst, sym}
 use Rattle.solve_top.proofs.Fronts.{front_all, sink_rose}
-use Rattle.solve_top.proofs.Texts.{plain_end, whole_text, front_text, whole_lines, front_lines, lines_are}
+use Rattle.cert_rows.specs.Validity.{IsValid}
+use Rattle.vipr_print.specs.Unique.{SpellsOnly}
+use Rattle.solve_top.proofs.Texts.{certificate_is, plain_end, whole_text, front_text, whole_lines, front_lines, lines_are}
 use Rattle.solve_top.specs.Output.{answer_lines}
 use Rattle.solve_top.proofs.search.certify.Goals as goal
 
@@ -54,3 +56,19 @@ returns-clause-stopped g c told is =
           (c.in-Err.ensures.front told),
       c.in-Err.ensures.cause.1,
     )
+
+pub text_spells_no_other-requires-clause-valid : goal.text_spells_no_other-requires-clause-valid
+text_spells_no_other-requires-clause-valid g c =
+    subst (IsValid c.args.problem.now) (sym (certificate_is _ _ _ _ c.requires.search c.in-Ok.ensures)) c.requires.valid
+
+pub returns-in-Err-Sink-clause-only : goal.returns-in-Err-Sink-clause-only
+returns-in-Err-Sink-clause-only g c is names =
+    subst SpellsOnly (certificate_is _ _ _ _ c.requires.search c.in-Ok.ensures) (c.text_spells_no_other.ensures names)
+
+pub returns-in-Ok-write_all-clause-only : goal.returns-in-Ok-write_all-clause-only
+returns-in-Ok-write_all-clause-only g c is names =
+    subst SpellsOnly (certificate_is _ _ _ _ c.requires.search c.in-Ok.ensures) (c.text_spells_no_other.ensures names)
+
+pub returns-clause-only : goal.returns-clause-only
+returns-clause-only g c is names =
+    subst SpellsOnly (certificate_is _ _ _ _ c.requires.search c.in-Ok.ensures) (c.text_spells_no_other.ensures names)

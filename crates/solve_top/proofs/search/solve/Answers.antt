@@ -9,6 +9,10 @@ certify-requires-clause-finished g c = (outcome_finished _ _ _ _ c.in-Ok-Finishe
 pub certify-requires-clause-search : goal.certify-requires-clause-search
 certify-requires-clause-search g c = (outcome_finished _ _ _ _ c.in-Ok-Finished.field-0-is c.in-Ok-Finished.ensures).1
 
+pub certify-requires-clause-valid : goal.certify-requires-clause-valid
+certify-requires-clause-valid g c =
+    (done_end _ _ c.finished_searches_are_done.ensures (outcome_finished _ _ _ _ c.in-Ok-Finished.field-0-is c.in-Ok-Finished.ensures).0).valid
+
 pub tell_spent-requires-clause-open : goal.tell_spent-requires-clause-open
 tell_spent-requires-clause-open g c = (outcome_spent _ _ _ _ _ c.in-Ok-Spent.field-0-is c.in-Ok-Spent.ensures).0
 
@@ -64,3 +68,9 @@ returns-in-Err-clause-answer g c f = (done_end _ _ c.finished_searches_are_done.
 
 pub returns-in-Err-clause-short : goal.returns-in-Err-clause-short
 returns-in-Err-clause-short g c told is = c.tell.ensures told
+
+pub returns-in-Ok-Finished-clause-only : goal.returns-in-Ok-Finished-clause-only
+returns-in-Ok-Finished-clause-only g c f is names = c.certify.ensures.only is names
+
+pub returns-in-Ok-Spent-clause-only : goal.returns-in-Ok-Spent-clause-only
+returns-in-Ok-Spent-clause-only g c f is names = absurd ((outcome_spent _ _ _ _ _ c.in-Ok-Spent.field-0-is c.in-Ok-Spent.ensures).0 f)

@@ -1,0 +1,85 @@
+-- The labels of a merged certificate are words: a letter and a number.
+use Rattle.std.specs.Prelude.{◌<◌, ◌+◌, ◌==◌, ◌/◌, ◌%◌, ℕ, zero, suc, Bool, true, false, cond, nat_lt, List, [], ◌∷◌, ◌++◌, Option, Some, None, length, codes, All}
+use Rattle.std.specs.Fmt.{decimal, digits, digits_onto, digit_glyph}
+use Rattle.std.proofs.Common.{arith}
+use Rattle.std.proofs.lemmas.List.Elements.{All-nil, All-cons, All-append}
+use Rattle.problem.specs.Program.{Program}
+use Rattle.problem.specs.declared.row.Row.{Row}
+use Rattle.problem_box.specs.declared.span.Span.{Span}
+use Rattle.cert_rows.specs.Validity.{lower_row, upper_row}
+use Rattle.cert_rows.specs.declared.line.CertRow.{CertRow}
+use Rattle.cert_rows.specs.declared.line.Why.{Why}
+use Rattle.cert_merge.specs.Merged.{label_of, labelled, row_lines, bound_lines, cut_lines, assumption_of, assumption_lines, node_of, node_lines, merged}
+use Rattle.cert_merge.specs.Search.{Cut, Branch, Node, Search}
+use Rattle.vipr_print.specs.Unique.{IsWord}
+
+-- ---- a letter and a number
+glyph_visible : (d : ℕ) → 32 < digit_glyph false d
+glyph_visible d = by (nat_lt d 10)
+  where
+    by : (b : Bool) → 32 < cond b (48 + d) (87 + d)
+    by true = omega arith
+    by false = omega arith
+
+digits_visible : (k n : ℕ) (after : List ℕ) → IsWord after → IsWord (digits_onto k 10 false n after)
+digits_visible zero n after h = h
+digits_visible (suc k) n after h = by (n / 10 == 0) (digits_visible k (n / 10) (digit_glyph false (n % 10) ∷ after) more)
+  where
+    more : IsWord (digit_glyph false (n % 10) ∷ after)
+    more = All-cons (λ b. 32 < b) (digit_glyph false (n % 10)) after (glyph_visible (n % 10)) h
+
+    by : (b : Bool) → IsWord (digits_onto k 10 false (n / 10) (digit_glyph false (n % 10) ∷ after))
+        → IsWord (cond b (digit_glyph false (n % 10) ∷ after) (digits_onto k 10 false (n / 10) (digit_glyph false (n % 10) ∷ after)))
+    by true rest = more
+    by false rest = rest
+
+decimal_word : (n : ℕ) → IsWord (decimal n)
+unfolding digits
+decimal_word n = digits_visible 64 n [] (All-nil (λ b. 32 < b))
+
+label_word : (letter i : ℕ) → 32 < letter → IsWord (label_of (letter ∷ []) i)
+label_word letter i h = All-cons (λ b. 32 < b) letter (decimal i) h (decimal_word i)
+
+-- ---- rows of the problem
+abbrev IsLabelled : CertRow → Type 0
+IsLabelled r = IsWord r.label
+
+rows_labelled : (i : ℕ) (rs : List Row) → All IsLabelled (row_lines i rs)
+rows_labelled i [] = All-nil IsLabelled
+rows_labelled i (r ∷ rs) = All-cons IsLabelled (labelled (label_of (codes "R") i) r) (row_lines (i + 1) rs) (label_word 82 i (omega arith)) (rows_labelled (i + 1) rs)
+
+bounds_labelled : (j : ℕ) (ss : List Span) → All IsLabelled (bound_lines j ss)
+bounds_labelled j [] = All-nil IsLabelled
+bounds_labelled j (s ∷ ss) =
+    All-cons IsLabelled (labelled (label_of (codes "L") j) (lower_row j s)) (labelled (label_of (codes "U") j) (upper_row j s) ∷ bound_lines (j + 1) ss) (label_word 76 j (omega arith))
+    (All-cons IsLabelled (labelled (label_of (codes "U") j) (upper_row j s)) (bound_lines (j + 1) ss) (label_word 85 j (omega arith)) (bounds_labelled (j + 1) ss))
+
+pub part_labelled : (p : Program) → All (λ r. IsWord r.label) (row_lines 0 p.rows ++ bound_lines 0 p.spans)
+part_labelled p = All-append IsLabelled (row_lines 0 p.rows) (bound_lines 0 p.spans) (rows_labelled 0 p.rows) (bounds_labelled 0 p.spans)
+
+-- ---- derived lines
+abbrev IsLabelledLine : CertRow × Why → Type 0
+IsLabelledLine l = IsWord l.0.label
+
+cuts_labelled : (i : ℕ) (cs : List Cut) → All IsLabelledLine (cut_lines i cs)
+cuts_labelled i [] = All-nil IsLabelledLine
+cuts_labelled i (c ∷ cs) = All-cons IsLabelledLine _ (cut_lines (i + 1) cs) (label_word 75 i (omega arith)) (cuts_labelled (i + 1) cs)
+
+assumption_labelled : (i : ℕ) (b : Option Branch) → All IsLabelledLine (assumption_of i b)
+assumption_labelled i None = All-nil IsLabelledLine
+assumption_labelled i (Some b) = All-cons IsLabelledLine _ [] (label_word 65 i (omega arith)) (All-nil IsLabelledLine)
+
+assumptions_labelled : (i : ℕ) (ns : List Node) → All IsLabelledLine (assumption_lines i ns)
+assumptions_labelled i [] = All-nil IsLabelledLine
+assumptions_labelled i (n ∷ ns) =
+    All-append IsLabelledLine (assumption_of i n.branch) (assumption_lines (i + 1) ns) (assumption_labelled i n.branch) (assumptions_labelled (i + 1) ns)
+
+nodes_labelled : (p : Program) (s : Search) (k : ℕ) → All IsLabelledLine (node_lines p s k)
+nodes_labelled p s zero = All-nil IsLabelledLine
+nodes_labelled p s (suc i) = All-cons IsLabelledLine (node_of p s i) (node_lines p s i) (label_word 78 i (omega arith)) (nodes_labelled p s i)
+
+pub lines_labelled : (p : Program) (s : Search) → All (λ d. IsWord d.0.label) (merged p s).lines
+lines_labelled p s =
+    All-append IsLabelledLine (cut_lines 0 s.cuts ++ assumption_lines 0 s.nodes) (node_lines p s (length s.nodes))
+    (All-append IsLabelledLine (cut_lines 0 s.cuts) (assumption_lines 0 s.nodes) (cuts_labelled 0 s.cuts) (assumptions_labelled 0 s.nodes))
+    (nodes_labelled p s (length s.nodes))
