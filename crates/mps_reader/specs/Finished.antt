@@ -5,7 +5,7 @@ use Rattle.std.proofs.lemmas.List.{length-map}
 use Rattle.std.proofs.lemmas.List.Elements.{All-cons, All-map, All-nil}
 use Rattle.problem.specs.Rising.{AreNonzero, AreRising}
 use Rattle.mps_reader.specs.declared.kinds.RowType.{RowType}
-use Rattle.mps_reader.specs.declared.row_terms.RowTerms.{RowTerms}
+use Rattle.mps_reader.specs.RowState.{RowState}
 use Rattle.std.specs.Option.{option_or, option_map}
 use Rattle.std.proofs.Common.{refl, sym, ap, ◌∙◌, subst, arith}
 use Rattle.fraction.specs.Rational.{ℚ}
@@ -72,13 +72,13 @@ ended_err (Some g) ss f h = ap Some (same g f _ _ refl refl h)
     same a b x y p q r = cc
 
 module _ {B H : Type 0} (st : Tables B H) (s : Sections) (h : HasData st s) (upper : Option ℕ) where
-  terms_are : st.columns.rows.items ≡ map (so_far (entries_of s.columns)) (rows_of s.rows)
+  terms_are : st.columns.rows ≡ map (so_far (entries_of s.columns)) (rows_of s.rows)
   terms_are = h.entries.terms ∙ ap (map (so_far (entries_of s.columns))) h.rows
 
-  rows_same : made_rows (table st.rhs.numbers.entries) (table st.ranges.numbers.entries) (table st.rows.entries) st.columns.rows.items ≡ (problem_of upper s).rows
+  rows_same : made_rows (table st.rhs.numbers.entries) (table st.ranges.numbers.entries) (table st.rows.entries) st.columns.rows ≡ (problem_of upper s).rows
   rows_same = (λ i. made_rows (h.rhs.sides.numbers i) (h.ranges.sides.numbers i) (h.rows i) (terms_are i)) ∙ rows_made (entries_of s.columns) (sides_of s.rhs) (sides_of s.ranges) (rows_of s.rows)
 
-  objective_same : made_objective (table st.rows.entries) st.columns.rows.items ≡ option_map (λ name. terms_of name (entries_of s.columns)) (objective_name (rows_of s.rows))
+  objective_same : made_objective (table st.rows.entries) st.columns.rows ≡ option_map (λ name. terms_of name (entries_of s.columns)) (objective_name (rows_of s.rows))
   objective_same = (λ i. made_objective (h.rows i) (terms_are i)) ∙ objective_made (entries_of s.columns) (rows_of s.rows)
 
   ends_same : ends_of upper (table st.bounds.limits.entries) (table st.columns.columns.entries)
@@ -94,12 +94,12 @@ module _ {B H : Type 0} (st : Tables B H) (s : Sections) (h : HasData st s) (upp
   no_name f (Some a) h = cc
 
   -- no row is of type N
-  pub nothing_said : None ≡ made_objective (table st.rows.entries) st.columns.rows.items → said upper s ≡ Err (s.rows_at, kind.NoObjective)
+  pub nothing_said : None ≡ made_objective (table st.rows.entries) st.columns.rows → said upper s ≡ Err (s.rows_at, kind.NoObjective)
   nothing_said e =
       ap (λ b. problem_or_fault upper s (option_or (at_line s.rows_at (when (not b) kind.NoObjective)) (columns_end_fault upper (bounds_of s.bounds) (columns_of (entries_of s.columns)))))
       (no_name (λ name. terms_of name (entries_of s.columns)) (objective_name (rows_of s.rows)) (e ∙ objective_same))
 
-  module _ (objective : List (ℕ × ℚ)) (e : Some objective ≡ made_objective (table st.rows.entries) st.columns.rows.items) where
+  module _ (objective : List (ℕ × ℚ)) (e : Some objective ≡ made_objective (table st.rows.entries) st.columns.rows) where
     named_by : (is_some (objective_name (rows_of s.rows)) ≡ true) × (objective ≡ objective_terms (objective_name (rows_of s.rows)) (entries_of s.columns))
     named_by = objective_by (entries_of s.columns) (objective_name (rows_of s.rows)) objective (e ∙ objective_same)
 
@@ -112,7 +112,7 @@ module _ {B H : Type 0} (st : Tables B H) (s : Sections) (h : HasData st s) (upp
     refusal_said fault.Memory e = tt
 
     module _ (ss : List Span) (k : ends_of upper (table st.bounds.limits.entries) (table st.columns.columns.entries) ≡ Ok ss) (names : List (List ℕ)) (n : names ≡ map (λ c. c.0) (table st.columns.columns.entries))
-        (rows : List Row) (r : rows ≡ made_rows (table st.rhs.numbers.entries) (table st.ranges.numbers.entries) (table st.rows.entries) st.columns.rows.items) (spans : List Span) (z : spans ≡ ss) where
+        (rows : List Row) (r : rows ≡ made_rows (table st.rhs.numbers.entries) (table st.ranges.numbers.entries) (table st.rows.entries) st.columns.rows) (spans : List Span) (z : spans ≡ ss) where
       abbrev pub Made : Program
       Made = record { names = names; rows = rows; objective = objective; spans = spans }
 
@@ -149,16 +149,16 @@ module _ {B H : Type 0} (st : Tables B H) (upper : Option ℕ) (h : HasKept st u
   row_limited r = subst (λ ts. AreLimited (length (columns_of (entries_of h.s.columns))) ts) (sym (terms_placed r.0 (entries_of h.s.columns)))
       (keeps_limited (columns_of (entries_of h.s.columns)) (run_of (entries_of h.s.columns)) (last_of (entries_of h.s.columns)) (placed_of (entries_of h.s.columns)) kept_columns r.0)
 
-  pub parts_count : length st.columns.rows.items ≡ length st.rows.entries
+  pub parts_count : length st.columns.rows ≡ length st.rows.entries
   parts_count = ap length h.tables.entries.terms ∙ length-map (table st.rows.entries) (so_far (entries_of h.s.columns)) ∙ length-table st.rows.entries
 
-  pub parts_rising : All (λ t. AreRising t.terms) st.columns.rows.items
-  parts_rising = subst (λ ts. All (λ (t : RowTerms). AreRising t.terms) ts) (sym h.tables.entries.terms)
-      (All-map (λ (t : RowTerms). AreRising t.terms) (so_far (entries_of h.s.columns)) (table st.rows.entries) (All-each (λ r. AreRising (so_far (entries_of h.s.columns) r).terms) (table st.rows.entries) (λ r. (row_limited r).rising)))
+  pub parts_rising : All (λ t. AreRising t.terms) st.columns.rows
+  parts_rising = subst (λ ts. All (λ (t : RowState). AreRising t.terms) ts) (sym h.tables.entries.terms)
+      (All-map (λ (t : RowState). AreRising t.terms) (so_far (entries_of h.s.columns)) (table st.rows.entries) (All-each (λ r. AreRising (so_far (entries_of h.s.columns) r).terms) (table st.rows.entries) (λ r. (row_limited r).rising)))
 
-  pub parts_nonzero : All (λ t. AreNonzero t.terms) st.columns.rows.items
-  parts_nonzero = subst (λ ts. All (λ (t : RowTerms). AreNonzero t.terms) ts) (sym h.tables.entries.terms)
-      (All-map (λ (t : RowTerms). AreNonzero t.terms) (so_far (entries_of h.s.columns)) (table st.rows.entries) (All-each (λ r. AreNonzero (so_far (entries_of h.s.columns) r).terms) (table st.rows.entries) (λ r. (row_limited r).nonzero)))
+  pub parts_nonzero : All (λ t. AreNonzero t.terms) st.columns.rows
+  parts_nonzero = subst (λ ts. All (λ (t : RowState). AreNonzero t.terms) ts) (sym h.tables.entries.terms)
+      (All-map (λ (t : RowState). AreNonzero t.terms) (so_far (entries_of h.s.columns)) (table st.rows.entries) (All-each (λ r. AreNonzero (so_far (entries_of h.s.columns) r).terms) (table st.rows.entries) (λ r. (row_limited r).nonzero)))
 
   pub parts_sides : (name : List ℕ) → IsHeld (side_in (table st.rhs.numbers.entries) name)
   parts_sides name = subst (λ sides. IsHeld (side_in sides name)) (sym h.tables.rhs.sides.numbers) (modest_within (side_in (numbers_of (sides_of h.s.rhs)) name) (side_modest (sides_of h.s.rhs) name h.keeps.limits.sides))

@@ -4,6 +4,8 @@ pub mod Faults
 pub mod Meaning
 pub mod Reading
 pub mod Tables
+pub mod RowState
+pub mod RowTable
 pub mod RowsSoFar
 pub mod State
 pub mod Laws

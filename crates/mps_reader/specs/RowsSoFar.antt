@@ -10,6 +10,7 @@ use denote.Ref.{Bor}
 use Rattle.mps_reader.specs.Faults.{◌<|>◌, when, limit, is_repeated, entry_fault, number_fault}
 use Rattle.mps_reader.specs.Meaning.{is_zero, place, terms_of}
 use Rattle.mps_reader.specs.Named.{bytes_flip, length_push, named_push, same_text}
+use Rattle.mps_reader.specs.RowState.{RowState, is_place, with_number}
 use Rattle.mps_reader.specs.Sections.{Entry, columns_of, is_same, last_of, number, run_of, with_column}
 use Rattle.mps_reader.specs.Tables.{table}
 use Rattle.mps_reader.specs.Words.{named}
@@ -17,16 +18,6 @@ use Rattle.mps_reader.specs.declared.kinds.Column.{Column}
 use Rattle.mps_reader.specs.declared.kinds.Kind.{Kind}
 use Rattle.mps_reader.specs.declared.kinds.Kind.TheVariants as kind
 use Rattle.mps_reader.specs.declared.kinds.RowType.{RowType}
-use Rattle.mps_reader.specs.declared.row_terms.RowTerms.{RowTerms}
-
--- whether a row's last column is the one at this place
-abbrev pub is_place : Option ℕ → ℕ → Bool
-is_place None p = false
-is_place (Some last) p = last == p
-
--- a row with the number of the column at this place: a zero is no term
-abbrev pub with_number : ℕ → ℚ → RowTerms → RowTerms
-with_number p q r = record { terms = if is_zero q then r.terms else r.terms ++ (p, q) ∷ []; named_by = Some p }
 
 -- the place of the last column
 abbrev pub last_place : List Entry → ℕ
@@ -37,7 +28,7 @@ abbrev pub named_last : List ℕ → List Entry → Option ℕ
 named_last name [] = None
 named_last name (e ∷ earlier) = if bytes_eq e.row name then Some (last_place (e ∷ earlier)) else named_last name earlier
 
-abbrev pub so_far : List Entry → List ℕ × RowType → RowTerms
+abbrev pub so_far : List Entry → List ℕ × RowType → RowState
 so_far entries r = record { terms = terms_of r.0 entries; named_by = named_last r.0 entries }
 
 abbrev pub same_name : Bor (List ℕ) → Bor (List ℕ) → Bool
@@ -161,7 +152,7 @@ position_by : {X : Type 0} (p : X → Bool) (xs : List X) (i : ℕ) (b : Bool) �
 position_by p xs i true h = cc
 position_by p xs i false h = cc
 
-module _ (name : List ℕ) (f g : List ℕ × RowType → RowTerms) (w : RowTerms → RowTerms) (own : (r : List ℕ × RowType) → bytes_eq name r.0 ≡ true → w (f r) ≡ g r)
+module _ (name : List ℕ) (f g : List ℕ × RowType → RowState) (w : RowState → RowState) (own : (r : List ℕ × RowType) → bytes_eq name r.0 ≡ true → w (f r) ≡ g r)
     (other : (r : List ℕ × RowType) → bytes_eq name r.0 ≡ false → f r ≡ g r) where
   -- where the name stands first
   abbrev spot : List (Bor (List ℕ) × RowType) → ℕ
@@ -174,10 +165,10 @@ module _ (name : List ℕ) (f g : List ℕ × RowType → RowTerms) (w : RowTerm
   others_apart : (a : Bor (List ℕ)) (ks : List (Bor (List ℕ))) → bytes_eq name a.now ≡ true → AllByRecursion (λ k. bytes_eq a.now k.now ≡ false) ks → AllByRecursion (λ k. bytes_eq name k.now ≡ false) ks
   others_apart a ks h u = subst (λ (n : List ℕ). AllByRecursion (λ k. bytes_eq n k.now ≡ false) ks) (sym (same_text name a.now h)) u
 
-  abbrev IsSet : List (Bor (List ℕ) × RowType) → ℕ → RowTerms → Type 0
+  abbrev IsSet : List (Bor (List ℕ) × RowType) → ℕ → RowState → Type 0
   IsSet es n d = set (map f (table es)) n (w (get_or (map f (table es)) n d)) ≡ map g (table es)
 
-  set_at : (es : List (Bor (List ℕ) × RowType)) (d : RowTerms) → spot es < length es → IsDistinct same_name (map (λ e. e.0) es) → IsSet es (spot es) d
+  set_at : (es : List (Bor (List ℕ) × RowType)) (d : RowState) → spot es < length es → IsDistinct same_name (map (λ e. e.0) es) → IsSet es (spot es) d
   set_at [] d l u = absurd (omega (arith, l))
   set_at (e ∷ es) d l u = by (λ l. set_at es d l (IsDistinct-tail same_name e.0 (map (λ e. e.0) es) u)) (bytes_eq name e.0.now) refl l
     where
@@ -188,18 +179,18 @@ module _ (name : List ℕ) (f g : List ℕ × RowType → RowTerms) (w : RowTerm
           (λ i. set (map f (table (e ∷ es))) (next i) (w (get_or (map f (table (e ∷ es))) (next i) d)))
           ∙ (λ i. other (e.0.now, e.1) h i ∷ rest (omega (arith, l)) i)
 
-  pub row_set : (es : List (Bor (List ℕ) × RowType)) (i : ℕ) (d : RowTerms) → IsRowAt es name i → IsSet es i d
+  pub row_set : (es : List (Bor (List ℕ) × RowType)) (i : ℕ) (d : RowState) → IsRowAt es name i → IsSet es i d
   row_set es i d h =
       let p = position_by (λ k. bytes_eq name k.now) (map (λ e. e.0) es) i _ h.at in
       (λ j. set (map f (table es)) (p j) (w (get_or (map f (table es)) (p j) d)))
       ∙ set_at es d (subst (λ n. n < length es) p h.within) h.distinct
 
 -- ---- the row of a name
-module _ (name : List ℕ) (f : List ℕ × RowType → RowTerms) (o : Option ℕ) (own : (r : List ℕ × RowType) → bytes_eq name r.0 ≡ true → (f r).named_by ≡ o) where
-  abbrev Gives : List (Bor (List ℕ) × RowType) → ℕ → RowTerms → Type 0
+module _ (name : List ℕ) (f : List ℕ × RowType → RowState) (o : Option ℕ) (own : (r : List ℕ × RowType) → bytes_eq name r.0 ≡ true → (f r).named_by ≡ o) where
+  abbrev Gives : List (Bor (List ℕ) × RowType) → ℕ → RowState → Type 0
   Gives es n d = (get_or (map f (table es)) n d).named_by ≡ o
 
-  gives_at : (es : List (Bor (List ℕ) × RowType)) (d : RowTerms) → position_or_len (λ k. bytes_eq name k.now) (map (λ e. e.0) es) < length es → Gives es (position_or_len (λ k. bytes_eq name k.now) (map (λ e. e.0) es)) d
+  gives_at : (es : List (Bor (List ℕ) × RowType)) (d : RowState) → position_or_len (λ k. bytes_eq name k.now) (map (λ e. e.0) es) < length es → Gives es (position_or_len (λ k. bytes_eq name k.now) (map (λ e. e.0) es)) d
   gives_at [] d l = absurd (omega (arith, l))
   gives_at (e ∷ es) d l = by (gives_at es d) (bytes_eq name e.0.now) refl l
     where
@@ -212,18 +203,18 @@ module _ (name : List ℕ) (f : List ℕ × RowType → RowTerms) (o : Option �
           let next : 1 + n ≡ suc n = omega arith in
           (λ i. (get_or (map f (table (e ∷ es))) (next i) d).named_by) ∙ rest (omega (arith, l))
 
-  pub row_gives : (es : List (Bor (List ℕ) × RowType)) (i : ℕ) (d : RowTerms) → Some i ≡ position (λ k. bytes_eq name k.now) (map (λ e. e.0) es) → i < length es → Gives es i d
+  pub row_gives : (es : List (Bor (List ℕ) × RowType)) (i : ℕ) (d : RowState) → Some i ≡ position (λ k. bytes_eq name k.now) (map (λ e. e.0) es) → i < length es → Gives es i d
   row_gives es i d h l =
       let p = position_by (λ k. bytes_eq name k.now) (map (λ e. e.0) es) i _ h in
       (λ j. (get_or (map f (table es)) (p j) d).named_by) ∙ gives_at es d (subst (λ n. n < length es) p l)
 
 -- the place of the column that named a row last, at the row's index
-pub named_at : (entries : List Entry) (name : List ℕ) (es : List (Bor (List ℕ) × RowType)) (i : ℕ) (d : RowTerms) → Some i ≡ position (λ k. bytes_eq name k.now) (map (λ e. e.0) es) → i < length es
+pub named_at : (entries : List Entry) (name : List ℕ) (es : List (Bor (List ℕ) × RowType)) (i : ℕ) (d : RowState) → Some i ≡ position (λ k. bytes_eq name k.now) (map (λ e. e.0) es) → i < length es
     → (get_or (map (so_far entries) (table es)) i d).named_by ≡ named_last name entries
 named_at entries name = row_gives name (so_far entries) (named_last name entries) (λ r h. ap (λ n. named_last n entries) (sym (same_text name r.0 h)))
 
 module _ (e : Entry) (entries : List Entry) (p : place (columns_of (e ∷ entries)) e.column ≡ last_place (e ∷ entries)) where
-  abbrev more : RowTerms → RowTerms
+  abbrev more : RowState → RowState
   more r = with_number (last_place (e ∷ entries)) (number e.value) r
 
   own_row : (r : List ℕ × RowType) → bytes_eq e.row r.0 ≡ true → more (so_far entries r) ≡ so_far (e ∷ entries) r
@@ -232,7 +223,7 @@ module _ (e : Entry) (entries : List Entry) (p : place (columns_of (e ∷ entrie
     named_by = if sym h i then Some (last_place (e ∷ entries)) else named_last r.0 entries;
   })
     where
-      by : (z : Bool) → (let there : RowTerms = record { terms = if z then terms_of r.0 entries else terms_of r.0 entries ++ (last_place (e ∷ entries), number e.value) ∷ []; named_by = Some (last_place (e ∷ entries)) } in
+      by : (z : Bool) → (let there : RowState = record { terms = if z then terms_of r.0 entries else terms_of r.0 entries ++ (last_place (e ∷ entries), number e.value) ∷ []; named_by = Some (last_place (e ∷ entries)) } in
           there ≡ record { terms = terms_of r.0 entries ++ (if not z then (place (columns_of (e ∷ entries)) e.column, number e.value) ∷ [] else []); named_by = Some (last_place (e ∷ entries)) })
       by true = λ i. record { terms = sym (append-nil (terms_of r.0 entries)) i; named_by = Some (last_place (e ∷ entries)) }
       by false = λ i. record { terms = terms_of r.0 entries ++ (sym p i, number e.value) ∷ []; named_by = Some (last_place (e ∷ entries)) }
@@ -243,6 +234,6 @@ module _ (e : Entry) (entries : List Entry) (p : place (columns_of (e ∷ entrie
     named_by = if sym h i then Some (last_place (e ∷ entries)) else named_last r.0 entries;
   })
 
-  pub entry_set : (es : List (Bor (List ℕ) × RowType)) (i : ℕ) (d : RowTerms) → IsRowAt es e.row i
+  pub entry_set : (es : List (Bor (List ℕ) × RowType)) (i : ℕ) (d : RowState) → IsRowAt es e.row i
       → set (map (so_far entries) (table es)) i (more (get_or (map (so_far entries) (table es)) i d)) ≡ map (so_far (e ∷ entries)) (table es)
   entry_set = row_set e.row (so_far entries) (so_far (e ∷ entries)) more own_row other_row

@@ -6,14 +6,14 @@ use denote.Ref.{Bor}
 use Rattle.mps_reader.specs.Faults.{is_repeated}
 use Rattle.mps_reader.specs.Meaning.{place}
 use Rattle.mps_reader.specs.Named.{length_push, place_push, same_text}
-use Rattle.mps_reader.specs.RowsSoFar.{IsNew, IsRowAt, entry_set, is_place, last_place, named_at, named_last, run_named, so_far, with_number}
+use Rattle.mps_reader.specs.RowsSoFar.{IsNew, IsRowAt, entry_set, last_place, named_at, named_last, run_named, so_far}
 use Rattle.mps_reader.specs.Sections.{Entry, columns_of, is_same, last_of, number, pairs_of, run_of, with_column}
 use Rattle.mps_reader.specs.Tables.{length-table, table, text_of, texts}
 use Rattle.mps_reader.specs.Words.{named}
 use Rattle.mps_reader.specs.declared.columns.Columns.{Columns}
 use Rattle.mps_reader.specs.declared.kinds.Column.{Column}
 use Rattle.mps_reader.specs.declared.kinds.RowType.{RowType}
-use Rattle.mps_reader.specs.declared.row_terms.RowTerms.{RowTerms}
+use Rattle.mps_reader.specs.RowState.{RowState, is_place, with_number}
 
 -- the last column stands at this place, behind all others
 abbrev pub IsLastAt : List (List ℕ × Column) → Option (List ℕ) → ℕ → Type 0
@@ -25,22 +25,22 @@ pub record HasEntries {B H : Type 0} (s : Columns B H) (rows : List (List ℕ ×
   pub columns : table s.columns.entries ≡ columns_of entries
   pub last : text_of s.last ≡ last_of entries
   pub place : IsLastAt (columns_of entries) (last_of entries) s.place
-  pub terms : s.rows.items ≡ map (so_far entries) rows
+  pub terms : s.rows ≡ map (so_far entries) rows
 
 -- ---- the names of an entry
 module _ {B H : Type 0} (s : Columns B H) (es : List (Bor (List ℕ) × RowType)) (entries : List Entry) (h : HasEntries s (table es) entries) where
-  pub rows_count : length s.rows.items ≡ length es
+  pub rows_count : length s.rows ≡ length es
   rows_count = ap length h.terms ∙ length-map (table es) (so_far entries) ∙ length-table es
 
   pub last_same : (e : Entry) (same : Bool) → same ≡ is_same (text_of s.last) e.column → same ≡ is_same (last_of entries) e.column
   last_same e same k = k ∙ ap (λ o. is_same o e.column) h.last
 
-  module _ (e : Entry) (i : ℕ) (d : RowTerms) (r : IsRowAt es e.row i) where
-    named_by_is : (get_or s.rows.items i d).named_by ≡ named_last e.row entries
+  module _ (e : Entry) (i : ℕ) (d : RowState) (r : IsRowAt es e.row i) where
+    named_by_is : (get_or s.rows i d).named_by ≡ named_last e.row entries
     named_by_is = ap (λ ts. (get_or ts i d).named_by) h.terms ∙ named_at entries e.row es i d r.at r.within
 
     -- the last column names the row
-    pub repeated_same : true ≡ is_same (last_of entries) e.column → is_place (get_or s.rows.items i d).named_by s.place ≡ is_repeated (columns_of entries) (run_of entries) (is_same (last_of entries) e.column) e
+    pub repeated_same : true ≡ is_same (last_of entries) e.column → is_place (get_or s.rows i d).named_by s.place ≡ is_repeated (columns_of entries) (run_of entries) (is_same (last_of entries) e.column) e
     repeated_same k = ap (λ o. is_place o s.place) named_by_is ∙ by entries k h.place ∙ ap (λ (b : Bool). is_repeated (columns_of entries) (run_of entries) b e) k
       where
         by : (entries : List Entry) → true ≡ is_same (last_of entries) e.column → IsLastAt (columns_of entries) (last_of entries) s.place → is_place (named_last e.row entries) s.place ≡ is_some (named (run_of entries) e.row)
@@ -81,9 +81,9 @@ module _ {B H : Type 0} (s : Columns B H) (es : List (Bor (List ℕ) × RowType)
       (stands_now entries e s.place same same_last new_name h.place)
 
   -- the state after an entry
-  pub entry_held : (new : Columns B H) (i : ℕ) (d : RowTerms) → IsRowAt es e.row i → table new.columns.entries ≡ with_column same (table s.columns.entries) e
+  pub entry_held : (new : Columns B H) (i : ℕ) (d : RowState) → IsRowAt es e.row i → table new.columns.entries ≡ with_column same (table s.columns.entries) e
       → text_of new.last ≡ cond same (text_of s.last) (Some e.column) → new.place ≡ cond same s.place (length (table s.columns.entries))
-      → new.rows.items ≡ set s.rows.items i (with_number new.place (number e.value) (get_or s.rows.items i d)) → HasEntries new (table es) (e ∷ entries)
+      → new.rows ≡ set s.rows i (with_number new.place (number e.value) (get_or s.rows i d)) → HasEntries new (table es) (e ∷ entries)
   entry_held new i d r c l p t =
       let q : new.place ≡ cond same s.place (length (columns_of entries)) = p ∙ ap (λ cs. cond same s.place (length cs)) h.columns in
       let w : new.place ≡ last_place (e ∷ entries) = q ∙ omega (arith, stands.1) in

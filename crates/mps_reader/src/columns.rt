@@ -1,6 +1,6 @@
 //! Lines of COLUMNS.
 
-ghost use Rattle.std.specs.Prelude.{◌≡◌, ℕ, ◌∷◌, ◌<◌, if◌then◌else◌, false, OnOk, IfErr, IfOk, IfSome, None, Some, List, is_some, length, vec_len};
+ghost use Rattle.std.specs.Prelude.{◌≡◌, ℕ, ◌∷◌, ◌<◌, if◌then◌else◌, false, OnOk, IfErr, IfOk, IfSome, None, Some, List, is_some, length};
 ghost use denote.Ref.{Bor};
 ghost use Rattle.mps_reader.specs.Words.{marker_of, named};
 ghost use Rattle.mps_reader.specs.Sections.{is_same, last_of, columns_of, run_of, with_column, Entry, marker, marked, entries_of, data_line, pairs_of, with_pairs, entry};
@@ -13,7 +13,7 @@ ghost use Rattle.mps_reader.specs.Tables.{texts, table, Stops, text_of, seen};
 use crate::kinds::{Column, Kind, RowType, Stop};
 use crate::names::{add, has};
 use crate::numbers::number_in;
-use crate::row_terms::RowTerms;
+use crate::row_table::RowTable;
 use indexmap::IndexMap;
 use std::alloc::AllocError;
 use std::hash::BuildHasher;
@@ -37,7 +37,7 @@ pub struct Columns<'a, B: BuildHasher + Drop> {
     pub columns: IndexMap<&'a [u8], Column, B>,
     pub last: Option<&'a [u8]>,
     pub place: u32,
-    pub rows: Vec<RowTerms>,
+    pub rows: RowTable,
 }
 
 /// Whether a marker begins whole columns.
@@ -77,7 +77,7 @@ impl<'a, B: BuildHasher + Drop> Columns<'a, B> {
     /// The index of a row, where ROWS names it.
     fn index_of(&self, rows: &IndexMap<&'a [u8], RowType, B>, name: &'a [u8]) -> Option<usize>
         ensures row { IfSome result (λ i. IsRowAt rows.now.entries name.now i) }
-        ensures within { IfSome result (λ i. i < vec_len self.now.rows) }
+        ensures within { IfSome result (λ i. i < length self.now.rows) }
         ensures known { (entries : List Entry) → HasEntries self.now (table rows.now.entries) entries → is_some result ≡ is_some (named (table rows.now.entries) name.now) }
     {
         let index = rows.get_index_of(name)?;
@@ -90,13 +90,13 @@ impl<'a, B: BuildHasher + Drop> Columns<'a, B> {
 
     /// Whether the last column names an entry's row already, or the entry's column stands before the last one.
     fn is_repeated(&self, same: bool, index: usize, e: &Cell<'a>) -> bool
-        requires { index < vec_len self.now.rows }
+        requires { index < length self.now.rows }
         ensures new { same ≡ false → result ≡ is_some (named (table self.now.columns.entries) e.now.column.now) }
         ensures repeated { (es : List (Bor (List ℕ) × RowType)) (entries : List Entry) → HasEntries self.now (table es) entries → IsRowAt es e.now.row.now index
             → same ≡ is_same (last_of entries) e.now.column.now → result ≡ is_repeated (columns_of entries) (run_of entries) (is_same (last_of entries) e.now.column.now) (seen e.now) }
     {
         if same {
-            self.rows[index].is_named_by(self.place)
+            self.rows.is_named_by(index, self.place)
         } else {
             has(&self.columns, e.column)
         }
@@ -109,7 +109,7 @@ impl<'a, B: BuildHasher + Drop> Columns<'a, B> {
         same: bool,
         e: &Cell<'a>,
     ) -> Result<usize, Kind>
-        ensures within { IfOk result (λ i. i < vec_len self.now.rows) }
+        ensures within { IfOk result (λ i. i < length self.now.rows) }
         ensures row { IfOk result (λ i. IsRowAt rows.now.entries e.now.row.now i) }
         ensures new { IfOk result (λ i. IsNew same (table self.now.columns.entries) e.now.column.now) }
         ensures ok { (entries : List Entry) → HasEntries self.now (table rows.now.entries) entries → same ≡ is_same (last_of entries) e.now.column.now
@@ -171,7 +171,7 @@ impl<'a, B: BuildHasher + Drop> Columns<'a, B> {
             return Err(Stop::Memory);
         }
         let place = self.place;
-        match self.rows[index].take(place, number) {
+        match self.rows.take(index, place, number) {
             Ok(()) => Ok(()),
             Err(_) => Err(Stop::Memory),
         }

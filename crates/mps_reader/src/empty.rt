@@ -15,6 +15,7 @@ use crate::columns::Columns;
 use crate::keys::Lent;
 use crate::kinds::RowType;
 use crate::order::Order;
+use crate::row_table::RowTable;
 use crate::sides::Sides;
 use crate::tables::Tables;
 use indexmap::IndexMap;
@@ -63,7 +64,7 @@ fn no_columns<'a, 'k, B: BuildHasher + Drop>(alloc: Global, keys: &'k B) -> Colu
         columns: IndexMap::with_hasher(alloc, Lent::of(keys)),
         last: None,
         place: 0,
-        rows: Vec::new(alloc),
+        rows: RowTable::new(alloc),
     }
 }
 

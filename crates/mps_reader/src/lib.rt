@@ -20,6 +20,7 @@ mod order;
 mod problems;
 mod ranged_rows;
 mod reading;
+mod row_table;
 mod row_terms;
 mod rows;
 mod sides;

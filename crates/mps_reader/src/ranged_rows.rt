@@ -14,7 +14,7 @@ ghost use Rattle.mps_reader.specs.Words.{named};
 
 use crate::building::{Parts, side_at};
 use crate::kinds::RowType;
-use crate::row_terms::RowTerms;
+use crate::row_table::RowTable;
 use crate::rows::is_counted;
 use fraction::Frac;
 use indexmap::IndexMap;
@@ -144,33 +144,31 @@ pub fn ranged_parts<'a, B: BuildHasher + Drop>(
     rows: &IndexMap<&'a [u8], RowType, B>,
     sides: &IndexMap<&'a [u8], Frac, B>,
     ranges: &IndexMap<&'a [u8], Frac, B>,
-    terms: Vec<RowTerms>,
+    terms: RowTable,
 ) -> Result<Parts, AllocError>
-    requires count { length terms.items ≡ length rows.now.entries }
-    requires rising { All (λ t. AreRising t.terms) terms.items }
-    requires nonzero { All (λ t. AreNonzero t.terms) terms.items }
+    requires count { length terms ≡ length rows.now.entries }
+    requires rising { All (λ t. AreRising t.terms) terms }
+    requires nonzero { All (λ t. AreNonzero t.terms) terms }
     requires sides { (name : List ℕ) → IsHeld (side_in (table sides.now.entries) name) }
     requires ranges { (name : List ℕ) → IfSome (named (table ranges.now.entries) name) (λ q. IsHeld q) }
-    ensures rows { IfOk result (λ p. p.rows.items ≡ made_rows (table sides.now.entries) (table ranges.now.entries) (table rows.now.entries) terms.items) }
-    ensures objective { IfOk result (λ p. p.objective ≡ made_objective (table rows.now.entries) terms.items) }
+    ensures rows { IfOk result (λ p. p.rows.items ≡ made_rows (table sides.now.entries) (table ranges.now.entries) (table rows.now.entries) terms) }
+    ensures objective { IfOk result (λ p. p.objective ≡ made_objective (table rows.now.entries) terms) }
 {
     let mut parts = Parts {
         rows: Vec::new(alloc),
         objective: None,
     };
-    let mut index = 0;
-    for row in terms {
+    let mut left = terms;
+    for index in 0..rows.len() {
         let (name, kind) = row_at(rows, index);
-        let RowTerms { terms, named_by: _ } = row;
         take_row(
             alloc,
             &mut parts,
             kind,
             side_at(sides, name),
             number_of(ranges, name),
-            terms.into_terms(),
+            left.take_terms(index),
         )?;
-        index += 1;
     }
     Ok(parts)
 }

@@ -50,7 +50,7 @@ pub fn read_sections<'a, B: BuildHasher + Drop>(
     let mut lines = Lines::of(text);
     loop {
         match lines.next(alloc) {
-            Ok(Some(line)) => match step(alloc, &mut tables, &line) {
+            Ok(Some(line)) => match step(&mut tables, &line) {
                 Ok(true) => return Ok(tables),
                 Ok(false) => {}
                 Err(stop) => return Err(fault_at(line.number, stop)),

@@ -1,8 +1,8 @@
-//! What the columns so far say of a row.
+//! The terms of a row that a column names.
 
-ghost use Rattle.std.specs.Prelude.{◌≡◌, ℕ, ◌++◌, ◌∷◌, [], OnOk, None};
+ghost use Rattle.std.specs.Prelude.{◌≡◌, ℕ, ◌++◌, ◌∷◌, [], OnOk};
 ghost use Rattle.mps_reader.specs.Meaning.{is_zero};
-ghost use Rattle.mps_reader.specs.RowsSoFar.{is_place, with_number};
+ghost use Rattle.mps_reader.specs.RowState.{with_term};
 
 use fraction::Frac;
 use problem::Terms;
@@ -30,7 +30,7 @@ impl Model for TermList {
 
 impl TermList {
     /// No terms.
-    fn new(alloc: Global) -> TermList
+    pub fn new(alloc: Global) -> TermList
         ensures { result ≡ [] }
     {
         TermList {
@@ -42,6 +42,10 @@ impl TermList {
     fn push(&mut self, column: u32, number: Frac) -> Result<(), AllocError>
         ensures { OnOk result (self.new ≡ self.old ++ (column, number) ∷ []) }
     {
+        // No room beyond the first term, since a text may have many rows of one term.
+        if self.items.is_empty() {
+            self.items.reserve_exact(1)?;
+        }
         self.items.push((column, number))?;
         Ok(())
     }
@@ -62,40 +66,22 @@ fn is_zero(number: Frac) -> bool
     number.numer() == 0
 }
 
-/// A row's terms so far, and the place of the column that named it last.
+/// A row that a column names: its index, the place of the column that named it last, and its terms so far.
 #[derive(Drop)]
-pub struct RowTerms {
+pub struct NamedRow {
+    pub row: u32,
+    pub named_by: u32,
     pub terms: TermList,
-    pub named_by: Option<u32>,
 }
 
-impl RowTerms {
-    /// A row that no column names.
-    pub fn new(alloc: Global) -> RowTerms
-        ensures terms { result.terms ≡ [] }
-        ensures named_by { result.named_by ≡ None }
-    {
-        RowTerms {
-            terms: TermList::new(alloc),
-            named_by: None,
-        }
-    }
-
-    /// Whether the column at a place named the row last.
-    pub fn is_named_by(&self, place: u32) -> bool
-        ensures { result ≡ is_place self.now.named_by place }
-    {
-        match self.named_by {
-            Some(last) => last == place,
-            None => false,
-        }
-    }
-
+impl NamedRow {
     /// Takes the number of the column at a place. A number that is 0 gives no term. The one error is want of memory.
     pub fn take(&mut self, place: u32, number: Frac) -> Result<(), AllocError>
-        ensures { OnOk result (self.new ≡ with_number place number self.old) }
+        ensures row { self.new.row ≡ self.old.row }
+        ensures named_by { self.new.named_by ≡ place }
+        ensures terms { OnOk result (self.new.terms ≡ with_term place number self.old.terms) }
     {
-        self.named_by = Some(place);
+        self.named_by = place;
         if is_zero(number) {
             return Ok(());
         }

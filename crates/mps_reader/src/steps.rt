@@ -12,12 +12,10 @@ ghost use Rattle.mps_reader.specs.Words.{section_of};
 use crate::fields::are_fields;
 use crate::kinds::{Kind, Section, Stop};
 use crate::order::{order_after, sense_fault, word_fault};
-use crate::row_terms::RowTerms;
 use crate::rows::row_line;
 use crate::tables::Tables;
 use crate::words::{first_field, section_of};
 use mps_lines::Line;
-use std::alloc::Global;
 use std::hash::BuildHasher;
 
 /// Takes the word of OBJSENSE on a data line, or says why not.
@@ -47,7 +45,6 @@ fn sense_line<'a, B: BuildHasher + Drop>(
 
 /// Takes a line of ROWS, or says why not.
 fn rows_line<'a, B: BuildHasher + Drop>(
-    alloc: Global,
     tables: &mut Tables<'a, B>,
     line: &Line<'a>,
 ) -> Result<(), Stop>
@@ -63,7 +60,7 @@ fn rows_line<'a, B: BuildHasher + Drop>(
         return Err(Stop::Fault(Kind::BadFields));
     }
     row_line(&mut tables.rows, &mut tables.count, fields)?;
-    match tables.columns.rows.push(RowTerms::new(alloc)) {
+    match tables.columns.rows.push() {
         Ok(()) => Ok(()),
         Err(_) => Err(Stop::Memory),
     }
@@ -153,7 +150,6 @@ fn bounds_line<'a, B: BuildHasher + Drop>(
 
 /// Takes a data line, or says why not.
 fn data_line<'a, B: BuildHasher + Drop>(
-    alloc: Global,
     tables: &mut Tables<'a, B>,
     line: &Line<'a>,
 ) -> Result<(), Stop>
@@ -165,7 +161,7 @@ fn data_line<'a, B: BuildHasher + Drop>(
 {
     match tables.order.last {
         Some(Section::ObjSense) => sense_line(tables, line),
-        Some(Section::Rows) => rows_line(alloc, tables, line),
+        Some(Section::Rows) => rows_line(tables, line),
         Some(Section::Columns) => columns_line(tables, line),
         Some(Section::Rhs) => rhs_line(tables, line),
         Some(Section::Ranges) => ranges_line(tables, line),
@@ -236,7 +232,6 @@ fn is_last(word: Section) -> bool
 
 /// Takes a line and says whether it is ENDATA, or says why not.
 pub fn step<'a, B: BuildHasher + Drop>(
-    alloc: Global,
     tables: &mut Tables<'a, B>,
     line: &Line<'a>,
 ) -> Result<bool, Stop>
@@ -249,7 +244,7 @@ pub fn step<'a, B: BuildHasher + Drop>(
     if !line.is_data {
         return word_line(tables, line);
     }
-    match data_line(alloc, tables, line) {
+    match data_line(tables, line) {
         Ok(()) => Ok(false),
         Err(stop) => Err(stop),
     }

@@ -1,8 +1,8 @@
-use Rattle.std.specs.Vec.Iter.{into_iter_items}
+use Rattle.std.proofs.Common.{drop}
 use Rattle.mps_reader.specs.RowsMade.{HasRows}
 use Rattle.mps_reader.specs.Tables.{table}
 use Rattle.mps_reader.proofs.ranged_rows.ranged_parts.Given as goal
 
-abbrev pub invariant-loop-row : goal.invariant-loop-row
-invariant-loop-row g l =
-    HasRows (table l.sides.entries) (table l.ranges.entries) (table l.rows.entries) l.fn.terms.items l.parts.rows.items l.parts.objective l.index (into_iter_items l.row-iterator)
+abbrev pub invariant-loop-index : goal.invariant-loop-index
+invariant-loop-index g l =
+    HasRows (table l.sides.entries) (table l.ranges.entries) (table l.rows.entries) l.fn.terms l.parts.rows.items l.parts.objective l.index (drop l.index l.left)

@@ -1,7 +1,7 @@
-use Rattle.std.proofs.Common.{◌≡◌, false, Result, Ok, Err, OnOk, is_err, sym, ap, ◌∙◌, get_or, set}
-use Rattle.std.specs.Vec.{with_item}
+use Rattle.std.proofs.Common.{◌≡◌, false, Result, Ok, Err, OnOk, is_err, sym, ◌∙◌, get_or, set}
 use Rattle.mps_reader.specs.Faults.{entry_fault, number_fault}
-use Rattle.mps_reader.specs.RowsSoFar.{names_fine, names_stop, with_number}
+use Rattle.mps_reader.specs.RowState.{unnamed, with_number}
+use Rattle.mps_reader.specs.RowsSoFar.{names_fine, names_stop}
 use Rattle.mps_reader.specs.State.{entry_held, last_same}
 use Rattle.mps_reader.specs.Stopping.{stops_same}
 use Rattle.mps_reader.specs.Tables.{seen, table}
@@ -31,7 +31,6 @@ returns-in-Ok-take-clause-ok g c entries h =
     let e = seen c.args.e.now in
     let same = c.is_same-same.result in
     let i = c.in-Ok.index in
-    let d = c.index_mut.result.now in
     let k = last_same s es entries h e same c.is_same-same.ensures in
     let new = c.stand_at.new.self in
     let f = c.if-is_err.ensures.value in
@@ -39,7 +38,7 @@ returns-in-Ok-take-clause-ok g c entries h =
     let q = c.in-Ok-number_in.ensures.ok in (
       names_fine (table es) entries e (c.in-Ok.ensures.ok entries h k) ∙ q.1,
       entry_held s es entries e h same c.is_same-same.ensures c.in-Ok.ensures.new
-          (record { columns = new.columns; last = new.last; place = new.place; rows = with_item new.rows i c.take.new.self }) i d c.in-Ok.ensures.row
+          (record { columns = new.columns; last = new.last; place = new.place; rows = c.take.new.self }) i unnamed c.in-Ok.ensures.row
           (of_fine c.stand_at.result f c.stand_at.ensures.columns) (of_fine c.stand_at.result f c.stand_at.ensures.last) (of_fine c.stand_at.result f c.stand_at.ensures.place)
-          (λ j. set (w j).items i ((c.in-Ok-take.ensures ∙ (λ j. with_number new.place (q.0 j) ((c.index_mut.ensures.value ∙ ap (λ v. get_or v.items i d) w) j))) j)),
+          (c.in-Ok-take.ensures ∙ (λ j. set (w j) i (with_number new.place (q.0 j) (get_or (w j) i unnamed)))),
     )
