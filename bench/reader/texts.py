@@ -1,8 +1,28 @@
 # The texts that bench/reader.sh reads, each of near 4 MiB, the most that is read: python3 texts.py FOLDER
+import itertools
 import os
 import sys
 
 LIMIT = 4_194_304
+VISIBLE = [chr(byte) for byte in range(0x21, 0x7F)]
+
+
+def names(count, length=1):
+    """That many names, the shortest first, none shorter than this length."""
+    lengths = itertools.count(length)
+    return list(itertools.islice(("".join(name) for n in lengths for name in itertools.product(VISIBLE, repeat=n)), count))
+
+
+def filled(head, lines, tail):
+    """The head, as many of the lines as there is room for, and the tail."""
+    left = LIMIT - sum(len(line) + 1 for line in head + tail)
+    kept = []
+    for line in lines:
+        left -= len(line) + 1
+        if left < 0:
+            break
+        kept.append(line)
+    return "\n".join(head + kept + tail) + "\n"
 
 
 def model():
@@ -29,24 +49,85 @@ def model():
     return "\n".join(head + columns + tail)
 
 
+def dense(rows, columns, value, ranged=False):
+    """Each of the columns in each of the rows, as far as there is room, with names of one or two characters, two entries a line."""
+    own = names(rows)
+    head = ["ROWS"] + [f" L {row}" for row in own] + [" N objective", "COLUMNS", " m 'MARKER' 'INTORG'"]
+    tail = (["RANGES"] + [f" {row} 1" for row in own] if ranged else []) + ["BOUNDS"]
+    tail += [f" UP {column} 1" for column in names(columns)] + ["ENDATA"]
+    pairs = [f"{row} {value}" for row in own]
+    lines = (f" {column} {' '.join(pairs[i:i + 2])}" for column in names(columns) for i in range(0, rows, 2))
+    return filled(head, lines, tail)
+
+
+def small_rows():
+    """As many rows of type N as there is room for."""
+    return filled(["ROWS"], (f" N {row}" for row in names(600_000, 3)), ["COLUMNS", "ENDATA"])
+
+
+def with_rows(count, length, heads):
+    """Rows of type N, and behind them sections that name each of them once, two a line."""
+    own = names(count, length)
+    lines = ["ROWS"] + [f" N {row}" for row in own]
+    for head, start, value in heads:
+        lines.append(head)
+        lines += [start + " ".join(f"{row} {value}" for row in own[i : i + 2]) for i in range(0, count, 2)]
+    return "\n".join(lines + ["ENDATA", ""])
+
+
+def bounds(line, columns):
+    """Lines of BOUNDS that give columns in turn, again and again."""
+    own = names(columns)
+    head = ["ROWS", " N o", "COLUMNS", " m 'MARKER' 'INTORG'"] + [f" {column} o 1" for column in own] + ["BOUNDS"]
+    return filled(head, (line.format(column) for column in itertools.cycle(own)), ["ENDATA"])
+
+
+def digits():
+    """One number of a million digits."""
+    return ("ROWS\n N o\nCOLUMNS\n x o " + "1" * 1_000_000 + "\n" + "\n" * LIMIT)[:LIMIT]
+
+
+def sections():
+    """Texts that are long in one section."""
+    entry = [("COLUMNS\n m 'MARKER' 'INTORG'", " x ", "0")]
+    return {
+        "names": filled(["ROWS"], (f" N r{i}" for i in range(400_000)), []),
+        "short_names": small_rows(),
+        "columns": filled(["ROWS", " N o", "COLUMNS"], (f" x{i} o 1" for i in range(400_000)), []),
+        "row_named": with_rows(282_000, 3, entry),
+        "row_ones": with_rows(282_000, 3, [("COLUMNS\n m 'MARKER' 'INTORG'", " x ", "1")]),
+        "row_sides": with_rows(310_000, 3, [("COLUMNS\nRHS", " ", "0")]),
+        "row_both": with_rows(209_000, 3, [("COLUMNS\nRHS", " ", "1"), ("RANGES", " ", "1")]),
+        "dense": dense(1000, 590, "1"),
+        "dense_few": dense(590, 1000, "1"),
+        "dense_zero": dense(1000, 590, "0"),
+        "dense_fine": dense(1000, 370, "1e-15"),
+        "dense_wide": dense(1000, 150, "12345.678901234567891"),
+        "ranged": dense(500, 1000, "1", True),
+        "ranged_fine": dense(500, 740, "1e-15", True),
+        "ranged_wide": dense(500, 300, "12345.678901234567891", True),
+        "bounds_few": bounds(" UP {} 9", 3),
+        "bounds_many": bounds(" UP {} 9", 1000),
+        "bounds_free": bounds(" FR {}", 90),
+        "bounds_fine": bounds(" UP {} 1e-15", 1000),
+    }
+
+
 def hostile():
     """Texts that are refused, or hold little, and are long in one way each."""
-    rows = "ROWS\n" + "\n".join(f" N r{i}" for i in range(400_000)) + "\n"
-    number = "ROWS\n N o\nCOLUMNS\n x o " + "1" * 1_000_000 + "\n"
     return {
-        "names": rows[: LIMIT - 1],
-        "columns": ("ROWS\n N o\nCOLUMNS\n" + "\n".join(f" x{i} o 1" for i in range(400_000)))[: LIMIT - 1],
-        "digits": (number + "\n" * LIMIT)[:LIMIT],
+        "digits": digits(),
         "line": "ROWS\n " + "N" * (LIMIT - 7) + "\n",
         "fields": "ROWS\n " + "N " * (LIMIT // 2 - 4) + "\n",
         "empty": "\n" * LIMIT,
         "blank": " " * LIMIT,
         "comments": ("*" * 63 + "\n") * (LIMIT // 64),
+        "stars": "*\n" * (LIMIT // 2),
     }
 
 
 folder = sys.argv[1]
-for name, text in [("model", model())] + sorted(hostile().items()):
+for name, text in [("model", model())] + sorted((sections() | hostile()).items()):
     assert len(text) <= LIMIT, (name, len(text))
     with open(os.path.join(folder, name + ".mps"), "w") as file:
         file.write(text)

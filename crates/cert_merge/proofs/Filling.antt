@@ -1,12 +1,12 @@
 -- A closed node's multipliers give its target and its price.
-use Rattle.std.specs.Prelude.{◌≡◌, ◌⊎◌, ◌<◌, ◌≤◌, ℕ, suc, ◌+◌, ℤ, pos, int_lt, nat_lt, eqb, Bool, true, false, cond, List, [], ◌∷◌, length, All, refl}
+use Rattle.std.specs.Prelude.{◌≡◌, ◌⊎◌, ◌<◌, ◌≤◌, ℕ, suc, ◌+◌, ℤ, pos, ◌≤ℤ◌, int_lt, nat_lt, eqb, Bool, true, false, cond, List, [], ◌∷◌, length, All, refl}
 use Rattle.std.specs.Ordering.{int_eq}
 use Rattle.std.proofs.Common.{sym, ap, ◌∙◌, subst, inl, inr, arith}
 use Rattle.std.proofs.lemmas.Int.{ints}
 use Rattle.std.proofs.lemmas.Bool.{eq-eqb, ne_eqb, cases_lt}
 use Rattle.std.proofs.lemmas.Bool.Decides.{Decides-int_eq}
 use Rattle.std.proofs.lemmas.List.Elements.{All-nil, All-cons, All-head, All-tail}
-use Rattle.fraction.specs.Rational.{ℚ, whole, frac, lit_one, ◌+ℚ◌, ◌*ℚ◌, neg_ℚ, ℚ_is, frac_same, +ℚ_assoc, +ℚ_comm, *ℚ_comm, one-*ℚ, zero-*ℚ, zero-+ℚ, neg-+ℚ}
+use Rattle.fraction.specs.Rational.{ℚ, whole, frac, lit_one, ◌+ℚ◌, ◌*ℚ◌, ◌≤ℚ◌, neg_ℚ, ℚ_is, frac_same, frac-≤ℚ, +ℚ_assoc, +ℚ_comm, *ℚ_comm, one-*ℚ, zero-*ℚ, zero-+ℚ, neg-+ℚ}
 use Rattle.fraction.specs.Ring.{+ℚ_left_comm}
 use Rattle.problem_box.specs.declared.span.Span.{Span}
 use Rattle.problem.specs.declared.row.Sense.TheVariants.{G}
@@ -16,7 +16,26 @@ use Rattle.cert_rows.specs.Lines.{Line, row_at}
 use Rattle.cert_rows.specs.Combination.{HasRightSign, AllSigned, combined_terms, combined_rhs}
 use Rattle.cert_merge.specs.Closing.{Source, StatesBounds, AreSources, left_of, fillings, fillings_price, placed, all_placed, AreBelow}
 use Rattle.cert_merge.specs.Laws.{ClosingsClose}
-use Rattle.cert_merge.proofs.Merging.{at_least_zero, at_most_zero}
+
+-- ---- signs
+at_least_zero : (m : ℚ) → pos 0 ≤ℤ m.num → whole (pos 0) ≤ℚ m
+at_least_zero m h = subst (λ v. whole (pos 0) ≤ℚ v) (sym (ℚ_is m)) (frac-≤ℚ (pos 0) m.num 1 m.den lit_one m.lowest.0 (omega (arith, ints)))
+
+at_most_zero : (m : ℚ) → m.num ≤ℤ pos 0 → m ≤ℚ whole (pos 0)
+at_most_zero m h = subst (λ v. v ≤ℚ whole (pos 0)) (sym (ℚ_is m)) (frac-≤ℚ m.num (pos 0) m.den 1 m.lowest.0 lit_one (omega (arith, ints)))
+
+-- ---- what holds of each multiplier
+pub All-placed : (P : ℕ × ℚ → Type 0) (m : ℕ × ℚ) (ms : List (ℕ × ℚ)) → P m → All P ms → All P (placed m ms)
+All-placed P m [] p h = All-cons P m [] p h
+All-placed P m (n ∷ ns) p h = step (nat_lt m.0 n.0) (All-placed P m ns p (All-tail P n ns h))
+  where
+    step : (b : Bool) → All P (placed m ns) → All P (cond b (m ∷ n ∷ ns) (n ∷ placed m ns))
+    step true ih = All-cons P m (n ∷ ns) p h
+    step false ih = All-cons P n (placed m ns) (All-head P n ns h) ih
+
+pub All-all_placed : (P : ℕ × ℚ → Type 0) (ms ns : List (ℕ × ℚ)) → All P ms → All P ns → All P (all_placed ms ns)
+All-all_placed P [] ns h k = k
+All-all_placed P (m ∷ ms) ns h k = All-placed P m (all_placed ms ns) (All-head P m ms h) (All-all_placed P ms ns (All-tail P m ms h) k)
 
 -- ---- the order of multipliers changes nothing
 module _ (ls : List Line) where
@@ -52,18 +71,6 @@ module _ (ls : List Line) where
   rhs-all_placed : (ms ns : List (ℕ × ℚ)) → combined_rhs ls (all_placed ms ns) ≡ combined_rhs ls ms +ℚ combined_rhs ls ns
   rhs-all_placed [] ns = sym (zero-+ℚ _)
   rhs-all_placed (m ∷ ms) ns = rhs-placed m (all_placed ms ns) ∙ ap (λ v. m.1 *ℚ (row_at ls m.0).rhs +ℚ v) (rhs-all_placed ms ns) ∙ sym (+ℚ_assoc _ _ _)
-
-  All-placed : (P : ℕ × ℚ → Type 0) (m : ℕ × ℚ) (ms : List (ℕ × ℚ)) → P m → All P ms → All P (placed m ms)
-  All-placed P m [] p h = All-cons P m [] p h
-  All-placed P m (n ∷ ns) p h = step (nat_lt m.0 n.0) (All-placed P m ns p (All-tail P n ns h))
-    where
-      step : (b : Bool) → All P (placed m ns) → All P (cond b (m ∷ n ∷ ns) (n ∷ placed m ns))
-      step true ih = All-cons P m (n ∷ ns) p h
-      step false ih = All-cons P n (placed m ns) (All-head P n ns h) ih
-
-  All-all_placed : (P : ℕ × ℚ → Type 0) (ms ns : List (ℕ × ℚ)) → All P ms → All P ns → All P (all_placed ms ns)
-  All-all_placed P [] ns h k = k
-  All-all_placed P (m ∷ ms) ns h k = All-placed P m (all_placed ms ns) (All-head P m ms h) (All-all_placed P ms ns (All-tail P m ms h) k)
 
 -- ---- columns
 -- each number from column j on stands at its column
@@ -186,8 +193,8 @@ closes ls target mult ss os h c t u =
     let f = filled ls r 0 ss os h in
     record {
       combined = record {
-        earlier = All-all_placed ls (λ (m : ℕ × ℚ). m.0 < length ls) (fillings r 0 os) mult f.there c.earlier;
-        signs = All-all_placed ls (λ (m : ℕ × ℚ). HasRightSign G (row_at ls m.0).sense m.1) (fillings r 0 os) mult f.signs c.signs;
+        earlier = All-all_placed (λ (m : ℕ × ℚ). m.0 < length ls) (fillings r 0 os) mult f.there c.earlier;
+        signs = All-all_placed (λ (m : ℕ × ℚ). HasRightSign G (row_at ls m.0).sense m.1) (fillings r 0 os) mult f.signs c.signs;
       };
       terms = λ k. C-all_placed ls (fillings r 0 os) mult k ∙ ap (λ v. v +ℚ C ls mult k) (f.terms k) ∙ column k (cases_lt k (length ss));
       rhs = rhs-all_placed ls (fillings r 0 os) mult ∙ ap (λ v. v +ℚ combined_rhs ls mult) f.rhs ∙ +ℚ_comm _ _;

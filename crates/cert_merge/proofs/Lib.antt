@@ -1,9 +1,8 @@
 pub mod Parts
 pub mod Claims
-pub mod FixedSearch
-pub mod Merging
 pub mod Filling
 pub mod Closings
+pub mod LongerLines
 pub mod TreeLemmas
 pub mod WorkedTree
 pub mod WorkedTables

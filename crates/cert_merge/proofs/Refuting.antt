@@ -1,5 +1,5 @@
 -- The multipliers of a node that one row refutes.
-use Rattle.std.specs.Prelude.{◌≡◌, ◌<◌, ℕ, zero, suc, pos, int_lt, List, [], ◌∷◌, length, All, reverse, slice_get, slice_index_or, Some}
+use Rattle.std.specs.Prelude.{◌≡◌, ◌<◌, ℕ, zero, suc, pos, int_lt, List, [], ◌∷◌, length, All, slice_get, slice_index_or, Some}
 use Rattle.std.proofs.Common.{ap, sym, subst, ◌∙◌, arith}
 use Rattle.std.proofs.lemmas.List.Elements.{All-head, All-tail}
 use Rattle.fraction.specs.Rational.{ℚ}
@@ -39,9 +39,9 @@ first_below p (k ∷ []) m h e = subst (λ (n : ℕ × ℚ). n.0 < length p.rows
 first_below p (k ∷ l ∷ ks) m h e = absurd h
 
 pub refuting_is : (p : Program) (s : Search) (ts : List Setter) (ms : List (ℕ × ℚ)) (m : ℕ × ℚ) (r : Row) → IsOneRow p ms → m ≡ slice_index_or ms 0 m → slice_get p.rows m.0 ≡ Some r
-    → all_placed (fillings_by p s ts (int_lt (pos 0) m.1.num) r.terms) (reverse ms) ≡ refuting p s ts ms
+    → all_placed (fillings_by p s ts (int_lt (pos 0) m.1.num) r.terms) (m ∷ []) ≡ refuting p s ts ms
 refuting_is p s ts [] m r h e g = absurd h
 refuting_is p s ts (k ∷ []) m r h e g =
-    ap (λ (q : Row). all_placed (fillings_by p s ts (int_lt (pos 0) m.1.num) q.terms) (k ∷ [])) (sym (got_at p.rows m.0 r absurd_row g))
-    ∙ ap (λ (n : ℕ × ℚ). all_placed (fillings_by p s ts (int_lt (pos 0) n.1.num) (slice_index_or p.rows n.0 absurd_row).terms) (k ∷ [])) e
+    ap (λ (q : Row). all_placed (fillings_by p s ts (int_lt (pos 0) m.1.num) q.terms) (m ∷ [])) (sym (got_at p.rows m.0 r absurd_row g))
+    ∙ ap (λ (n : ℕ × ℚ). all_placed (fillings_by p s ts (int_lt (pos 0) n.1.num) (slice_index_or p.rows n.0 absurd_row).terms) (n ∷ [])) e
 refuting_is p s ts (k ∷ l ∷ ks) m r h e g = absurd h

@@ -9,11 +9,11 @@ use Rattle.cert_merge.specs.Search.{Side, low, high, Branch, Search, node_at, pa
 use Rattle.cert_merge.specs.Setters.{no_setter, set_by, set_at, with_setter, noted, AreSetters, NameNodes, IsBranchWithin, AreBranches}
 
 -- ---- one step of a path
-path_end : (s : Search) (n i : ℕ) → (node_at s i).branch ≡ None → path_of s n i ≡ []
+pub path_end : (s : Search) (n i : ℕ) → (node_at s i).branch ≡ None → path_of s n i ≡ []
 path_end s zero i e = refl
 path_end s (suc n) i e = rw e
 
-path_up : (s : Search) (n i : ℕ) (b : Branch) → (node_at s i).branch ≡ Some b → path_of s (suc n) i ≡ (i, b) ∷ path_of s n b.parent
+pub path_up : (s : Search) (n i : ℕ) (b : Branch) → (node_at s i).branch ≡ Some b → path_of s (suc n) i ≡ (i, b) ∷ path_of s n b.parent
 path_up s n i b e = rw e
 
 or_none : {X : Type 0} (o : Option X) → option_or o None ≡ o

@@ -1,9 +1,8 @@
 -- What certificates promise.
-use Rattle.std.specs.Prelude.{◌≡◌, ℤ, List}
+use Rattle.std.specs.Prelude.{◌≡◌, List}
 use Rattle.fraction.specs.Rational.{ℚ}
 use Rattle.problem.specs.Program.{Program}
-use Rattle.problem.specs.Feasible.{IsFeasible}
-use Rattle.problem.specs.Best.{IsBest, IsVoid}
+use Rattle.problem.specs.Best.{IsVoid}
 use Rattle.cert_rows.specs.declared.certificate.Goal.TheVariants.{Infeas, Range}
 use Rattle.cert_rows.specs.declared.certificate.Cert.{Cert}
 use Rattle.cert_rows.specs.Validity.{IsValid}
@@ -19,8 +18,6 @@ use Rattle.cert_rows.specs.Validity.{IsCombination, AllFollow, with_derived}
 use Rattle.problem.specs.Linear.{SameCoefficients}
 use Rattle.cert_merge.specs.Closing.{Source, AreSources, AreBelow, closing_multipliers, price}
 use Rattle.cert_merge.specs.Tree.{NodeLine, derived_of, AreNodeLines, paths_with, IsConcluded}
-use Rattle.problem_box.specs.Changes.{IsFixed}
-use Rattle.cert_merge.specs.Merged.{merged, closed_at_once}
 
 -- where a valid certificate claims infeasibility, no point is feasible
 abbrev pub InfeasibilityHolds : Program → Cert → Type 0
@@ -29,14 +26,6 @@ InfeasibilityHolds p c = IsValid p c → c.claim ≡ Infeas → IsVoid p
 -- where it claims a range, no feasible point is below it and a listed one isn't above
 abbrev pub RangeHolds : Program → Cert → Type 0
 RangeHolds p c = (lb ub : ℚ) → IsValid p c → c.claim ≡ Range lb ub → IsBetween p c lb ub
-
--- the one point of a fixed box, if it is feasible, gives a valid certificate
-abbrev pub PointIsCertified : Program → List ℤ → Type 0
-PointIsCertified p x = IsFixed p.spans → IsFeasible p x → IsValid p (merged p (closed_at_once x))
-
--- and it is the best one
-abbrev pub PointIsBest : Program → List ℤ → Type 0
-PointIsBest p x = IsFixed p.spans → IsFeasible p x → IsBest p x
 
 -- the multipliers combine to the target, with the price as right side
 pub record Closes (ls : List Line) (target : List (ℕ × ℚ)) (p : ℚ) (ms : List (ℕ × ℚ)) : Type 0 where

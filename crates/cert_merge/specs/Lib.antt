@@ -4,7 +4,6 @@ pub mod Open
 pub mod Nodes
 pub mod Numbers
 pub mod Merged
-pub mod Fixed
 pub mod Tree
 pub mod Laws
 pub mod Setters

@@ -128,7 +128,3 @@ merged p s = record {
   points = points_of s.incumbent;
   lines = cut_lines 0 s.cuts ++ assumption_lines 0 s.nodes ++ node_lines p s (length s.nodes);
 }
-
--- the search that closes node 0 by a bound without multipliers, with this point as incumbent
-abbrev pub closed_at_once : List ℤ → Search
-closed_at_once x = record { cuts = []; nodes = record { branch = None; ending = bound [] false } ∷ []; incumbent = Some x }

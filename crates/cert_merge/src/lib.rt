@@ -2,7 +2,6 @@
 #![tactic(auto)]
 
 mod certificate;
-mod fixed;
 pub mod laws;
 mod lines;
 mod multipliers;
@@ -15,6 +14,5 @@ mod setters;
 mod tests;
 
 pub use certificate::merge;
-pub use fixed::merge_fixed;
 pub use node::{Branch, Cut, Ending, Node, Side};
 pub use search::{OpenSearch, Search};

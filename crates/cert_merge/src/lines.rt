@@ -55,7 +55,7 @@ fn absurd_row(alloc: Global, node: u32) -> Result<CertRow, AllocError>
         label,
         sense: Sense::G,
         rhs: Frac::of(1),
-        terms: Terms::make(Vec::new(alloc)),
+        terms: Terms::new(alloc),
     })
 }
 
@@ -120,15 +120,16 @@ fn refuted_line(
 {
     problem.limits_hold();
     let row = absurd_row(alloc, node)?;
-    let multiplier = mult.as_slice()[0];
-    let terms = &problem.row(multiplier.0 as usize).terms;
+    let (line, factor) = mult.as_slice()[0].pair();
+    let terms = &problem.row(line as usize).terms;
     let mut items = Vec::new(alloc);
-    items.extend_from_slice(mult.as_slice())?;
+    items.push((line, factor))?;
     let mult = fill(
+        alloc,
         problem,
         search,
         setters,
-        is_positive(multiplier.1),
+        is_positive(factor),
         terms.as_slice(),
         items,
     )?;
@@ -152,6 +153,7 @@ fn bounded_line(
     problem.limits_hold();
     let row = goal_row(alloc, problem, value, node)?;
     let mult = fill(
+        alloc,
         problem,
         search,
         setters,

@@ -11,7 +11,7 @@ use crate::numbers::bound_number;
 use crate::search::Search;
 use crate::setters::Setters;
 use fraction::Frac;
-use problem::{Problem, Terms};
+use problem::{Problem, Term, Terms};
 use std::alloc::{AllocError, Global};
 
 /// Whether a number is above 0.
@@ -67,11 +67,12 @@ fn filling(
 
 /// The multipliers of a proof, whose lines fall, filled up by the bounds of a node's box to what these terms leave.
 pub fn fill(
+    alloc: Global,
     problem: &Problem,
     search: &Search,
     setters: &Setters,
     negated: bool,
-    terms: &[(u32, Frac)],
+    terms: &[Term],
     mult: Vec<(u32, Frac)>,
 ) -> Result<Terms, AllocError>
     requires numbered { IsNumbered problem.now search.now }
@@ -82,11 +83,11 @@ pub fn fill(
 {
     let mut items = mult;
     for done in 0..terms.len() {
-        let term = terms[terms.len() - 1 - done];
+        let term = terms[terms.len() - 1 - done].pair();
         place(&mut items, filling(problem, search, setters, negated, term))?;
     }
     items.reverse();
-    Ok(Terms::make(items))
+    Terms::make(alloc, items.as_slice())
 }
 
 /// The multipliers of a node whose box has a column without numbers: the lower bound once, less the upper one.
@@ -109,5 +110,5 @@ pub fn crossing(
     let lower = bound_number(problem, search, setters, column, Side::Low);
     place(&mut items, (lower, Frac::of(1)))?;
     items.reverse();
-    Ok(Terms::make(items))
+    Terms::make(alloc, items.as_slice())
 }

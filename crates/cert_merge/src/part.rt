@@ -28,9 +28,7 @@ pub fn unit_terms(alloc: Global, column: usize) -> Result<Terms, AllocError>
     requires { column < 2 ^ 32 }
     ensures { IfOk result (λ t. t ≡ (column, whole (pos 1)) ∷ []) }
 {
-    let mut items = Vec::new(alloc);
-    items.push((column as u32, Frac::of(1)))?;
-    Ok(Terms::make(items))
+    Terms::make(alloc, &[(column as u32, Frac::of(1))])
 }
 
 fn labelled_row(alloc: Global, number: usize, row: &Row) -> Result<CertRow, AllocError>

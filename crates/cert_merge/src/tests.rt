@@ -22,11 +22,11 @@ fn even(alloc: Global) -> Result<Problem, AllocError>
         String::from_str(alloc, "x")?,
         String::from_str(alloc, "y")?,
     ]?);
-    let terms = Terms::make(vec![in alloc; (0, Frac::of(2)), (1, Frac::of(2))]?);
+    let terms = Terms::make(alloc, &[(0, Frac::of(2)), (1, Frac::of(2))])?;
     let row = Row::make(Sense::E, Frac::of(3), terms);
     let rows = vec![in alloc; row]?;
     let root = IntBox::make(vec![in alloc; Span { lo: 0, hi: 1 }, Span { lo: 0, hi: 1 }]?);
-    Ok(Problem::make(names, rows, Terms::make(Vec::new(alloc)), root))
+    Ok(Problem::make(names, rows, Terms::new(alloc), root))
 }
 
 /// Row 0 as it stands.
@@ -34,7 +34,7 @@ fn by_row(alloc: Global) -> Result<Ending, AllocError>
     ensures { IfOk result (λ e. ending_of e ≡ refute ((0, whole (pos 1)) ∷ [])) }
 {
     Ok(Ending::Refute {
-        mult: Terms::make(vec![in alloc; (0, Frac::of(1))]?),
+        mult: Terms::make(alloc, &[(0, Frac::of(1))])?,
     })
 }
 
@@ -43,7 +43,7 @@ fn by_turned_row(alloc: Global) -> Result<Ending, AllocError>
     ensures { IfOk result (λ e. ending_of e ≡ refute ((0, whole (negsuc 0)) ∷ [])) }
 {
     Ok(Ending::Refute {
-        mult: Terms::make(vec![in alloc; (0, Frac::of(-1))]?),
+        mult: Terms::make(alloc, &[(0, Frac::of(-1))])?,
     })
 }
 
@@ -106,8 +106,9 @@ fn reason(alloc: Global, why: &Why) -> Result<Vec<i128>, AllocError> {
     match why {
         Why::Asm => {}
         Why::Lin { mult } | Why::Rnd { mult } => {
-            for (line, factor) in mult.as_slice() {
-                numbers.push(*line as i128)?;
+            for item in mult.as_slice() {
+                let (line, factor) = item.pair();
+                numbers.push(line as i128)?;
                 numbers.push(factor.numer())?;
             }
         }

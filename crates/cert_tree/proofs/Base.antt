@@ -13,10 +13,10 @@ use Rattle.cert_rows.specs.Lines.{Line, row_of, row_at, assumed_by, no_line}
 use Rattle.cert_rows.specs.Combination.{combined_terms}
 use Rattle.cert_rows.specs.Assumptions.{assumed_by_all}
 use Rattle.cert_rows.specs.Validity.{lower_row, upper_row, bound_rows, given_lines}
+use Rattle.cert_merge.specs.Closing.{AreBelow}
 use Rattle.cert_merge.specs.Search.{Cut, Side, low, high}
 use Rattle.cert_merge.specs.Numbers.{cut_line, bound_line}
 use Rattle.cert_merge.specs.Merged.{row_lines, bound_lines, part_of, base_lines}
-use Rattle.cert_merge.specs.Fixed.{IsOverColumns}
 use Rattle.cert_tree.specs.Finished.{AreCutsBehind}
 
 -- a row that assumes nothing
@@ -61,7 +61,7 @@ pub none_assumed : (rs : List Row) (mult : List (ℕ × ℚ)) → assumed_by_all
 none_assumed rs [] = refl
 none_assumed rs (m ∷ ms) = rw (bare_assumed rs m.0, none_assumed rs ms)
 
-bare_row : (rs : List Row) (i : ℕ) → row_at (map bare rs) i ≡ slice_index_or rs i no_line.row
+pub bare_row : (rs : List Row) (i : ℕ) → row_at (map bare rs) i ≡ slice_index_or rs i no_line.row
 bare_row [] i = refl
 bare_row (r ∷ rs) zero = refl
 bare_row (r ∷ rs) (suc i) = bare_row rs i
@@ -151,7 +151,7 @@ cuts_over p earlier [] h = All-nil (λ (c : Cut). IsOver (length p.spans) c.row)
 cuts_over p earlier (c ∷ cs) h = All-cons (λ (c : Cut). IsOver (length p.spans) c.row) c cs h.0.over_columns (cuts_over p (earlier ++ c ∷ []) cs h.1)
 
 -- combinations of base lines name columns of the program
-pub combined_over : (p : Program) (cs : List Cut) (mult : List (ℕ × ℚ)) → All (λ r. IsOverColumns p r.terms) p.rows → AreCutsBehind p [] cs → IsOverColumns p (combined_terms (base_lines p cs) mult)
+pub combined_over : (p : Program) (cs : List Cut) (mult : List (ℕ × ℚ)) → All (λ r. AreBelow (length p.spans) r.terms) p.rows → AreCutsBehind p [] cs → AreBelow (length p.spans) (combined_terms (base_lines p cs) mult)
 combined_over p cs mult h k =
     let n = length p.spans in
     rows_over n (base_rows p cs) mult

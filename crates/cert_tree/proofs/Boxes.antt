@@ -1,13 +1,31 @@
--- The boxes of nodes, one branch further down.
-use Rattle.std.specs.Prelude.{◌≡◌, ◌<◌, ◌+◌, ℕ, zero, suc, ℤ, ◌&&◌, cond, List, [], ◌∷◌, refl}
+-- The boxes of nodes: those of old nodes stay, and a child has its parent's, cut by its branch.
+use Rattle.std.specs.Prelude.{◌≡◌, ◌<◌, ◌+◌, ℕ, zero, suc, ℤ, ◌&&◌, cond, List, [], ◌∷◌, length, Option, Some, None, refl}
 use Rattle.std.proofs.Common.{sym, ap, ◌∙◌, arith}
 use Rattle.std.proofs.lemmas.Bool.{eq-eqb, ne_eqb}
 use Rattle.problem_box.specs.declared.span.Span.{Span}
-use Rattle.cert_merge.specs.Search.{Side, low, high, Branch, path_of, is_same_side}
-use Rattle.cert_tree.specs.Finished.{deepest, box_along}
+use Rattle.problem.specs.Program.{Program}
+use Rattle.cert_merge.specs.Search.{Side, low, high, Branch, Search, node_at, path_of, is_same_side}
+use Rattle.cert_merge.proofs.Tracing.{path_end, path_up}
+use Rattle.cert_tree.specs.Finished.{deepest, box_along, box_at, IsTree}
 use Rattle.cert_tree.specs.Laws.{cut_on, BoxesAreCut}
-use Rattle.cert_tree.proofs.Paths.{path_child}
+use Rattle.cert_tree.proofs.Paths.{path_child, branched}
 
+-- ---- old nodes
+-- s and t have the same branches at the nodes of s
+module _ (s t : Search) (tree : IsTree s) (branches : (i : ℕ) → i < length s.nodes → (node_at t i).branch ≡ (node_at s i).branch) where
+  same_path : (n i : ℕ) → i < length s.nodes → path_of t n i ≡ path_of s n i
+  same_path zero i h = refl
+  same_path (suc n) i h = step (same_path n) (node_at s i).branch refl
+    where
+      step : ((j : ℕ) → j < length s.nodes → path_of t n j ≡ path_of s n j) → (o : Option Branch) → (node_at s i).branch ≡ o → path_of t (suc n) i ≡ path_of s (suc n) i
+      step ih None e = path_end t (suc n) i (branches i h ∙ e) ∙ sym (path_end s (suc n) i e)
+      step ih (Some b) e =
+          path_up t n i b (branches i h ∙ e) ∙ ap (λ ss. (i, b) ∷ ss) (ih b.parent (omega (arith, h, (branched s tree.root tree.reached i b e).2))) ∙ sym (path_up s n i b e)
+
+  pub same_box : (p : Program) (i : ℕ) → i < length s.nodes → box_at p t i ≡ box_at p s i
+  same_box p i h = ap (λ path. box_along path 0 p.spans) (same_path i i h)
+
+-- ---- children
 -- no path, no change
 box_of_root : (j : ℕ) (ss : List Span) → box_along [] j ss ≡ ss
 box_of_root j [] = refl
@@ -54,8 +72,11 @@ module _ (i : ℕ) (b : Branch) (path : List (ℕ × Branch)) where
       (λ m. record { lo = other_column j low r.lo n m; hi = other_column j high r.hi n m } ∷ box_cut (j + 1) k rs (omega arith) m)
       ∙ sym (later_cut b.side (record { lo = deepest j low r.lo path; hi = deepest j high r.hi path }) (box_along path (j + 1) rs) k b.bound)
 
+pub root_box : (p : Program) (s : Search) → box_at p s 0 ≡ p.spans
+root_box p s = box_of_root 0 p.spans
+
+pub child_box : (p : Program) (s : Search) → IsTree s → (i : ℕ) (b : Branch) → (node_at s i).branch ≡ Some b → box_at p s i ≡ cut_on b.side (box_at p s b.parent) b.column b.bound
+child_box p s tree i b e = ap (λ path. box_along path 0 p.spans) (path_child s tree.root tree.reached i b e) ∙ box_cut i b (path_of s b.parent b.parent) 0 b.column p.spans (omega arith)
+
 pub boxes_cut : BoxesAreCut
-boxes_cut p s f = record {
-  of_root = box_of_root 0 p.spans;
-  of_child = λ i b e. ap (λ path. box_along path 0 p.spans) (path_child s f.tree.root f.tree.reached i b e) ∙ box_cut i b (path_of s b.parent b.parent) 0 b.column p.spans (omega arith);
-}
+boxes_cut p s f = record { of_root = root_box p s; of_child = λ i b e. child_box p s f.tree i b e }

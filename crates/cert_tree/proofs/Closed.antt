@@ -22,30 +22,17 @@ use Rattle.cert_merge.specs.Closing.{Source, AreBelow, left_of, fillings, fillin
 use Rattle.cert_merge.specs.Search.{Search, low, high, node_at, path_of}
 use Rattle.cert_merge.specs.Numbers.{sources_of}
 use Rattle.cert_merge.specs.Merged.{base_lines, filled, absurd_row, goal_row}
-use Rattle.cert_merge.specs.Fixed.{IsOverColumns}
 use Rattle.cert_merge.specs.Laws.{Closes}
 use Rattle.cert_merge.proofs.Closings.{all_hold}
-use Rattle.cert_merge.proofs.Filling.{closes}
+use Rattle.cert_merge.proofs.Filling.{All-placed, All-all_placed, closes}
+use Rattle.cert_merge.proofs.LongerLines.{same_terms, same_rhs, still_combined}
 use Rattle.cert_tree.specs.Finished.{AreCutsBehind, IsReached, box_at}
-use Rattle.cert_tree.proofs.Extending.{same_terms, same_rhs, still_combined}
 use Rattle.cert_tree.proofs.Base.{combined_over}
 use Rattle.cert_tree.proofs.Assumed.{AreLines}
 use Rattle.cert_tree.proofs.Paths.{path_lines}
 use Rattle.cert_tree.proofs.Sources.{IsStated, begins, base_assumes, are_sources, sources_within, length-box}
 
 -- ---- what holds of the lines of multipliers
-All-placed : (P : ℕ × ℚ → Type 0) (m : ℕ × ℚ) (ms : List (ℕ × ℚ)) → P m → All P ms → All P (placed m ms)
-All-placed P m [] p h = All-cons P m [] p h
-All-placed P m (n ∷ ns) p h = step (nat_lt m.0 n.0) (All-placed P m ns p (All-tail P n ns h))
-  where
-    step : (b : Bool) → All P (placed m ns) → All P (cond b (m ∷ n ∷ ns) (n ∷ placed m ns))
-    step true ih = All-cons P m (n ∷ ns) p h
-    step false ih = All-cons P n (placed m ns) (All-head P n ns h) ih
-
-All-all_placed : (P : ℕ × ℚ → Type 0) (ms ns : List (ℕ × ℚ)) → All P ms → All P ns → All P (all_placed ms ns)
-All-all_placed P [] ns h k = k
-All-all_placed P (m ∷ ms) ns h k = All-placed P m (all_placed ms ns) (All-head P m ms h) (All-all_placed P ms ns (All-tail P m ms h) k)
-
 All-fillings : (P : ℕ → Type 0) (r : ℕ → ℚ) (j : ℕ) (os : List Source) → All (λ o. P o.lower × P o.upper) os → All (λ m. P m.0) (fillings r j os)
 All-fillings P r j [] h = All-nil (λ (m : ℕ × ℚ). P m.0)
 All-fillings P r j (o ∷ os) h =
@@ -163,7 +150,7 @@ module _ (ls : List Line) (path : List ℕ) (j l u : ℕ) (lo hi : ℤ) (a : IsS
 
 -- ---- a combination that is filled up
 module _ (p : Program) (s : Search) (root : (node_at s 0).branch ≡ None) (reached : (i : ℕ) → 0 < i → i < length s.nodes → IsReached s i) (ls : List Line) (lines : AreLines p s ls)
-    (rows : All (λ r. IsOverColumns p r.terms) p.rows) (cuts : AreCutsBehind p [] s.cuts) where
+    (rows : All (λ r. AreBelow (length p.spans) r.terms) p.rows) (cuts : AreCutsBehind p [] s.cuts) where
   abbrev B : List Line
   B = base_lines p s.cuts
 
@@ -172,14 +159,14 @@ module _ (p : Program) (s : Search) (root : (node_at s 0).branch ≡ None) (reac
   Given i target mult ts v =
       Closes ls target (v +ℚ fillings_price (left_of target ts) 0 (box_at p s i)) (all_placed (fillings (left_of target ts) 0 (sources_of p s i)) mult)
 
-  pub node_closes : (i : ℕ) (target mult : List (ℕ × ℚ)) → IsCombination B G mult → IsOverColumns p target
+  pub node_closes : (i : ℕ) (target mult : List (ℕ × ℚ)) → IsCombination B G mult → AreBelow (length p.spans) target
       → Closes ls target (price B target mult (box_at p s i)) (filled p s i target mult)
   unfolding Given
   node_closes i target mult c t =
       let w = begins p s root reached ls lines in
       let n : length p.spans ≡ length (box_at p s i) = sym (length-box (path_of s i i) 0 p.spans) in
       let e = same_terms B ls w mult c.earlier in
-      let over : IsOverColumns p (combined_terms ls mult) = subst (IsOverColumns p) (sym e) (combined_over p s.cuts mult rows cuts) in
+      let over : AreBelow (length p.spans) (combined_terms ls mult) = subst (AreBelow (length p.spans)) (sym e) (combined_over p s.cuts mult rows cuts) in
       let r = closes ls target mult (box_at p s i) (sources_of p s i) (are_sources p s root reached ls lines i) (still_combined B ls w G mult c)
       (subst (λ k. AreBelow k target) n t) (subst (λ k. AreBelow k (combined_terms ls mult)) n over) in
       subst (λ ts. Given i target mult ts (combined_rhs B mult)) e (subst (Given i target mult (combined_terms ls mult)) (same_rhs B ls w mult c.earlier) r)

@@ -1,5 +1,5 @@
 -- What ended a node of a search ends it in each search that goes on from there.
-use Rattle.std.specs.Prelude.{◌≡◌, ◌<◌, ℕ, zero, suc, ℤ, pos, List, [], ◌∷◌, ◌++◌, map, length, slice_index_or, Option, Some, None, refl}
+use Rattle.std.specs.Prelude.{◌≡◌, ◌<◌, ℕ, ℤ, pos, List, [], ◌++◌, map, length, slice_index_or, Option, Some, None, refl}
 use Rattle.std.proofs.Common.{sym, ap, ◌∙◌, subst, arith, length-append}
 use Rattle.std.proofs.lemmas.List.{append_assoc, map-append, get_or_append_left}
 use Rattle.fraction.specs.Rational.{ℚ, whole, ◌+ℚ◌, ◌≤ℚ◌, ≤ℚ_trans}
@@ -11,13 +11,14 @@ use Rattle.problem.specs.Feasible.{objective_at}
 use Rattle.cert_rows.specs.Lines.{Line, no_line}
 use Rattle.cert_rows.specs.Validity.{IsCombination, bound_rows}
 use Rattle.cert_merge.specs.Closing.{left_of, fillings_price, price}
-use Rattle.cert_merge.specs.Search.{Cut, Branch, Ending, empty, refute, bound, split, Search, node_at, path_of}
+use Rattle.cert_merge.specs.Search.{Cut, Branch, Ending, empty, refute, bound, split, Search, node_at}
 use Rattle.cert_merge.specs.Merged.{base_lines}
-use Rattle.cert_tree.specs.Finished.{box_along, box_at, IsCrossed, rounded_up, IsTree, HasEnded}
+use Rattle.cert_merge.proofs.LongerLines.{BeginsWith, same_terms, same_rhs, still_combined}
+use Rattle.cert_tree.specs.Finished.{box_at, IsCrossed, rounded_up, IsTree, HasEnded}
 use Rattle.cert_tree.specs.Continued.{IsAsGood, IsContinued, EndingsStay}
-use Rattle.cert_tree.proofs.Extending.{BeginsWith, same_terms, same_rhs, still_combined}
 use Rattle.cert_tree.proofs.Base.{bare, base_rows}
-use Rattle.cert_tree.proofs.Paths.{path_end, path_up, branched}
+use Rattle.cert_tree.proofs.Boxes.{same_box}
+use Rattle.cert_tree.proofs.Paths.{branched}
 
 -- ---- more cuts
 base_begins : (p : Program) (cs more all : List Cut) → all ≡ cs ++ more → BeginsWith (base_lines p cs) (base_lines p all)
@@ -47,26 +48,17 @@ module _ (p : Program) (s t : Search) (tree : IsTree s) (go : IsContinued p s t)
   still_reached : (k : ℕ) (b : Branch) → (node_at s k).branch ≡ Some b → (node_at t k).branch ≡ Some b
   still_reached k b e = go.branches k (branched s tree.root tree.reached k b e).1 ∙ e
 
-  same_path : (n i : ℕ) → i < length s.nodes → path_of t n i ≡ path_of s n i
-  same_path zero i h = refl
-  same_path (suc n) i h = step (same_path n) (node_at s i).branch refl
-    where
-      step : ((j : ℕ) → j < length s.nodes → path_of t n j ≡ path_of s n j) → (o : Option Branch) → (node_at s i).branch ≡ o → path_of t (suc n) i ≡ path_of s (suc n) i
-      step ih None e = path_end t (suc n) i (go.branches i h ∙ e) ∙ sym (path_end s (suc n) i e)
-      step ih (Some b) e =
-          path_up t n i b (go.branches i h ∙ e) ∙ ap (λ ss. (i, b) ∷ ss) (ih b.parent (omega (arith, h, (branched s tree.root tree.reached i b e).2))) ∙ sym (path_up s n i b e)
-
-  same_box : (i : ℕ) → i < length s.nodes → box_at p t i ≡ box_at p s i
-  same_box i h = ap (λ path. box_along path 0 p.spans) (same_path i i h)
+  box_stays : (i : ℕ) → i < length s.nodes → box_at p t i ≡ box_at p s i
+  box_stays i h = same_box s t tree go.branches p i h
 
   begins : BeginsWith (base_lines p s.cuts) (base_lines p t.cuts)
   begins = base_begins p s.cuts go.more t.cuts go.cuts
 
   still_ended : (i : ℕ) (e : Ending) → i < length s.nodes → HasEnded p s i e → HasEnded p t i e
-  still_ended i (empty j) h x = subst (λ ss. IsCrossed ss j) (sym (same_box i h)) x
+  still_ended i (empty j) h x = subst (λ ss. IsCrossed ss j) (sym (box_stays i h)) x
   still_ended i (refute mult) h x = record {
     combined = still_combined (base_lines p s.cuts) (base_lines p t.cuts) begins G mult x.combined;
-    above = subst (λ ss. whole (pos 0) <ℚ price (base_lines p t.cuts) [] mult ss) (sym (same_box i h))
+    above = subst (λ ss. whole (pos 0) <ℚ price (base_lines p t.cuts) [] mult ss) (sym (box_stays i h))
         (subst (λ v. whole (pos 0) <ℚ v) (sym (same_price (base_lines p s.cuts) (base_lines p t.cuts) begins [] mult (box_at p s i) x.combined)) x.above);
   }
   still_ended i (bound mult rounded) h x =
@@ -76,7 +68,7 @@ module _ (p : Program) (s t : Search) (tree : IsTree s) (go : IsContinued p s t)
         found = y.1;
         combined = still_combined (base_lines p s.cuts) (base_lines p t.cuts) begins G mult x.combined;
         may_round = x.may_round;
-        reaches = subst (λ ss. objective_at p y.0 ≤ℚ rounded_up rounded (price (base_lines p t.cuts) p.objective mult ss)) (sym (same_box i h))
+        reaches = subst (λ ss. objective_at p y.0 ≤ℚ rounded_up rounded (price (base_lines p t.cuts) p.objective mult ss)) (sym (box_stays i h))
             (subst (λ v. objective_at p y.0 ≤ℚ rounded_up rounded v) (sym (same_price (base_lines p s.cuts) (base_lines p t.cuts) begins p.objective mult (box_at p s i) x.combined))
             (≤ℚ_trans _ _ _ y.2 x.reaches));
       }

@@ -15,9 +15,9 @@ use Rattle.cert_rows.specs.Lines.{Line}
 use Rattle.cert_rows.specs.Domination.{Dominates, IsAbsurd, ExcludesZero}
 use Rattle.cert_rows.specs.Validity.{with_derived, AllFollow, given_lines, all_lines, last_row, ShowsClaim, IsValid}
 use Rattle.cert_rows.specs.Soundness.{ClaimHolds, claim_holds}
+use Rattle.cert_merge.specs.Closing.{AreBelow}
 use Rattle.cert_merge.specs.Search.{Node, Search, no_node}
 use Rattle.cert_merge.specs.Merged.{part_of, claim_of, points_of, absurd_row, goal_row, cut_lines, assumption_lines, node_lines, base_lines, merged}
-use Rattle.cert_merge.specs.Fixed.{IsOverColumns}
 use Rattle.cert_merge.specs.Tree.{IsConcluded}
 use Rattle.cert_merge.proofs.TreeLemmas.{tree_follows}
 use Rattle.cert_tree.specs.Finished.{IsIncumbent, IsFinished}
@@ -61,7 +61,7 @@ first_node : (ns : List Node) → 0 < length ns → (n : Node) × (rest : List N
 first_node [] h = absurd (omega (arith, h))
 first_node (n ∷ ns) h = (n, ns, refl)
 
-module _ (p : Program) (rows : All (λ r. IsOverColumns p r.terms) p.rows) (objective : IsOverColumns p p.objective) (s : Search) (f : IsFinished p s) where
+module _ (p : Program) (rows : All (λ r. AreBelow (length p.spans) r.terms) p.rows) (objective : AreBelow (length p.spans) p.objective) (s : Search) (f : IsFinished p s) where
   abbrev given : List Line
   given = given_lines (part_of p).rows
 

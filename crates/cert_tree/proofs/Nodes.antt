@@ -14,11 +14,10 @@ use Rattle.problem.specs.Program.{Program}
 use Rattle.problem.specs.Feasible.{objective_at}
 use Rattle.cert_rows.specs.Lines.{Line, row_at}
 use Rattle.cert_rows.specs.Validity.{IsLinear, IsRounded, IsSplit, lower_row, upper_row}
-use Rattle.cert_merge.specs.Closing.{price}
+use Rattle.cert_merge.specs.Closing.{AreBelow, price}
 use Rattle.cert_merge.specs.Search.{Branch, Ending, empty, refute, bound, split, Search, low, high, node_at}
 use Rattle.cert_merge.specs.Numbers.{assumption_line, node_line, line_of_bound}
 use Rattle.cert_merge.specs.Merged.{base_lines, filled, goal_row, branch_row, ending_line, node_of, node_lines}
-use Rattle.cert_merge.specs.Fixed.{IsOverColumns}
 use Rattle.cert_merge.specs.Tree.{NodeLine, derived_of, IsChild, IsNodeLine, AreNodeLines, paths_with}
 use Rattle.cert_merge.proofs.Closings.{follows-bound, follows-rounded, follows-refute}
 use Rattle.cert_tree.specs.Finished.{box_at, HasEnded, left_branch, right_branch, IsFinished}
@@ -89,7 +88,7 @@ root_path p s h =
 
 -- ---- each node
 module _ (p : Program) (s : Search) (f : IsFinished p s) (ls : List Line) (lines : AreLines p s ls)
-    (rows : All (λ r. IsOverColumns p r.terms) p.rows) (objective : IsOverColumns p p.objective) where
+    (rows : All (λ r. AreBelow (length p.spans) r.terms) p.rows) (objective : AreBelow (length p.spans) p.objective) where
   abbrev goal : Row
   goal = goal_row p s.incumbent
 

@@ -8,15 +8,8 @@ use Rattle.std.proofs.lemmas.List.Elements.{All-nil, All-cons}
 use Rattle.problem.specs.Program.{Program}
 use Rattle.cert_merge.specs.Search.{Side, low, high, Branch, Search, no_node, node_at, path_of, is_same_side, setter}
 use Rattle.cert_merge.specs.Numbers.{assumption_line}
+use Rattle.cert_merge.proofs.Tracing.{path_end, path_up}
 use Rattle.cert_tree.specs.Finished.{deepest, IsReached}
-
--- ---- one step up
-pub path_end : (s : Search) (n i : ℕ) → (node_at s i).branch ≡ None → path_of s n i ≡ []
-path_end s zero i e = refl
-path_end s (suc n) i e = rw e
-
-pub path_up : (s : Search) (n i : ℕ) (b : Branch) → (node_at s i).branch ≡ Some b → path_of s (suc n) i ≡ (i, b) ∷ path_of s n b.parent
-path_up s n i b e = rw e
 
 module _ (s : Search) (root : (node_at s 0).branch ≡ None) (reached : (i : ℕ) → 0 < i → i < length s.nodes → IsReached s i) where
   -- a node with a branch is there, and is not node 0

@@ -10,8 +10,8 @@ use Rattle.cert_merge.specs.Closing.{Source, AreSources}
 use Rattle.cert_merge.specs.Search.{Side, low, high, Branch, Search, node_at, path_of}
 use Rattle.cert_merge.specs.Numbers.{bound_line, assumption_line, line_of_bound, sources_from, sources_of}
 use Rattle.cert_merge.specs.Merged.{branch_row, base_lines}
+use Rattle.cert_merge.proofs.LongerLines.{BeginsWith, same_row, same_assumed}
 use Rattle.cert_tree.specs.Finished.{deepest, box_along, box_at, IsReached}
-use Rattle.cert_tree.proofs.Extending.{BeginsWith, same_row, same_assumed}
 use Rattle.cert_tree.proofs.Base.{side_row, bound_on, base_rows, bare_assumed, length-base, bound_line_there, bound_line_row}
 use Rattle.cert_tree.proofs.Assumed.{assumed_line, AreLines}
 use Rattle.cert_tree.proofs.Paths.{branched, on_path, path_lines, Contains-map, IsSetter, found}

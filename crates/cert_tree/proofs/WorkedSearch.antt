@@ -18,10 +18,9 @@ use Rattle.problem.specs.Best.{IsBest, IsVoid}
 use Rattle.cert_rows.specs.Lines.{row_at}
 use Rattle.cert_rows.specs.Combination.{HasRightSign}
 use Rattle.cert_rows.specs.Validity.{IsCombination, IsRounded, IsValid}
-use Rattle.cert_merge.specs.Closing.{price}
+use Rattle.cert_merge.specs.Closing.{AreBelow, price}
 use Rattle.cert_merge.specs.Search.{Cut, low, high, Branch, Ending, empty, refute, bound, split, Search, node_at}
 use Rattle.cert_merge.specs.Merged.{base_lines, merged}
-use Rattle.cert_merge.specs.Fixed.{IsOverColumns}
 use Rattle.cert_tree.specs.Finished.{box_at, IsReached, HasEnded, left_branch, right_branch, rounded_up, IsFinished}
 use Rattle.cert_tree.proofs.Closed.{whole_coefficients}
 use Rattle.cert_tree.proofs.Finishing.{certificate_valid, certificate_answers}
@@ -98,13 +97,13 @@ even_finished = record {
   incumbent = tt;
 }
 
-over_zero : (p : Program) → 0 < length p.spans → (a : ℚ) → IsOverColumns p ((0, a) ∷ [])
+over_zero : (p : Program) → 0 < length p.spans → (a : ℚ) → AreBelow (length p.spans) ((0, a) ∷ [])
 over_zero p h a = All-cons (λ (t : ℕ × ℚ). t.0 < length p.spans) (0, a) [] h (All-nil (λ (t : ℕ × ℚ). t.0 < length p.spans))
 
-rows_over : (objective : List (ℕ × ℚ)) (sense : Sense) (rhs : ℚ) (hi : ℤ) → All (λ r. IsOverColumns (doubled objective sense rhs hi) r.terms) (doubled objective sense rhs hi).rows
+rows_over : (objective : List (ℕ × ℚ)) (sense : Sense) (rhs : ℚ) (hi : ℤ) → All (λ r. AreBelow 1 r.terms) (doubled objective sense rhs hi).rows
 rows_over objective sense rhs hi =
     let p = doubled objective sense rhs hi in
-    All-cons (λ (r : Row). IsOverColumns p r.terms) (record { sense = sense; rhs = rhs; terms = (0, n 2) ∷ [] }) [] (over_zero p (omega arith) (n 2)) (All-nil (λ (r : Row). IsOverColumns p r.terms))
+    All-cons (λ (r : Row). AreBelow (length p.spans) r.terms) (record { sense = sense; rhs = rhs; terms = (0, n 2) ∷ [] }) [] (over_zero p (omega arith) (n 2)) (All-nil (λ (r : Row). AreBelow (length p.spans) r.terms))
 
 even_valid : IsValid even (merged even even_search)
 even_valid = certificate_valid even (rows_over [] E (n 1) (pos 0)) (All-nil (λ (t : ℕ × ℚ). t.0 < 1)) even_search even_finished

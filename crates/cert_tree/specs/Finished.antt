@@ -7,10 +7,9 @@ use Rattle.problem.specs.declared.row.Sense.TheVariants.{G}
 use Rattle.problem.specs.Program.{Program}
 use Rattle.problem.specs.Feasible.{IsFeasible, objective_at, HasWholeObjective}
 use Rattle.cert_rows.specs.Validity.{IsCombination, IsRounded}
-use Rattle.cert_merge.specs.Closing.{price}
+use Rattle.cert_merge.specs.Closing.{AreBelow, price}
 use Rattle.cert_merge.specs.Search.{Cut, Side, low, high, Branch, Ending, empty, refute, bound, split, Search, node_at, path_of, is_same_side}
 use Rattle.cert_merge.specs.Merged.{base_lines}
-use Rattle.cert_merge.specs.Fixed.{IsOverColumns}
 
 -- ---- the box of a node
 -- the number that the deepest branch of a path gave to a bound of a column, else the root's
@@ -74,7 +73,7 @@ HasEnded p s i (split j b left right) = IsSplitInto s i j b left right
 -- ---- cuts
 -- the rounded combination of rows, bounds and earlier cuts, over columns of the program
 pub record IsCutBehind (p : Program) (earlier : List Cut) (c : Cut) : Type 0 where
-  pub over_columns : IsOverColumns p c.row.terms
+  pub over_columns : AreBelow (length p.spans) c.row.terms
   pub combined : IsRounded (base_lines p earlier) c.row c.mult
 
 -- each cut, behind these

@@ -2,3 +2,4 @@ pub mod Casts
 pub mod Adding
 pub mod Multiplying
 pub mod ShortWays
+pub mod Narrowing

@@ -42,7 +42,7 @@ impl Model for Frac {
 
 /// The fraction of two numbers that are in lowest terms.
 #[inline(always)]
-fn made(num: i128, den: u128) -> Frac
+pub(crate) fn made(num: i128, den: u128) -> Frac
     requires lowest { IsLowest num den }
     requires num_small { nat_abs num < 2 ^ 127 }
     requires den_small { den < 2 ^ 127 }

@@ -14,7 +14,7 @@ pub struct Block<'a> {
 
 impl<'a> Block<'a> {
     /// The block of a text whose first line is its head without the dashes. Empty lines at its end are no part of it.
-    pub fn new(text: &'a str) -> Block<'a> {
+    pub(crate) fn new(text: &'a str) -> Block<'a> {
         let (head, body) = match text.split_once('\n') {
             Some(parts) => parts,
             None => (text, ""),
@@ -32,7 +32,7 @@ impl<'a> Block<'a> {
 }
 
 /// The bytes of a body in a form: as it stands, `escaped`, or `repeated COUNT`.
-pub fn bytes_of(alloc: Global, form: &str, body: &str) -> Result<Vec<u8>> {
+pub(crate) fn bytes_of(alloc: Global, form: &str, body: &str) -> Result<Vec<u8>> {
     if form.is_empty() {
         return Ok(plain(alloc, body)?);
     }

@@ -114,7 +114,7 @@ fn expected_of(
 
 impl<'a> Case<'a> {
     /// The case of a text that begins with its title. Its model is its own, or the base text with changes.
-    pub fn read(alloc: Global, base: &str, text: &'a str) -> Result<Case<'a>> {
+    pub(crate) fn read(alloc: Global, base: &str, text: &'a str) -> Result<Case<'a>> {
         let mut blocks = text.split("\n--- ");
         let title = blocks.next().unwrap_or("");
         let mut draft = Draft::new(alloc);

@@ -22,7 +22,7 @@ pub struct Change {
 
 impl Change {
     /// The change of a block `line NUMBER` or `after NUMBER`, and its form.
-    pub fn read(alloc: Global, block: &Block<'_>) -> Result<Change> {
+    pub(crate) fn read(alloc: Global, block: &Block<'_>) -> Result<Change> {
         let (number, form) = match block.rest.split_once(' ') {
             Some(parts) => parts,
             None => (block.rest, ""),
@@ -53,7 +53,11 @@ fn push_at(text: &mut Vec<u8>, changes: &[Change], place: Place) -> Result<bool,
 }
 
 /// A text with changes of its lines.
-pub fn changed(alloc: Global, base: &str, changes: &[Change]) -> Result<Vec<u8>, AllocError> {
+pub(crate) fn changed(
+    alloc: Global,
+    base: &str,
+    changes: &[Change],
+) -> Result<Vec<u8>, AllocError> {
     let mut text = Vec::new(alloc);
     push_at(&mut text, changes, Place::Behind(0))?;
     for (index, line) in base.lines().enumerate() {

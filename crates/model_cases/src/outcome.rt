@@ -17,7 +17,11 @@ pub struct Outcome {
 }
 
 /// A run of the top call over memory.
-pub fn outcome_of(alloc: Global, words: &Words, model: &[u8]) -> Result<Outcome, AllocError> {
+pub(crate) fn outcome_of(
+    alloc: Global,
+    words: &Words,
+    model: &[u8],
+) -> Result<Outcome, AllocError> {
     let keys: BuildHasherDefault<DefaultHasher> = BuildHasherDefault::new();
     let mut model = MemSource::new(alloc, model)?;
     let mut cert = MemSink::new(alloc);

@@ -32,7 +32,7 @@ fn show_certificates<R: Print>(rt: &R, case: &Case<'_>, seen: &Outcome) -> io::R
 }
 
 /// Shows what a case expects and what it got.
-pub fn show_difference<R: Print>(
+pub(crate) fn show_difference<R: Print>(
     rt: &R,
     path: &str,
     case: &Case<'_>,

@@ -41,7 +41,7 @@ fn push_copies(
 }
 
 /// The lines of a block so often as its head says, with the number of the copy, from 0, in the place of each `#`.
-pub fn repeated(alloc: Global, body: &str, count: u32) -> Result<Vec<u8>, AllocError> {
+pub(crate) fn repeated(alloc: Global, body: &str, count: u32) -> Result<Vec<u8>, AllocError> {
     let lines = format!(in alloc; "{body}\n")?;
     let mut bytes = Vec::new(alloc);
     push_copies(&mut bytes, alloc, lines.as_str(), count)?;
@@ -84,7 +84,7 @@ fn push_escape<'a>(bytes: &mut Vec<u8>, alloc: Global, text: &'a str) -> Result<
 
 /// The lines of a block in which `\t`, `\r`, `\n` and `\\` stand for one byte, `\x80` for the byte of this hexadecimal
 /// number, `\256{TEXT}` for so many copies of a text, and a backslash before the end of a line takes this end away.
-pub fn escaped(alloc: Global, body: &str) -> Result<Vec<u8>> {
+pub(crate) fn escaped(alloc: Global, body: &str) -> Result<Vec<u8>> {
     let lines = format!(in alloc; "{body}\n")?;
     let mut bytes = Vec::new(alloc);
     let mut rest = lines.as_str();

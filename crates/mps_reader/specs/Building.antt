@@ -56,6 +56,10 @@ are_limited n ts h = let r = limited_is n 0 ts h in record { below = r.0; rising
 abbrev pub side_in : List (List ℕ × ℚ) → List ℕ → ℚ
 side_in sides name = unwrap_or (named sides name) (whole (pos 0))
 
+-- the right side by a number that is written or not
+abbrev pub side_of : Option ℚ → ℚ
+side_of o = unwrap_or o (whole (pos 0))
+
 abbrev pub row_with : RowType → ℚ → List (ℕ × ℚ) → List Row
 row_with row.N b ts = []
 row_with type b ts = record { sense = sense_of_row type; rhs = b; terms = ts } ∷ []

@@ -1,34 +1,36 @@
 -- The problem of the tables at ENDATA, or its fault at the end.
-use Rattle.std.specs.Prelude.{◌≡◌, ℕ, ◌<◌, ◌≤◌, ◌^◌, Bool, true, false, not, nat_lt, cond, List, ◌∷◌, map, Option, Some, None, is_some, Result, Ok, Err, length, IfSome, All, []}
+use Rattle.std.specs.Prelude.{◌≡◌, ℕ, ◌<◌, ◌≤◌, ◌^◌, Bool, true, false, not, nat_lt, cond, List, ◌∷◌, map, Option, Some, None, is_some, Result, Ok, Err, ◌+◌, zero, suc, pos, length, IfSome, All, []}
 use Rattle.std.specs.List.{list_all}
 use Rattle.std.proofs.lemmas.List.{length-map}
 use Rattle.std.proofs.lemmas.List.Elements.{All-cons, All-map, All-nil}
 use Rattle.problem.specs.Rising.{AreNonzero, AreRising}
 use Rattle.mps_reader.specs.declared.kinds.RowType.{RowType}
-use Rattle.mps_reader.specs.RowState.{RowState}
-use Rattle.std.specs.Option.{option_or, option_map}
-use Rattle.std.proofs.Common.{refl, sym, ap, ◌∙◌, subst, arith}
-use Rattle.fraction.specs.Rational.{ℚ}
+use Rattle.mps_reader.specs.RowState.{RowState, kept_terms}
+use Rattle.std.specs.Option.{option_or, option_map, unwrap_or}
+use Rattle.std.proofs.Common.{refl, sym, ap, ◌∙◌, subst, arith, get_or}
+use Rattle.fraction.specs.Rational.{ℚ, whole}
 use Rattle.problem.specs.declared.row.Row.{Row}
 use Rattle.problem.specs.Limited.{AreLimited, IsLimited}
 use Rattle.problem.specs.Program.{Program}
 use Rattle.problem_box.specs.declared.span.Span.{Span}
 use Rattle.mps_lines.specs.Lines.{lines_of, raw_lines}
-use Rattle.mps_reader.specs.SideNumbers.{numbers_of}
+use Rattle.mps_reader.specs.SideLines.{side_so_far}
+use Rattle.mps_reader.specs.SideNumbers.{named_numbers}
 use Rattle.mps_reader.specs.Ended.{IsEndFault, ended, ends_are, ends_of}
-use Rattle.mps_reader.specs.Building.{modest_within, side_in}
+use Rattle.mps_reader.specs.Building.{are_limited, is_modest, modest_within, side_of}
 use Rattle.mps_reader.specs.Faultless.{KeepsAll, all_keep, none_all}
-use Rattle.mps_reader.specs.Faults.{when}
+use Rattle.mps_reader.specs.Faults.{is_counted, when}
 use Rattle.mps_reader.specs.Followed.{HasData, HasSectionsOf, IsFaultIn, found_in}
-use Rattle.mps_reader.specs.Kept.{AreKept, is_visible}
+use Rattle.mps_reader.specs.Kept.{AreKept, are_modest_sides, is_visible}
 use Rattle.mps_reader.specs.Made.{ranges_held, whole_limited}
 use Rattle.mps_reader.specs.Meaning.{terms_of, at_line, columns_end_fault, end_fault, objective_name, objective_terms, problem_of, span}
+use Rattle.mps_reader.specs.Modest.{modest_zero}
 use Rattle.mps_reader.specs.Placing.{placed_of, terms_placed}
 use Rattle.mps_reader.specs.RangedRows.{IsHeld}
-use Rattle.mps_reader.specs.RowsMade.{made_objective, made_rows, objective_made, rows_made}
-use Rattle.mps_reader.specs.RowsSoFar.{so_far}
+use Rattle.mps_reader.specs.RowsMade.{AreSides, made_objective, made_rows, objective_made, rows_made}
+use Rattle.mps_reader.specs.RowsSoFar.{keeps_by, so_far}
 use Rattle.mps_reader.specs.Reading.{IsRefused, finish, problem_or_fault, reading, text_limit}
-use Rattle.mps_reader.specs.Sections.{Sections, none_yet, bounds_of, columns_of, entries_of, last_of, rows_of, run_of, sides_of}
+use Rattle.mps_reader.specs.Sections.{Sections, none_yet, bounds_of, columns_of, entries_of, last_of, number, rows_of, run_of, sides_of}
 use Rattle.mps_reader.specs.TableLimits.{keeps_limited, objective_by, side_modest}
 use Rattle.mps_reader.specs.Tables.{length-table, table}
 use Rattle.mps_reader.specs.Words.{named}
@@ -72,14 +74,22 @@ ended_err (Some g) ss f h = ap Some (same g f _ _ refl refl h)
     same a b x y p q r = cc
 
 module _ {B H : Type 0} (st : Tables B H) (s : Sections) (h : HasData st s) (upper : Option ℕ) where
-  terms_are : st.columns.rows ≡ map (so_far (entries_of s.columns)) (rows_of s.rows)
-  terms_are = h.entries.terms ∙ ap (map (so_far (entries_of s.columns))) h.rows
+  abbrev objective : Option (List ℕ)
+  objective = objective_name (rows_of s.rows)
 
-  rows_same : made_rows (table st.rhs.numbers.entries) (table st.ranges.numbers.entries) (table st.rows.entries) st.columns.rows ≡ (problem_of upper s).rows
-  rows_same = (λ i. made_rows (h.rhs.sides.numbers i) (h.ranges.sides.numbers i) (h.rows i) (terms_are i)) ∙ rows_made (entries_of s.columns) (sides_of s.rhs) (sides_of s.ranges) (rows_of s.rows)
+  terms_are : st.columns.rows ≡ map (so_far objective (entries_of s.columns)) (rows_of s.rows)
+  terms_are = h.entries.terms ∙ (λ i. map (so_far (objective_name (h.rows i)) (entries_of s.columns)) (h.rows i))
+
+  sides_are : (sides : List (Option ℚ)) (pairs : List (List ℕ × List ℕ)) → ((i : ℕ) → get_or sides i None ≡ get_or (map (side_so_far pairs) (rows_of s.rows)) i None) → AreSides sides pairs 0 (rows_of s.rows)
+  sides_are sides pairs k i = let n : i + 0 ≡ i = omega arith in ap (λ n. get_or sides n None) n ∙ k i
+
+  rows_same : made_rows st.rhs.numbers st.ranges.numbers 0 (table st.rows.entries) st.columns.rows ≡ (problem_of upper s).rows
+  rows_same = (λ i. made_rows st.rhs.numbers st.ranges.numbers 0 (h.rows i) (terms_are i))
+      ∙ rows_made (entries_of s.columns) objective st.rhs.numbers st.ranges.numbers (sides_of s.rhs) (sides_of s.ranges) 0 (rows_of s.rows)
+      (sides_are st.rhs.numbers (sides_of s.rhs) h.rhs.sides.numbers) (sides_are st.ranges.numbers (sides_of s.ranges) h.ranges.sides.numbers)
 
   objective_same : made_objective (table st.rows.entries) st.columns.rows ≡ option_map (λ name. terms_of name (entries_of s.columns)) (objective_name (rows_of s.rows))
-  objective_same = (λ i. made_objective (h.rows i) (terms_are i)) ∙ objective_made (entries_of s.columns) (rows_of s.rows)
+  objective_same = (λ i. made_objective (h.rows i) (terms_are i)) ∙ objective_made (entries_of s.columns) objective (rows_of s.rows) refl
 
   ends_same : ends_of upper (table st.bounds.limits.entries) (table st.columns.columns.entries)
       ≡ ended (columns_end_fault upper (bounds_of s.bounds) (columns_of (entries_of s.columns))) (map (span upper (bounds_of s.bounds)) (columns_of (entries_of s.columns)))
@@ -112,7 +122,7 @@ module _ {B H : Type 0} (st : Tables B H) (s : Sections) (h : HasData st s) (upp
     refusal_said fault.Memory e = tt
 
     module _ (ss : List Span) (k : ends_of upper (table st.bounds.limits.entries) (table st.columns.columns.entries) ≡ Ok ss) (names : List (List ℕ)) (n : names ≡ map (λ c. c.0) (table st.columns.columns.entries))
-        (rows : List Row) (r : rows ≡ made_rows (table st.rhs.numbers.entries) (table st.ranges.numbers.entries) (table st.rows.entries) st.columns.rows) (spans : List Span) (z : spans ≡ ss) where
+        (rows : List Row) (r : rows ≡ made_rows st.rhs.numbers st.ranges.numbers 0 (table st.rows.entries) st.columns.rows) (spans : List Span) (z : spans ≡ ss) where
       abbrev pub Made : Program
       Made = record { names = names; rows = rows; objective = objective; spans = spans }
 
@@ -133,6 +143,22 @@ module _ {B H : Type 0} (st : Tables B H) (s : Sections) (h : HasData st s) (upp
       made_limited l u = subst (λ (p : Program). IsLimited p) (sym made_is) (whole_limited s l upper u)
 
 -- ---- what the limits give
+side_kept_modest : (pairs : List (List ℕ × List ℕ)) (name : List ℕ) (type : RowType) → are_modest_sides pairs ≡ true → is_modest (side_of (side_so_far pairs (name, type))) ≡ true
+side_kept_modest pairs name type h = by (is_counted type) (named pairs name) (ap (λ o. is_modest (side_of o)) (sym (named_numbers pairs name)) ∙ side_modest pairs name h)
+  where
+    by : (b : Bool) (o : Option (List ℕ)) → is_modest (side_of (option_map number o)) ≡ true → is_modest (side_of (option_map (λ v. cond b (number v) (whole (pos 0))) o)) ≡ true
+    by true o m = m
+    by false None m = m
+    by false (Some v) m = modest_zero
+
+range_kept_held : (pairs : List (List ℕ × List ℕ)) (name : List ℕ) (type : RowType) → are_modest_sides pairs ≡ true → IfSome (side_so_far pairs (name, type)) (λ q. IsHeld q)
+range_kept_held pairs name type h = by (is_counted type) (named pairs name) (subst (λ o. IfSome o (λ q. IsHeld q)) (named_numbers pairs name) (ranges_held pairs name h))
+  where
+    by : (b : Bool) (o : Option (List ℕ)) → IfSome (option_map number o) (λ q. IsHeld q) → IfSome (option_map (λ v. cond b (number v) (whole (pos 0))) o) (λ q. IsHeld q)
+    by true o m = m
+    by false None m = m
+    by false (Some v) m = modest_within (whole (pos 0)) modest_zero
+
 All-each : {A : Type 0} (P : A → Type 0) (xs : List A) → ((x : A) → P x) → All P xs
 All-each P [] h = All-nil P
 All-each P (x ∷ xs) h = All-cons P x xs (h x) (All-each P xs h)
@@ -144,27 +170,55 @@ module _ {B H : Type 0} (st : Tables B H) (upper : Option ℕ) (h : HasKept st u
   pub kept_names : list_all (λ c. is_visible c.0) (table st.columns.columns.entries) ≡ true
   kept_names = ap (list_all (λ c. is_visible c.0)) h.tables.entries.columns ∙ kept_columns.names
 
+  abbrev objective_kept : Option (List ℕ)
+  objective_kept = objective_name (table st.rows.entries)
+
   -- the terms of a row keep to the limits
-  row_limited : (r : List ℕ × RowType) → AreLimited (length (columns_of (entries_of h.s.columns))) (so_far (entries_of h.s.columns) r).terms
-  row_limited r = subst (λ ts. AreLimited (length (columns_of (entries_of h.s.columns))) ts) (sym (terms_placed r.0 (entries_of h.s.columns)))
-      (keeps_limited (columns_of (entries_of h.s.columns)) (run_of (entries_of h.s.columns)) (last_of (entries_of h.s.columns)) (placed_of (entries_of h.s.columns)) kept_columns r.0)
+  row_limited : (r : List ℕ × RowType) → AreLimited (length (columns_of (entries_of h.s.columns))) (kept_terms (so_far objective_kept (entries_of h.s.columns) r))
+  row_limited r = by (keeps_by objective_kept r)
+    where
+      n : ℕ
+      n = length (columns_of (entries_of h.s.columns))
+
+      by : (b : Bool) → AreLimited n (unwrap_or (cond b (Some (terms_of r.0 (entries_of h.s.columns))) None) [])
+      by true = subst (λ ts. AreLimited n ts) (sym (terms_placed r.0 (entries_of h.s.columns)))
+          (keeps_limited (columns_of (entries_of h.s.columns)) (run_of (entries_of h.s.columns)) (last_of (entries_of h.s.columns)) (placed_of (entries_of h.s.columns)) kept_columns r.0)
+      by false = are_limited n [] refl
 
   pub parts_count : length st.columns.rows ≡ length st.rows.entries
-  parts_count = ap length h.tables.entries.terms ∙ length-map (table st.rows.entries) (so_far (entries_of h.s.columns)) ∙ length-table st.rows.entries
+  parts_count = ap length h.tables.entries.terms ∙ length-map (table st.rows.entries) (so_far objective_kept (entries_of h.s.columns)) ∙ length-table st.rows.entries
 
-  pub parts_rising : All (λ t. AreRising t.terms) st.columns.rows
-  parts_rising = subst (λ ts. All (λ (t : RowState). AreRising t.terms) ts) (sym h.tables.entries.terms)
-      (All-map (λ (t : RowState). AreRising t.terms) (so_far (entries_of h.s.columns)) (table st.rows.entries) (All-each (λ r. AreRising (so_far (entries_of h.s.columns) r).terms) (table st.rows.entries) (λ r. (row_limited r).rising)))
+  pub parts_rising : All (λ t. AreRising (kept_terms t)) st.columns.rows
+  parts_rising = subst (λ ts. All (λ (t : RowState). AreRising (kept_terms t)) ts) (sym h.tables.entries.terms)
+      (All-map (λ (t : RowState). AreRising (kept_terms t)) (so_far objective_kept (entries_of h.s.columns)) (table st.rows.entries)
+      (All-each (λ r. AreRising (kept_terms (so_far objective_kept (entries_of h.s.columns) r))) (table st.rows.entries) (λ r. (row_limited r).rising)))
 
-  pub parts_nonzero : All (λ t. AreNonzero t.terms) st.columns.rows
-  parts_nonzero = subst (λ ts. All (λ (t : RowState). AreNonzero t.terms) ts) (sym h.tables.entries.terms)
-      (All-map (λ (t : RowState). AreNonzero t.terms) (so_far (entries_of h.s.columns)) (table st.rows.entries) (All-each (λ r. AreNonzero (so_far (entries_of h.s.columns) r).terms) (table st.rows.entries) (λ r. (row_limited r).nonzero)))
+  pub parts_nonzero : All (λ t. AreNonzero (kept_terms t)) st.columns.rows
+  parts_nonzero = subst (λ ts. All (λ (t : RowState). AreNonzero (kept_terms t)) ts) (sym h.tables.entries.terms)
+      (All-map (λ (t : RowState). AreNonzero (kept_terms t)) (so_far objective_kept (entries_of h.s.columns)) (table st.rows.entries)
+      (All-each (λ r. AreNonzero (kept_terms (so_far objective_kept (entries_of h.s.columns) r))) (table st.rows.entries) (λ r. (row_limited r).nonzero)))
 
-  pub parts_sides : (name : List ℕ) → IsHeld (side_in (table st.rhs.numbers.entries) name)
-  parts_sides name = subst (λ sides. IsHeld (side_in sides name)) (sym h.tables.rhs.sides.numbers) (modest_within (side_in (numbers_of (sides_of h.s.rhs)) name) (side_modest (sides_of h.s.rhs) name h.keeps.limits.sides))
+  pub parts_sides : (i : ℕ) → IsHeld (side_of (get_or st.rhs.numbers i None))
+  parts_sides i = subst (λ o. IsHeld (side_of o)) (sym (h.tables.rhs.sides.numbers i)) (modest_within (side_of (get_or (map (side_so_far (sides_of h.s.rhs)) (rows_of h.s.rows)) i None)) (by (rows_of h.s.rows) i))
+    where
+      pairs : List (List ℕ × List ℕ)
+      pairs = sides_of h.s.rhs
 
-  pub parts_ranges : (name : List ℕ) → IfSome (named (table st.ranges.numbers.entries) name) (λ q. IsHeld q)
-  parts_ranges name = subst (λ ranges. IfSome (named ranges name) (λ q. IsHeld q)) (sym h.tables.ranges.sides.numbers) (ranges_held (sides_of h.s.ranges) name h.keeps.ranges)
+      by : (rows : List (List ℕ × RowType)) (i : ℕ) → is_modest (side_of (get_or (map (side_so_far pairs) rows) i None)) ≡ true
+      by [] i = modest_zero
+      by (r ∷ rows) zero = side_kept_modest pairs r.0 r.1 h.keeps.limits.sides
+      by (r ∷ rows) (suc i) = by rows i
+
+  pub parts_ranges : (i : ℕ) → IfSome (get_or st.ranges.numbers i None) (λ q. IsHeld q)
+  parts_ranges i = subst (λ o. IfSome o (λ q. IsHeld q)) (sym (h.tables.ranges.sides.numbers i)) (by (rows_of h.s.rows) i)
+    where
+      pairs : List (List ℕ × List ℕ)
+      pairs = sides_of h.s.ranges
+
+      by : (rows : List (List ℕ × RowType)) (i : ℕ) → IfSome (get_or (map (side_so_far pairs) rows) i None) (λ q. IsHeld q)
+      by [] i = tt
+      by (r ∷ rows) zero = range_kept_held pairs r.0 r.1 h.keeps.ranges
+      by (r ∷ rows) (suc i) = by rows i
 
 -- ---- the whole text
 -- the text is refused with this fault; want of memory says nothing

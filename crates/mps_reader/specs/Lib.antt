@@ -17,6 +17,7 @@ pub mod Named
 pub mod RowsMade
 pub mod Kept
 pub mod TableLimits
+pub mod SideTable
 pub mod SideLines
 pub mod BoundLines
 pub mod BoundTables

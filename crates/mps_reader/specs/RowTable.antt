@@ -1,159 +1,173 @@
--- What a table of rows says of each row, where only the rows that a column names hold terms.
+-- What a table of rows says of each row, where only the rows whose terms count hold them.
 use Rattle.std.specs.Prelude.{◌≡◌, ℕ, ◌+◌, ◌<◌, Bool, true, false, ◌==◌, if◌then◌else◌, List, ◌∷◌, ◌++◌, Option, Some, None, length, zero, suc, slice_get, []}
 use Rattle.std.proofs.Common.{refl, sym, ap, ◌∙◌, arith, set, get_or, ◌≢◌}
 use Rattle.std.proofs.lemmas.Option.{get_or_from_slice_get}
-use Rattle.mps_reader.specs.RowState.{RowState, unnamed}
-use Rattle.mps_reader.specs.declared.row_terms.NamedRow.{NamedRow}
+use Rattle.mps_reader.specs.RowState.{RowState, unkept}
+use Rattle.mps_reader.specs.declared.row_table.RowEntry.{RowEntry}
+use Rattle.mps_reader.specs.declared.row_table.RowEntry.TheVariants as entry
+use Rattle.mps_reader.specs.declared.row_terms.TermRow.{TermRow}
 
-abbrev pub state_of : NamedRow → RowState
-state_of r = record { terms = r.terms; named_by = Some r.named_by }
+abbrev pub state_of : TermRow → RowState
+state_of r = record { terms = Some r.terms; named_by = r.named_by }
 
--- the row at an index, by the named row at its place: this may be another's
-abbrev pub own_state : ℕ → Option NamedRow → RowState
-own_state i None = unnamed
-own_state i (Some r) = if r.row == i then state_of r else unnamed
+-- the row at an index, by the terms that its entry leads to: these may be another's
+abbrev pub own_state : ℕ → Option TermRow → RowState
+own_state i None = unkept
+own_state i (Some r) = if r.row == i then state_of r else unkept
 
--- the row at an index, by its place among the named rows
-abbrev pub state_at : List NamedRow → ℕ → Option ℕ → RowState
-state_at named i None = unnamed
-state_at named i (Some p) = own_state i (slice_get named p)
+-- the row at an index, by its entry
+abbrev pub state_at : List TermRow → ℕ → RowEntry → RowState
+state_at kept i entry.Unnamed = unkept
+state_at kept i (entry.NamedBy p) = record { terms = None; named_by = Some p }
+state_at kept i (entry.Keeps s) = own_state i (slice_get kept s)
 
--- the rows from an index on, by their places
-abbrev pub states_from : List NamedRow → ℕ → List (Option ℕ) → List RowState
-states_from named i [] = []
-states_from named i (p ∷ places) = state_at named i p ∷ states_from named (suc i) places
+-- the rows from an index on, by their entries
+abbrev pub states_from : List TermRow → ℕ → List RowEntry → List RowState
+states_from kept i [] = []
+states_from kept i (e ∷ entries) = state_at kept i e ∷ states_from kept (suc i) entries
 
 -- the rows of a table
-abbrev pub states : List NamedRow → List (Option ℕ) → List RowState
-states named places = states_from named 0 places
+abbrev pub states : List TermRow → List RowEntry → List RowState
+states kept entries = states_from kept 0 entries
 
-from_length : (named : List NamedRow) (i : ℕ) (places : List (Option ℕ)) → length (states_from named i places) ≡ length places
-from_length named i [] = refl
-from_length named i (p ∷ places) = ap suc (from_length named (suc i) places)
+from_length : (kept : List TermRow) (i : ℕ) (entries : List RowEntry) → length (states_from kept i entries) ≡ length entries
+from_length kept i [] = refl
+from_length kept i (e ∷ entries) = ap suc (from_length kept (suc i) entries)
 
-pub states_length : (named : List NamedRow) (places : List (Option ℕ)) → length (states named places) ≡ length places
-states_length named places = from_length named 0 places
+pub states_length : (kept : List TermRow) (entries : List RowEntry) → length (states kept entries) ≡ length entries
+states_length kept entries = from_length kept 0 entries
 
-from_push : (named : List NamedRow) (i : ℕ) (places : List (Option ℕ)) → states_from named i (places ++ None ∷ []) ≡ states_from named i places ++ unnamed ∷ []
-from_push named i [] = refl
-from_push named i (p ∷ places) = ap (λ rs. state_at named i p ∷ rs) (from_push named (suc i) places)
+from_push : (kept : List TermRow) (i : ℕ) (entries : List RowEntry) → states_from kept i (entries ++ entry.Unnamed ∷ []) ≡ states_from kept i entries ++ unkept ∷ []
+from_push kept i [] = refl
+from_push kept i (e ∷ entries) = ap (λ rs. state_at kept i e ∷ rs) (from_push kept (suc i) entries)
 
--- one more row
-pub states_push : (named : List NamedRow) (places : List (Option ℕ)) → states named (places ++ None ∷ []) ≡ states named places ++ unnamed ∷ []
-states_push named places = from_push named 0 places
+-- one more row, which keeps no terms
+pub states_push : (kept : List TermRow) (entries : List RowEntry) → states kept (entries ++ entry.Unnamed ∷ []) ≡ states kept entries ++ unkept ∷ []
+states_push kept entries = from_push kept 0 entries
 
-from_get : (named : List NamedRow) (i k : ℕ) (places : List (Option ℕ)) → get_or (states_from named i places) k unnamed ≡ state_at named (k + i) (get_or places k None)
-from_get named i k [] = refl
-from_get named i zero (p ∷ places) = let n : i ≡ 0 + i = omega arith in ap (λ n. state_at named n p) n
-from_get named i (suc k) (p ∷ places) =
+from_get : (kept : List TermRow) (i k : ℕ) (entries : List RowEntry) → get_or (states_from kept i entries) k unkept ≡ state_at kept (k + i) (get_or entries k entry.Unnamed)
+from_get kept i k [] = refl
+from_get kept i zero (e ∷ entries) = let n : i ≡ 0 + i = omega arith in ap (λ n. state_at kept n e) n
+from_get kept i (suc k) (e ∷ entries) =
     let n : k + suc i ≡ suc k + i = omega arith in
-    from_get named (suc i) k places ∙ ap (λ n. state_at named n (get_or places k None)) n
+    from_get kept (suc i) k entries ∙ ap (λ n. state_at kept n (get_or entries k entry.Unnamed)) n
 
-pub states_get : (named : List NamedRow) (places : List (Option ℕ)) (i : ℕ) → get_or (states named places) i unnamed ≡ state_at named i (get_or places i None)
-states_get named places i =
+pub states_get : (kept : List TermRow) (entries : List RowEntry) (i : ℕ) → get_or (states kept entries) i unkept ≡ state_at kept i (get_or entries i entry.Unnamed)
+states_get kept entries i =
     let n : i + 0 ≡ i = omega arith in
-    from_get named 0 i places ∙ ap (λ n. state_at named n (get_or places i None)) n
+    from_get kept 0 i entries ∙ ap (λ n. state_at kept n (get_or entries i entry.Unnamed)) n
 
-other_index : (r i j : ℕ) → r ≡ i → i ≢ j → (r == j) ≡ false
+pub other_index : (r i j : ℕ) → r ≡ i → i ≢ j → (r == j) ≡ false
 other_index r i j e n = by (r == j) refl
   where
     by : (b : Bool) → (r == j) ≡ b → b ≡ false
     by false h = refl
     by true h = absurd (n (grind (arith, e, h)))
 
-same_index : (r i : ℕ) → r ≡ i → (r == i) ≡ true
+pub same_index : (r i : ℕ) → r ≡ i → (r == i) ≡ true
 same_index r i e = grind (arith, e)
 
-not_own : (i j : ℕ) (r : NamedRow) → r.row ≡ i → i ≢ j → own_state j (Some r) ≡ unnamed
-not_own i j r e n = ap (λ (b : Bool). if b then state_of r else unnamed) (other_index r.row i j e n)
+not_own : (i j : ℕ) (r : TermRow) → r.row ≡ i → i ≢ j → own_state j (Some r) ≡ unkept
+not_own i j r e n = ap (λ (b : Bool). if b then state_of r else unkept) (other_index r.row i j e n)
 
-own : (i : ℕ) (r : NamedRow) → r.row ≡ i → own_state i (Some r) ≡ state_of r
-own i r e = ap (λ (b : Bool). if b then state_of r else unnamed) (same_index r.row i e)
+own : (i : ℕ) (r : TermRow) → r.row ≡ i → own_state i (Some r) ≡ state_of r
+own i r e = ap (λ (b : Bool). if b then state_of r else unkept) (same_index r.row i e)
 
 -- ---- the row at an index
-module _ (named : List NamedRow) (places : List (Option ℕ)) (rows : List RowState) (i : ℕ) (v : states named places ≡ rows) where
-  pub within_places : i < length rows → i < length places
-  within_places l = omega (arith, l, states_length named places, ap length v)
+module _ (kept : List TermRow) (entries : List RowEntry) (rows : List RowState) (i : ℕ) (v : states kept entries ≡ rows) where
+  pub within_entries : i < length rows → i < length entries
+  within_entries l = omega (arith, l, states_length kept entries, ap length v)
 
-  pub row_by : (p : Option ℕ) → slice_get places i ≡ Some p → get_or rows i unnamed ≡ state_at named i p
-  row_by p g = ap (λ rs. get_or rs i unnamed) (sym v) ∙ states_get named places i ∙ ap (state_at named i) (get_or_from_slice_get places i p None g)
+  pub row_by : (e : RowEntry) → slice_get entries i ≡ Some e → get_or rows i unkept ≡ state_at kept i e
+  row_by e g = ap (λ rs. get_or rs i unkept) (sym v) ∙ states_get kept entries i ∙ ap (state_at kept i) (get_or_from_slice_get entries i e entry.Unnamed g)
 
-  pub row_named : (q : ℕ) (r : NamedRow) → slice_get places i ≡ Some (Some q) → slice_get named q ≡ Some r → r.row ≡ i → get_or rows i unnamed ≡ state_of r
-  row_named q r g h e = row_by (Some q) g ∙ ap (own_state i) h ∙ own i r e
+  pub row_kept : (q : ℕ) (r : TermRow) → slice_get entries i ≡ Some (entry.Keeps q) → slice_get kept q ≡ Some r → r.row ≡ i → get_or rows i unkept ≡ state_of r
+  row_kept q r g h e = row_by (entry.Keeps q) g ∙ ap (own_state i) h ∙ own i r e
 
 -- ---- a change at one row
 -- the other rows stay as they are
-abbrev pub KeepsOthers : List NamedRow → List NamedRow → ℕ → Type 0
-KeepsOthers named new i = (j : ℕ) (p : Option ℕ) → i ≢ j → state_at new j p ≡ state_at named j p
+abbrev pub KeepsOthers : List TermRow → List TermRow → ℕ → Type 0
+KeepsOthers kept new i = (j : ℕ) (e : RowEntry) → i ≢ j → state_at new j e ≡ state_at kept j e
 
-module _ (named new : List NamedRow) (i : ℕ) (q : Option ℕ) (keeps : KeepsOthers named new i) where
-  from_kept : (j : ℕ) (places : List (Option ℕ)) → i < j → states_from new j places ≡ states_from named j places
+module _ (kept new : List TermRow) (i : ℕ) (q : RowEntry) (keeps : KeepsOthers kept new i) where
+  from_kept : (j : ℕ) (entries : List RowEntry) → i < j → states_from new j entries ≡ states_from kept j entries
   from_kept j [] l = refl
-  from_kept j (p ∷ places) l = λ k. keeps j p (λ e. omega (arith, l, e)) k ∷ from_kept (suc j) places (omega (arith, l)) k
+  from_kept j (e ∷ entries) l = λ k. keeps j e (λ f. omega (arith, l, f)) k ∷ from_kept (suc j) entries (omega (arith, l)) k
 
-  from_set : (j k : ℕ) (places : List (Option ℕ)) → k + j ≡ i → k < length places → states_from new j (set places k q) ≡ set (states_from named j places) k (state_at new i q)
+  from_set : (j k : ℕ) (entries : List RowEntry) → k + j ≡ i → k < length entries → states_from new j (set entries k q) ≡ set (states_from kept j entries) k (state_at new i q)
   from_set j k [] e l = absurd (omega (arith, l))
-  from_set j zero (p ∷ places) e l =
+  from_set j zero (p ∷ entries) e l =
       let n : j ≡ i = omega (arith, e) in
-      λ k. state_at new (n k) q ∷ from_kept (suc j) places (omega (arith, e)) k
-  from_set j (suc k) (p ∷ places) e l = λ m. keeps j p (λ f. omega (arith, e, f)) m ∷ from_set (suc j) k places (omega (arith, e)) (omega (arith, l)) m
+      λ k. state_at new (n k) q ∷ from_kept (suc j) entries (omega (arith, e)) k
+  from_set j (suc k) (p ∷ entries) e l = λ m. keeps j p (λ f. omega (arith, e, f)) m ∷ from_set (suc j) k entries (omega (arith, e)) (omega (arith, l)) m
 
-  pub states_set : (places : List (Option ℕ)) → i < length places → states new (set places i q) ≡ set (states named places) i (state_at new i q)
-  states_set places l = from_set 0 i places (omega arith) l
+  pub states_set : (entries : List RowEntry) → i < length entries → states new (set entries i q) ≡ set (states kept entries) i (state_at new i q)
+  states_set entries l = from_set 0 i entries (omega arith) l
 
--- a row is named first
-module _ (i : ℕ) (r : NamedRow) (e : r.row ≡ i) where
-  pushed : (named : List NamedRow) (j p : ℕ) → i ≢ j → own_state j (slice_get (named ++ r ∷ []) p) ≡ own_state j (slice_get named p)
+  from_behind : (j : ℕ) (entries : List RowEntry) → j + length entries ≡ i → states_from new j (entries ++ q ∷ []) ≡ states_from kept j entries ++ state_at new i q ∷ []
+  from_behind j [] e = let n : j ≡ i = omega (arith, e) in λ k. state_at new (n k) q ∷ []
+  from_behind j (p ∷ entries) e = λ m. keeps j p (λ f. omega (arith, e, f)) m ∷ from_behind (suc j) entries (omega (arith, e)) m
+
+-- a row that keeps no terms changes
+pub entry_set : (kept : List TermRow) (i : ℕ) (q : RowEntry) (entries : List RowEntry) → i < length entries → states kept (set entries i q) ≡ set (states kept entries) i (state_at kept i q)
+entry_set kept i q entries l = states_set kept kept i q (λ j e n. refl) entries l
+
+-- one more row, which keeps its terms
+module _ (i : ℕ) (r : TermRow) (e : r.row ≡ i) where
+  pushed : (kept : List TermRow) (j p : ℕ) → i ≢ j → own_state j (slice_get (kept ++ r ∷ []) p) ≡ own_state j (slice_get kept p)
   pushed [] j zero n = not_own i j r e n
   pushed [] j (suc p) n = refl
-  pushed (a ∷ named) j zero n = refl
-  pushed (a ∷ named) j (suc p) n = pushed named j p n
+  pushed (a ∷ kept) j zero n = refl
+  pushed (a ∷ kept) j (suc p) n = pushed kept j p n
 
-  push_keeps : (named : List NamedRow) → KeepsOthers named (named ++ r ∷ []) i
-  push_keeps named j None n = refl
-  push_keeps named j (Some p) n = pushed named j p n
+  push_keeps : (kept : List TermRow) → KeepsOthers kept (kept ++ r ∷ []) i
+  push_keeps kept j entry.Unnamed n = refl
+  push_keeps kept j (entry.NamedBy p) n = refl
+  push_keeps kept j (entry.Keeps p) n = pushed kept j p n
 
-  push_own : (named : List NamedRow) → own_state i (slice_get (named ++ r ∷ []) (length named)) ≡ state_of r
+  push_own : (kept : List TermRow) → own_state i (slice_get (kept ++ r ∷ []) (length kept)) ≡ state_of r
   push_own [] = own i r e
-  push_own (a ∷ named) = push_own named
+  push_own (a ∷ kept) = push_own kept
 
-  pub first_named : (named : List NamedRow) (places : List (Option ℕ)) → i < length places
-      → states (named ++ r ∷ []) (set places i (Some (length named))) ≡ set (states named places) i (state_of r)
-  first_named named places l = states_set named (named ++ r ∷ []) i (Some (length named)) (push_keeps named) places l ∙ ap (set (states named places) i) (push_own named)
+  pub kept_push : (kept : List TermRow) (entries : List RowEntry) → i ≡ length entries
+      → states (kept ++ r ∷ []) (entries ++ entry.Keeps (length kept) ∷ []) ≡ states kept entries ++ state_of r ∷ []
+  kept_push kept entries l = from_behind kept (kept ++ r ∷ []) i (entry.Keeps (length kept)) (push_keeps kept) 0 entries (omega (arith, l))
+      ∙ ap (λ s. states kept entries ++ s ∷ []) (push_own kept)
 
--- a named row changes
-module _ (i : ℕ) (r : NamedRow) (e : r.row ≡ i) where
-  changed : (named : List NamedRow) (q : ℕ) (old : NamedRow) (j p : ℕ) → slice_get named q ≡ Some old → old.row ≡ i → i ≢ j → own_state j (slice_get (set named q r) p) ≡ own_state j (slice_get named p)
+-- a row that keeps its terms changes
+module _ (i : ℕ) (r : TermRow) (e : r.row ≡ i) where
+  changed : (kept : List TermRow) (q : ℕ) (old : TermRow) (j p : ℕ) → slice_get kept q ≡ Some old → old.row ≡ i → i ≢ j → own_state j (slice_get (set kept q r) p) ≡ own_state j (slice_get kept p)
   changed [] q old j p g o n = refl
-  changed (a ∷ named) zero old j zero g o n =
+  changed (a ∷ kept) zero old j zero g o n =
       let same : a ≡ old = cc in
-      not_own i j r e n ∙ sym (not_own i j a (ap (λ (r : NamedRow). r.row) same ∙ o) n)
-  changed (a ∷ named) zero old j (suc p) g o n = refl
-  changed (a ∷ named) (suc q) old j zero g o n = refl
-  changed (a ∷ named) (suc q) old j (suc p) g o n = changed named q old j p g o n
+      not_own i j r e n ∙ sym (not_own i j a (ap (λ (r : TermRow). r.row) same ∙ o) n)
+  changed (a ∷ kept) zero old j (suc p) g o n = refl
+  changed (a ∷ kept) (suc q) old j zero g o n = refl
+  changed (a ∷ kept) (suc q) old j (suc p) g o n = changed kept q old j p g o n
 
-  change_keeps : (named : List NamedRow) (q : ℕ) (old : NamedRow) → slice_get named q ≡ Some old → old.row ≡ i → KeepsOthers named (set named q r) i
-  change_keeps named q old g o j None n = refl
-  change_keeps named q old g o j (Some p) n = changed named q old j p g o n
+  change_keeps : (kept : List TermRow) (q : ℕ) (old : TermRow) → slice_get kept q ≡ Some old → old.row ≡ i → KeepsOthers kept (set kept q r) i
+  change_keeps kept q old g o j entry.Unnamed n = refl
+  change_keeps kept q old g o j (entry.NamedBy p) n = refl
+  change_keeps kept q old g o j (entry.Keeps p) n = changed kept q old j p g o n
 
-  change_own : (named : List NamedRow) (q : ℕ) (old : NamedRow) → slice_get named q ≡ Some old → own_state i (slice_get (set named q r) q) ≡ state_of r
+  change_own : (kept : List TermRow) (q : ℕ) (old : TermRow) → slice_get kept q ≡ Some old → own_state i (slice_get (set kept q r) q) ≡ state_of r
   change_own [] q old g = cc
-  change_own (a ∷ named) zero old g = own i r e
-  change_own (a ∷ named) (suc q) old g = change_own named q old g
+  change_own (a ∷ kept) zero old g = own i r e
+  change_own (a ∷ kept) (suc q) old g = change_own kept q old g
 
-pub set_again : {X : Type 0} (xs : List X) (i : ℕ) (x : X) → slice_get xs i ≡ Some x → set xs i x ≡ xs
+set_again : {X : Type 0} (xs : List X) (i : ℕ) (x : X) → slice_get xs i ≡ Some x → set xs i x ≡ xs
 set_again [] i x g = cc
 set_again (y ∷ xs) zero x g = let same : x ≡ y = cc in λ k. same k ∷ xs
 set_again (y ∷ xs) (suc i) x g = ap (λ ys. y ∷ ys) (set_again xs i x g)
 
-module _ (i : ℕ) (r : NamedRow) (e : r.row ≡ i) (named : List NamedRow) (q : ℕ) (old : NamedRow) (g : slice_get named q ≡ Some old) (o : old.row ≡ i)
-    (places : List (Option ℕ)) where
-  -- it says more of its row
-  pub named_again : slice_get places i ≡ Some (Some q) → i < length places → states (set named q r) places ≡ set (states named places) i (state_of r)
-  named_again p l = ap (states (set named q r)) (sym (set_again places i (Some q) p))
-      ∙ states_set named (set named q r) i (Some q) (change_keeps i r e named q old g o) places l
-      ∙ ap (set (states named places) i) (change_own i r e named q old g)
+module _ (i : ℕ) (r : TermRow) (e : r.row ≡ i) (kept : List TermRow) (q : ℕ) (old : TermRow) (g : slice_get kept q ≡ Some old) (o : old.row ≡ i)
+    (entries : List RowEntry) where
+  -- it has one more term
+  pub kept_again : slice_get entries i ≡ Some (entry.Keeps q) → i < length entries → states (set kept q r) entries ≡ set (states kept entries) i (state_of r)
+  kept_again p l = ap (states (set kept q r)) (sym (set_again entries i (entry.Keeps q) p))
+      ∙ states_set kept (set kept q r) i (entry.Keeps q) (change_keeps i r e kept q old g o) entries l
+      ∙ ap (set (states kept entries) i) (change_own i r e kept q old g)
 
-  -- its row gives up its place
-  pub named_no_more : i < length places → states (set named q r) (set places i None) ≡ set (states named places) i unnamed
-  named_no_more l = states_set named (set named q r) i None (change_keeps i r e named q old g o) places l
+  -- its terms are taken away
+  pub kept_no_more : i < length entries → states (set kept q r) (set entries i entry.Unnamed) ≡ set (states kept entries) i unkept
+  kept_no_more l = states_set kept (set kept q r) i entry.Unnamed (change_keeps i r e kept q old g o) entries l

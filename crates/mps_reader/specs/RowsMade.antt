@@ -1,55 +1,69 @@
 -- The rows and the objective of a problem from the rows of the text and their terms.
-use Rattle.std.specs.Prelude.{◌≡◌, ℕ, ◌+◌, List, ◌∷◌, ◌++◌, map, Option, Some, None, All, length, drop, slice_get, pos, []}
+use Rattle.std.specs.Prelude.{◌≡◌, ℕ, ◌+◌, suc, Bool, true, if◌then◌else◌, List, ◌∷◌, ◌++◌, map, Option, Some, None, All, length, drop, slice_get, []}
 use Rattle.std.specs.List.{flat_map}
 use Rattle.std.specs.Option.{option_map, option_or, unwrap_or}
 use Rattle.std.proofs.Common.{refl, sym, ap, ◌∙◌, ◌<◌, arith, add-one, append_assoc, append-nil, get_or, subst}
 use Rattle.std.proofs.Math.Seq.{drop-cons}
 use Rattle.std.proofs.lemmas.List.{length-drop}
+use Rattle.std.proofs.lemmas.Slice.Eq.{bytes_eq-Decides}
 use Rattle.std.proofs.lemmas.List.Elements.{All-head, All-tail}
 use Rattle.std.proofs.lemmas.Option.{slice_get_within, get_or_from_slice_get}
-use Rattle.fraction.specs.Rational.{ℚ, whole}
+use Rattle.fraction.specs.Rational.{ℚ}
 use Rattle.problem.specs.declared.row.Row.{Row}
 use Rattle.problem.specs.Rising.{AreNonzero, AreRising}
-use Rattle.mps_reader.specs.Building.{side_in, objective_with}
+use Rattle.mps_reader.specs.Building.{objective_with, side_of}
 use Rattle.mps_reader.specs.Meaning.{objective_name, rows_at, rows_from, terms_of}
 use Rattle.mps_reader.specs.RowsSoFar.{or_none, so_far}
-use Rattle.mps_reader.specs.Sections.{Entry}
-use Rattle.mps_reader.specs.SideNumbers.{named_numbers, numbers_of}
-use Rattle.mps_reader.specs.Words.{named}
+use Rattle.mps_reader.specs.Sections.{Entry, is_same}
+use Rattle.mps_reader.specs.SideLines.{side_so_far}
 use Rattle.mps_reader.specs.declared.kinds.RowType.{RowType}
 use Rattle.mps_reader.specs.declared.kinds.RowType.TheVariants as row
-use Rattle.mps_reader.specs.RowState.{RowState, unnamed}
+use Rattle.mps_reader.specs.RowState.{RowState, kept_terms, unkept}
 
--- the rows of the problem, by the sides, the ranges and the terms
-abbrev pub made_rows : List (List ℕ × ℚ) → List (List ℕ × ℚ) → List (List ℕ × RowType) → List RowState → List Row
-made_rows sides ranges (r ∷ rows) (t ∷ terms) = rows_from r.1 (side_in sides r.0) (named ranges r.0) t.terms ++ made_rows sides ranges rows terms
-made_rows sides ranges _ _ = []
+-- the rows of the problem from an index on, by the sides, the ranges and the terms
+abbrev pub made_rows : List (Option ℚ) → List (Option ℚ) → ℕ → List (List ℕ × RowType) → List RowState → List Row
+made_rows sides ranges i (r ∷ rows) (t ∷ terms) = rows_from r.1 (side_of (get_or sides i None)) (get_or ranges i None) (kept_terms t) ++ made_rows sides ranges (suc i) rows terms
+made_rows sides ranges i _ _ = []
 
 -- the terms of the first N row
 abbrev pub made_objective : List (List ℕ × RowType) → List RowState → Option (List (ℕ × ℚ))
-made_objective (r ∷ rows) (t ∷ terms) = option_or (objective_with r.1 t.terms) (made_objective rows terms)
+made_objective (r ∷ rows) (t ∷ terms) = option_or (objective_with r.1 (kept_terms t)) (made_objective rows terms)
 made_objective _ _ = None
 
+-- the numbers from an index on are those of these rows
+abbrev pub AreSides : List (Option ℚ) → List (List ℕ × List ℕ) → ℕ → List (List ℕ × RowType) → Type 0
+AreSides sides pairs i rows = (k : ℕ) → get_or sides (k + i) None ≡ get_or (map (side_so_far pairs) rows) k None
+
 -- they are those of the entries
-module _ (entries : List Entry) where
-  row_is : (rhs ranges : List (List ℕ × List ℕ)) (r : List ℕ × RowType)
-      → rows_from r.1 (side_in (numbers_of rhs) r.0) (named (numbers_of ranges) r.0) (terms_of r.0 entries) ≡ rows_at entries rhs ranges r
-  row_is rhs ranges r = λ i. rows_from r.1 (unwrap_or (named_numbers rhs r.0 i) (whole (pos 0))) (named_numbers ranges r.0 i) (terms_of r.0 entries)
+module _ (entries : List Entry) (objective : Option (List ℕ)) where
+  row_is : (rhs ranges : List (List ℕ × List ℕ)) (name : List ℕ) (type : RowType)
+      → rows_from type (side_of (side_so_far rhs (name, type))) (side_so_far ranges (name, type)) (kept_terms (so_far objective entries (name, type))) ≡ rows_at entries rhs ranges (name, type)
+  row_is rhs ranges name row.N = refl
+  row_is rhs ranges name row.L = refl
+  row_is rhs ranges name row.G = refl
+  row_is rhs ranges name row.E = refl
 
-  pub rows_made : (rhs ranges : List (List ℕ × List ℕ)) (rows : List (List ℕ × RowType)) → made_rows (numbers_of rhs) (numbers_of ranges) rows (map (so_far entries) rows) ≡ flat_map (rows_at entries rhs ranges) rows
-  rows_made rhs ranges [] = refl
-  rows_made rhs ranges (r ∷ rows) = λ i. row_is rhs ranges r i ++ rows_made rhs ranges rows i
+  pub rows_made : (sides others : List (Option ℚ)) (rhs ranges : List (List ℕ × List ℕ)) (i : ℕ) (rows : List (List ℕ × RowType)) → AreSides sides rhs i rows → AreSides others ranges i rows
+      → made_rows sides others i rows (map (so_far objective entries) rows) ≡ flat_map (rows_at entries rhs ranges) rows
+  rows_made sides others rhs ranges i [] h k = refl
+  rows_made sides others rhs ranges i (r ∷ rows) h k =
+      (λ j. rows_from r.1 (side_of (here sides rhs h j)) (here others ranges k j) (kept_terms (so_far objective entries r)) ++ rows_made sides others rhs ranges (suc i) rows (behind sides rhs h) (behind others ranges k) j)
+      ∙ ap (λ rs. rs ++ flat_map (rows_at entries rhs ranges) rows) (row_is rhs ranges r.0 r.1)
+    where
+      here : (sides : List (Option ℚ)) (pairs : List (List ℕ × List ℕ)) → AreSides sides pairs i (r ∷ rows) → get_or sides i None ≡ side_so_far pairs r
+      here sides pairs h = let n : i ≡ 0 + i = omega arith in ap (λ n. get_or sides n None) n ∙ h 0
 
-  objective_step : (name : List ℕ) (type : RowType) (rows : List (List ℕ × RowType)) (rest : Option (List (ℕ × ℚ))) → rest ≡ option_map (λ name. terms_of name entries) (objective_name rows)
-      → option_or (objective_with type (terms_of name entries)) rest ≡ option_map (λ name. terms_of name entries) (objective_name ((name, type) ∷ rows))
-  objective_step name row.N rows rest h = refl
-  objective_step name row.L rows rest h = h
-  objective_step name row.G rows rest h = h
-  objective_step name row.E rows rest h = h
+      behind : (sides : List (Option ℚ)) (pairs : List (List ℕ × List ℕ)) → AreSides sides pairs i (r ∷ rows) → AreSides sides pairs (suc i) rows
+      behind sides pairs h k = let n : k + suc i ≡ suc k + i = omega arith in ap (λ n. get_or sides n None) n ∙ h (suc k)
 
-  pub objective_made : (rows : List (List ℕ × RowType)) → made_objective rows (map (so_far entries) rows) ≡ option_map (λ name. terms_of name entries) (objective_name rows)
-  objective_made [] = refl
-  objective_made (r ∷ rows) = objective_step r.0 r.1 rows _ (objective_made rows)
+  pub objective_made : (rows : List (List ℕ × RowType)) → objective_name rows ≡ objective → made_objective rows (map (so_far objective entries) rows) ≡ option_map (λ name. terms_of name entries) objective
+  objective_made [] h = ap (option_map (λ name. terms_of name entries)) h
+  objective_made ((name, row.N) ∷ rows) h =
+      let s : is_same objective name ≡ true = ap (λ o. is_same o name) (sym h) ∙ (bytes_eq-Decides name name).1 refl in
+      ap (λ (b : Bool). Some (unwrap_or (if b then Some (terms_of name entries) else None) [])) s ∙ ap (option_map (λ name. terms_of name entries)) h
+  objective_made ((name, row.L) ∷ rows) h = objective_made rows h
+  objective_made ((name, row.G) ∷ rows) h = objective_made rows h
+  objective_made ((name, row.E) ∷ rows) h = objective_made rows h
 
 -- ---- the rows so far
 option_or-assoc : {A : Type 0} (a b c : Option A) → option_or (option_or a b) c ≡ option_or a (option_or b c)
@@ -64,44 +78,46 @@ module _ (terms : List RowState) (i n : ℕ) (count : i + length (drop i terms) 
   pub left_within : i < length terms
   left_within = omega (arith, count, l, length-drop i terms)
 
-  pub left_from : drop i terms ≡ get_or terms i unnamed ∷ drop (i + 1) terms
-  left_from = drop-cons terms i unnamed left_within ∙ (λ j. get_or terms i unnamed ∷ drop (sym (add-one i) j) terms)
+  pub left_from : drop i terms ≡ get_or terms i unkept ∷ drop (i + 1) terms
+  left_from = drop-cons terms i unkept left_within ∙ (λ j. get_or terms i unkept ∷ drop (sym (add-one i) j) terms)
 
 -- the rows and the objective so far, and the terms that are left
-pub record HasRows (sides ranges : List (List ℕ × ℚ)) (rows : List (List ℕ × RowType)) (terms : List RowState) (done : List Row) (o : Option (List (ℕ × ℚ))) (i : ℕ) (left : List RowState) : Type 0 where
-  pub rows_are : done ++ made_rows sides ranges (drop i rows) left ≡ made_rows sides ranges rows terms
+pub record HasRows (sides ranges : List (Option ℚ)) (rows : List (List ℕ × RowType)) (terms : List RowState) (done : List Row) (o : Option (List (ℕ × ℚ))) (i : ℕ) (left : List RowState) : Type 0 where
+  pub rows_are : done ++ made_rows sides ranges i (drop i rows) left ≡ made_rows sides ranges 0 rows terms
   pub objective_is : option_or o (made_objective (drop i rows) left) ≡ made_objective rows terms
   pub count : i + length left ≡ length rows
-  pub rising : All (λ t. AreRising t.terms) left
-  pub nonzero : All (λ t. AreNonzero t.terms) left
+  pub rising : All (λ t. AreRising (kept_terms t)) left
+  pub nonzero : All (λ t. AreNonzero (kept_terms t)) left
 
-module _ (sides ranges : List (List ℕ × ℚ)) (rows : List (List ℕ × RowType)) (terms : List RowState) (done : List Row) (o : Option (List (ℕ × ℚ))) (i : ℕ) (left : List RowState)
+module _ (sides ranges : List (Option ℚ)) (rows : List (List ℕ × RowType)) (terms : List RowState) (done : List Row) (o : Option (List (ℕ × ℚ))) (i : ℕ) (left : List RowState)
     (h : HasRows sides ranges rows terms done o i left) where
-  pub next_limits : (t : RowState) (rest : List RowState) → left ≡ t ∷ rest → AreRising t.terms × AreNonzero t.terms
+  pub next_limits : (t : RowState) (rest : List RowState) → left ≡ t ∷ rest → AreRising (kept_terms t) × AreNonzero (kept_terms t)
   next_limits t rest e = (
-    All-head (λ (t : RowState). AreRising t.terms) t rest (subst (λ ts. All (λ (t : RowState). AreRising t.terms) ts) e h.rising),
-    All-head (λ (t : RowState). AreNonzero t.terms) t rest (subst (λ ts. All (λ (t : RowState). AreNonzero t.terms) ts) e h.nonzero),
+    All-head (λ (t : RowState). AreRising (kept_terms t)) t rest (subst (λ ts. All (λ (t : RowState). AreRising (kept_terms t)) ts) e h.rising),
+    All-head (λ (t : RowState). AreNonzero (kept_terms t)) t rest (subst (λ ts. All (λ (t : RowState). AreNonzero (kept_terms t)) ts) e h.nonzero),
   )
 
   pub rows_next : (t : RowState) (rest : List RowState) (r : List ℕ × RowType) (new : List Row) (p : Option (List (ℕ × ℚ))) → left ≡ t ∷ rest → slice_get rows i ≡ Some r
-      → new ≡ done ++ rows_from r.1 (side_in sides r.0) (named ranges r.0) t.terms → p ≡ option_or o (objective_with r.1 t.terms) → HasRows sides ranges rows terms new p (i + 1) rest
+      → new ≡ done ++ rows_from r.1 (side_of (get_or sides i None)) (get_or ranges i None) (kept_terms t) → p ≡ option_or o (objective_with r.1 (kept_terms t)) → HasRows sides ranges rows terms new p (i + 1) rest
   rows_next t rest r new p e s n q = record {
-    rows_are = ap (λ rs. rs ++ made_rows sides ranges (drop (i + 1) rows) rest) n ∙ append_assoc done (rows_from r.1 (side_in sides r.0) (named ranges r.0) t.terms) (made_rows sides ranges (drop (i + 1) rows) rest)
-        ∙ (λ j. done ++ made_rows sides ranges (sym (rows_left rows i r s) j) (sym e j)) ∙ h.rows_are;
-    objective_is = ap (λ x. option_or x (made_objective (drop (i + 1) rows) rest)) q ∙ option_or-assoc o (objective_with r.1 t.terms) (made_objective (drop (i + 1) rows) rest)
+    rows_are = ap (λ rs. rs ++ made_rows sides ranges (i + 1) (drop (i + 1) rows) rest) n
+        ∙ append_assoc done (rows_from r.1 (side_of (get_or sides i None)) (get_or ranges i None) (kept_terms t)) (made_rows sides ranges (i + 1) (drop (i + 1) rows) rest)
+        ∙ (λ j. done ++ (rows_from r.1 (side_of (get_or sides i None)) (get_or ranges i None) (kept_terms t) ++ made_rows sides ranges (add-one i j) (drop (i + 1) rows) rest))
+        ∙ (λ j. done ++ made_rows sides ranges i (sym (rows_left rows i r s) j) (sym e j)) ∙ h.rows_are;
+    objective_is = ap (λ x. option_or x (made_objective (drop (i + 1) rows) rest)) q ∙ option_or-assoc o (objective_with r.1 (kept_terms t)) (made_objective (drop (i + 1) rows) rest)
         ∙ (λ j. option_or o (made_objective (sym (rows_left rows i r s) j) (sym e j))) ∙ h.objective_is;
     count = omega (arith, h.count, ap length e);
-    rising = All-tail (λ (t : RowState). AreRising t.terms) t rest (subst (λ ts. All (λ (t : RowState). AreRising t.terms) ts) e h.rising);
-    nonzero = All-tail (λ (t : RowState). AreNonzero t.terms) t rest (subst (λ ts. All (λ (t : RowState). AreNonzero t.terms) ts) e h.nonzero);
+    rising = All-tail (λ (t : RowState). AreRising (kept_terms t)) t rest (subst (λ ts. All (λ (t : RowState). AreRising (kept_terms t)) ts) e h.rising);
+    nonzero = All-tail (λ (t : RowState). AreNonzero (kept_terms t)) t rest (subst (λ ts. All (λ (t : RowState). AreNonzero (kept_terms t)) ts) e h.nonzero);
   }
 
-  pub rows_done : left ≡ [] → (done ≡ made_rows sides ranges rows terms) × (o ≡ made_objective rows terms)
+  pub rows_done : left ≡ [] → (done ≡ made_rows sides ranges 0 rows terms) × (o ≡ made_objective rows terms)
   rows_done e = (
-    sym (append-nil done) ∙ ap (λ rs. done ++ rs) (sym (no_rows (drop i rows))) ∙ (λ j. done ++ made_rows sides ranges (drop i rows) (sym e j)) ∙ h.rows_are,
+    sym (append-nil done) ∙ ap (λ rs. done ++ rs) (sym (no_rows (drop i rows))) ∙ (λ j. done ++ made_rows sides ranges i (drop i rows) (sym e j)) ∙ h.rows_are,
     sym (or_none o) ∙ ap (option_or o) (sym (no_objective (drop i rows))) ∙ (λ j. option_or o (made_objective (drop i rows) (sym e j))) ∙ h.objective_is,
   )
     where
-      no_rows : (rs : List (List ℕ × RowType)) → made_rows sides ranges rs [] ≡ []
+      no_rows : (rs : List (List ℕ × RowType)) → made_rows sides ranges i rs [] ≡ []
       no_rows [] = refl
       no_rows (r ∷ rs) = refl
 

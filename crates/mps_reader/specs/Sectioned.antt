@@ -1,13 +1,15 @@
 -- The reader's tables are those of the sections so far.
-use Rattle.std.specs.Prelude.{◌≡◌, ℕ, Bool, true, false, ◌==◌, ◌||◌, ◌&&◌, not, nat_lt, cond, List, ◌∷◌, Option, Some, None, drop, length, []}
+use Rattle.std.specs.Prelude.{◌≡◌, ℕ, Bool, true, false, ◌==◌, ◌||◌, ◌&&◌, not, nat_lt, cond, List, ◌∷◌, map, Option, Some, None, drop, length, []}
 use Rattle.std.proofs.Common.{refl, sym, ap, ◌∙◌, arith, subst}
 use Rattle.mps_lines.specs.Lines.{Line}
 use Rattle.mps_reader.specs.BoundTables.{HasBounds}
 use Rattle.mps_reader.specs.Faults.{◌<|>◌, when, line_fault, data_fault_in, word_fault, rest_fault, stage, may_follow}
 use Rattle.mps_reader.specs.Ordered.{HasOrder, order_after, order_held, last_word}
-use Rattle.mps_reader.specs.Sections.{Sections, with_line, with_data_in, with_word, first_field, rows_of, entries_of, marked, bounds_of, bound_at, onto}
+use Rattle.mps_reader.specs.Sections.{Sections, with_line, with_data_in, with_word, first_field, rows_of, entries_of, marked, bounds_of, bound_at, onto, sides_of}
+use Rattle.mps_reader.specs.Meaning.{objective_name}
 use Rattle.mps_reader.specs.Reading.{ends, is_end}
-use Rattle.mps_reader.specs.SideLines.{HasSideLines}
+use Rattle.mps_reader.specs.RowsSoFar.{new_rows, so_far}
+use Rattle.mps_reader.specs.SideLines.{HasSideLines, HasSides, sides_none}
 use Rattle.mps_reader.specs.State.{HasEntries}
 use Rattle.mps_reader.specs.Tables.{table}
 use Rattle.mps_reader.specs.Words.{section_of}
@@ -15,9 +17,11 @@ use Rattle.mps_reader.specs.declared.kinds.Kind.{Kind}
 use Rattle.mps_reader.specs.declared.kinds.Kind.TheVariants as kind
 use Rattle.mps_reader.specs.declared.kinds.Section.{Section}
 use Rattle.mps_reader.specs.declared.kinds.Section.TheVariants as section
+use Rattle.mps_reader.specs.declared.kinds.RowType.{RowType}
+use Rattle.mps_reader.specs.declared.sides.Sides.{Sides}
 use Rattle.mps_reader.specs.declared.tables.Tables.{Tables}
 
--- the tables are those of the sections; no column and no range stands before COLUMNS
+-- the tables are those of the sections; no column, no right side and no range stands before COLUMNS
 pub record HoldsSections {B H : Type 0} (st : Tables B H) (s : Sections) : Type 0 where
   pub order : HasOrder st.order s
   pub rows_at : st.rows_at ≡ s.rows_at
@@ -27,6 +31,7 @@ pub record HoldsSections {B H : Type 0} (st : Tables B H) (s : Sections) : Type 
   pub marked_is : st.is_marked ≡ marked s.columns
   pub rhs : HasSideLines false (rows_of s.rows) st.rhs s.rhs
   pub ranges : HasSideLines true (rows_of s.rows) st.ranges s.ranges
+  pub no_rhs : nat_lt (stage s.words) 4 ≡ true → s.rhs ≡ []
   pub no_ranges : nat_lt (stage s.words) 4 ≡ true → s.ranges ≡ []
   pub bounds : HasBounds st.bounds (bounds_of s.bounds)
 
@@ -72,6 +77,51 @@ module _ (s : Sections) (line : Line) (d : line.is_data ≡ true) (o : Option Se
   line_at = ap (λ (b : Bool). cond b (with_data_in s.words s line) (with_word (section_of (first_field line.fields)) s line)) d
       ∙ with_data_is s.words s line ∙ ap (λ o. with_data_at o s line) l
 
+in_rows : (words : List Section) → last_word words ≡ Some section.Rows → nat_lt (stage words) 4 ≡ true
+in_rows [] l = cc
+in_rows (section.Rows ∷ words) l = refl
+in_rows (section.Name ∷ words) l = cc
+in_rows (section.ObjSense ∷ words) l = cc
+in_rows (section.Columns ∷ words) l = cc
+in_rows (section.Rhs ∷ words) l = cc
+in_rows (section.Ranges ∷ words) l = cc
+in_rows (section.Bounds ∷ words) l = cc
+in_rows (section.EndData ∷ words) l = cc
+
+-- the tables where no column and no number of a row has come
+module _ {B H : Type 0} (st : Tables B H) (s : Sections) (h : HoldsSections st s) (l : last_word s.words ≡ Some section.Rows) where
+  pub rows_before : st.columns.rows ≡ new_rows (table st.rows.entries)
+  rows_before = h.entries.terms ∙ ap (λ ls. map (so_far (objective_name (table st.rows.entries)) (entries_of ls)) (table st.rows.entries)) (h.no_columns (in_rows s.words l))
+
+  none_given : (ranged : Bool) (sides : Sides) (lines : List Line) (new : List (List ℕ × RowType)) → lines ≡ [] → HasSideLines ranged (rows_of s.rows) sides lines → HasSideLines ranged new sides lines
+  none_given ranged sides lines new e k = record {
+    sides = subst (λ ls. HasSides ranged new sides (sides_of ls)) (sym e) (sides_none ranged (rows_of s.rows) new sides (subst (λ ls. HasSides ranged (rows_of s.rows) sides (sides_of ls)) e k.sides));
+    group = k.group;
+  }
+
+  -- one more row
+  pub rows_hold : (new : Tables B H) (line : Line) → line.is_data ≡ true → new ≡ record st { rows = new.rows; count = new.count; columns = record st.columns { rows = new.columns.rows } }
+      → table new.rows.entries ≡ rows_of (line ∷ s.rows) → new.columns.rows ≡ new_rows (table new.rows.entries) → HoldsSections new (with_line s line)
+  rows_hold new line d e r k = subst (λ (t : Sections). HoldsSections new t) (sym (line_at s line d (Some section.Rows) l))
+      (subst (λ (n : Tables B H). HoldsSections n (record s { rows = line ∷ s.rows })) (sym e) (record {
+        order = record { last = h.order.last; rhs = h.order.rhs; ranges = h.order.ranges; bounds = h.order.bounds; sense = h.order.sense };
+        rows_at = h.rows_at;
+        rows = r;
+        entries = record {
+          columns = h.entries.columns;
+          last = h.entries.last;
+          place = h.entries.place;
+          terms = k ∙ sym (ap (λ ls. map (so_far (objective_name (table new.rows.entries)) (entries_of ls)) (table new.rows.entries)) (h.no_columns (in_rows s.words l)));
+        };
+        no_columns = h.no_columns;
+        marked_is = h.marked_is;
+        rhs = none_given false st.rhs s.rhs (rows_of (line ∷ s.rows)) (h.no_rhs (in_rows s.words l)) h.rhs;
+        no_rhs = h.no_rhs;
+        ranges = none_given true st.ranges s.ranges (rows_of (line ∷ s.rows)) (h.no_ranges (in_rows s.words l)) h.ranges;
+        no_ranges = h.no_ranges;
+        bounds = h.bounds;
+      }))
+
 module _ {B H : Type 0} (st new : Tables B H) (s : Sections) (line : Line) (h : HoldsSections st s) (d : line.is_data ≡ true) where
   pub bounds_hold : last_word s.words ≡ Some section.Bounds → new ≡ record st { bounds = new.bounds } → HasBounds new.bounds (onto (bound_at line.fields) (bounds_of s.bounds)) → HoldsSections new (with_line s line)
   bounds_hold l e c = subst (λ (t : Sections). HoldsSections new t) (sym (line_at s line d (Some section.Bounds) l))
@@ -84,6 +134,7 @@ module _ {B H : Type 0} (st new : Tables B H) (s : Sections) (line : Line) (h : 
         marked_is = h.marked_is;
         rhs = h.rhs;
         ranges = h.ranges;
+        no_rhs = h.no_rhs;
         no_ranges = h.no_ranges;
         bounds = c;
       }))
@@ -114,14 +165,14 @@ module _ {B H : Type 0} (st : Tables B H) (s : Sections) (line : Line) (h : Hold
   held_order word = order_held st.order s h.order line word
 
   pub word_holds : (word : Section) → may_follow s.words word ≡ true → HoldsSections (with_section word (more_of line) line.number st) (with_word (Some word) s line)
-  word_holds section.Name m = record { order = held_order section.Name; rows_at = h.rows_at; rows = h.rows; entries = h.entries; no_columns = λ l. h.no_columns (early s.words section.Name m l); marked_is = h.marked_is; rhs = h.rhs; ranges = h.ranges; no_ranges = λ l. h.no_ranges (early s.words section.Name m l); bounds = h.bounds }
-  word_holds section.ObjSense m = record { order = held_order section.ObjSense; rows_at = h.rows_at; rows = h.rows; entries = h.entries; no_columns = λ l. h.no_columns (early s.words section.ObjSense m l); marked_is = h.marked_is; rhs = h.rhs; ranges = h.ranges; no_ranges = λ l. h.no_ranges (early s.words section.ObjSense m l); bounds = h.bounds }
-  word_holds section.Rows m = record { order = held_order section.Rows; rows_at = refl; rows = h.rows; entries = h.entries; no_columns = λ l. h.no_columns (early s.words section.Rows m l); marked_is = h.marked_is; rhs = h.rhs; ranges = h.ranges; no_ranges = λ l. h.no_ranges (early s.words section.Rows m l); bounds = h.bounds }
-  word_holds section.Columns m = record { order = held_order section.Columns; rows_at = h.rows_at; rows = h.rows; entries = h.entries; no_columns = λ l. h.no_columns (early s.words section.Columns m l); marked_is = h.marked_is; rhs = h.rhs; ranges = h.ranges; no_ranges = λ l. h.no_ranges (early s.words section.Columns m l); bounds = h.bounds }
-  word_holds section.Rhs m = record { order = held_order section.Rhs; rows_at = h.rows_at; rows = h.rows; entries = h.entries; no_columns = λ l. h.no_columns (early s.words section.Rhs m l); marked_is = h.marked_is; rhs = h.rhs; ranges = h.ranges; no_ranges = λ l. h.no_ranges (early s.words section.Rhs m l); bounds = h.bounds }
-  word_holds section.Ranges m = record { order = held_order section.Ranges; rows_at = h.rows_at; rows = h.rows; entries = h.entries; no_columns = λ l. h.no_columns (early s.words section.Ranges m l); marked_is = h.marked_is; rhs = h.rhs; ranges = h.ranges; no_ranges = λ l. h.no_ranges (early s.words section.Ranges m l); bounds = h.bounds }
-  word_holds section.Bounds m = record { order = held_order section.Bounds; rows_at = h.rows_at; rows = h.rows; entries = h.entries; no_columns = λ l. h.no_columns (early s.words section.Bounds m l); marked_is = h.marked_is; rhs = h.rhs; ranges = h.ranges; no_ranges = λ l. h.no_ranges (early s.words section.Bounds m l); bounds = h.bounds }
-  word_holds section.EndData m = record { order = held_order section.EndData; rows_at = h.rows_at; rows = h.rows; entries = h.entries; no_columns = λ l. h.no_columns (early s.words section.EndData m l); marked_is = h.marked_is; rhs = h.rhs; ranges = h.ranges; no_ranges = λ l. h.no_ranges (early s.words section.EndData m l); bounds = h.bounds }
+  word_holds section.Name m = record { order = held_order section.Name; rows_at = h.rows_at; rows = h.rows; entries = h.entries; no_columns = λ l. h.no_columns (early s.words section.Name m l); marked_is = h.marked_is; rhs = h.rhs; ranges = h.ranges; no_rhs = λ l. h.no_rhs (early s.words section.Name m l); no_ranges = λ l. h.no_ranges (early s.words section.Name m l); bounds = h.bounds }
+  word_holds section.ObjSense m = record { order = held_order section.ObjSense; rows_at = h.rows_at; rows = h.rows; entries = h.entries; no_columns = λ l. h.no_columns (early s.words section.ObjSense m l); marked_is = h.marked_is; rhs = h.rhs; ranges = h.ranges; no_rhs = λ l. h.no_rhs (early s.words section.ObjSense m l); no_ranges = λ l. h.no_ranges (early s.words section.ObjSense m l); bounds = h.bounds }
+  word_holds section.Rows m = record { order = held_order section.Rows; rows_at = refl; rows = h.rows; entries = h.entries; no_columns = λ l. h.no_columns (early s.words section.Rows m l); marked_is = h.marked_is; rhs = h.rhs; ranges = h.ranges; no_rhs = λ l. h.no_rhs (early s.words section.Rows m l); no_ranges = λ l. h.no_ranges (early s.words section.Rows m l); bounds = h.bounds }
+  word_holds section.Columns m = record { order = held_order section.Columns; rows_at = h.rows_at; rows = h.rows; entries = h.entries; no_columns = λ l. h.no_columns (early s.words section.Columns m l); marked_is = h.marked_is; rhs = h.rhs; ranges = h.ranges; no_rhs = λ l. h.no_rhs (early s.words section.Columns m l); no_ranges = λ l. h.no_ranges (early s.words section.Columns m l); bounds = h.bounds }
+  word_holds section.Rhs m = record { order = held_order section.Rhs; rows_at = h.rows_at; rows = h.rows; entries = h.entries; no_columns = λ l. h.no_columns (early s.words section.Rhs m l); marked_is = h.marked_is; rhs = h.rhs; ranges = h.ranges; no_rhs = λ l. h.no_rhs (early s.words section.Rhs m l); no_ranges = λ l. h.no_ranges (early s.words section.Rhs m l); bounds = h.bounds }
+  word_holds section.Ranges m = record { order = held_order section.Ranges; rows_at = h.rows_at; rows = h.rows; entries = h.entries; no_columns = λ l. h.no_columns (early s.words section.Ranges m l); marked_is = h.marked_is; rhs = h.rhs; ranges = h.ranges; no_rhs = λ l. h.no_rhs (early s.words section.Ranges m l); no_ranges = λ l. h.no_ranges (early s.words section.Ranges m l); bounds = h.bounds }
+  word_holds section.Bounds m = record { order = held_order section.Bounds; rows_at = h.rows_at; rows = h.rows; entries = h.entries; no_columns = λ l. h.no_columns (early s.words section.Bounds m l); marked_is = h.marked_is; rhs = h.rhs; ranges = h.ranges; no_rhs = λ l. h.no_rhs (early s.words section.Bounds m l); no_ranges = λ l. h.no_ranges (early s.words section.Bounds m l); bounds = h.bounds }
+  word_holds section.EndData m = record { order = held_order section.EndData; rows_at = h.rows_at; rows = h.rows; entries = h.entries; no_columns = λ l. h.no_columns (early s.words section.EndData m l); marked_is = h.marked_is; rhs = h.rhs; ranges = h.ranges; no_rhs = λ l. h.no_rhs (early s.words section.EndData m l); no_ranges = λ l. h.no_ranges (early s.words section.EndData m l); bounds = h.bounds }
 
 -- a section line without a fault has a word that may follow
 pub word_of : (s : Sections) (rest : List (List ℕ)) (word : Section) → word_fault s rest (Some word) ≡ None → may_follow s.words word ≡ true

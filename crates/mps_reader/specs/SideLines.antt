@@ -1,16 +1,20 @@
 -- The tables of RHS and RANGES after the lines before.
-use Rattle.std.specs.Prelude.{◌≡◌, ℕ, ◌+◌, ◌&&◌, Bool, true, false, not, nat_le, if◌then◌else◌, cond, List, ◌∷◌, ◌++◌, Option, Some, None, is_some, length, ◌≢◌, []}
-use Rattle.std.proofs.Common.{refl, sym, ap, ◌∙◌, arith, append-nil}
-use Rattle.std.proofs.lemmas.List.{map-append}
+use Rattle.std.specs.Prelude.{◌≡◌, ℕ, ◌+◌, ◌&&◌, Bool, true, false, not, nat_le, if◌then◌else◌, cond, ◌<◌, ◌==◌, List, ◌∷◌, ◌++◌, map, Option, Some, None, is_some, length, zero, suc, pos, ◌≢◌, []}
+use Rattle.std.specs.Option.{option_map, option_or}
+use Rattle.std.specs.Str.{bytes_eq}
+use Rattle.std.proofs.Common.{refl, sym, ap, ◌∙◌, arith, append-nil, get_or, set}
+use Rattle.std.proofs.lemmas.List.{get_or-set_other, get_or-set_same, length-map}
 use Rattle.std.proofs.lemmas.List.Sums.{sum_by-append}
-use Rattle.fraction.specs.Rational.{ℚ}
+use Rattle.fraction.specs.Rational.{ℚ, whole}
 use Rattle.mps_lines.specs.Lines.{Line}
 use denote.Ref.{Bor}
-use Rattle.mps_reader.specs.SideNumbers.{numbers_of, is_named_numbers}
-use Rattle.mps_reader.specs.Faults.{◌<|>◌, when, limit, is_ranged, counted, count_ranged, side_number_fault, sides_fault, side_line_fault, differs}
+use Rattle.mps_reader.specs.Faults.{◌<|>◌, when, limit, counts, is_counted, is_ranged, counted, count_ranged, side_number_fault, sides_fault, side_line_fault, differs}
+use Rattle.mps_reader.specs.Named.{bytes_flip, named_push, same_text}
+use Rattle.mps_reader.specs.RowsSoFar.{IsRowAt, or_none, row_gives, row_set}
 use Rattle.mps_reader.specs.Sections.{number, pairs_of, sides, sides_of, side_set, set_of_sides, with_sides}
+use Rattle.mps_reader.specs.SideTable.{Gives}
 use Rattle.mps_reader.specs.Stopping.{stops_first, stops_same}
-use Rattle.mps_reader.specs.Tables.{Stops, table, text_of, texts}
+use Rattle.mps_reader.specs.Tables.{Stops, length-table, table, text_of, texts}
 use Rattle.mps_reader.specs.Words.{named}
 use Rattle.mps_reader.specs.declared.kinds.Kind.{Kind}
 use Rattle.mps_reader.specs.declared.kinds.Kind.TheVariants as kind
@@ -18,83 +22,154 @@ use Rattle.mps_reader.specs.declared.kinds.RowType.{RowType}
 use Rattle.mps_reader.specs.declared.kinds.Stop.{Stop}
 use Rattle.mps_reader.specs.declared.sides.Sides.{Sides}
 
--- the fault of one row with its value after the numbers before and that many rows of the problem
-abbrev pub side_fault_after : Bool → List (List ℕ × RowType) → List (List ℕ × ℚ) → ℕ → List ℕ × List ℕ → Option Kind
-side_fault_after ranged rows numbers used pair =
+-- the fault of one row with its value after those before
+abbrev pub side_fault : Bool → List (List ℕ × RowType) → List (List ℕ × List ℕ) → List ℕ × List ℕ → Option Kind
+side_fault ranged rows before pair =
     when (not (is_some (named rows pair.0))) kind.UnknownRow
-    <|> when (is_some (named numbers pair.0)) kind.Duplicate
-    <|> when (ranged && is_ranged rows pair.0 && nat_le limit used) kind.TooMany
+    <|> when (is_some (named before pair.0)) kind.Duplicate
+    <|> when (ranged && is_ranged rows pair.0 && nat_le limit (counted rows + count_ranged rows before)) kind.TooMany
     <|> side_number_fault pair.1
 
--- the table is that of these rows with their values, and where they are ranges, that many of them count
-pub record HasSides {B H : Type 0} (ranged : Bool) (rows : List (List ℕ × RowType)) (st : Sides B H) (before : List (List ℕ × List ℕ)) : Type 0 where
-  pub numbers : table st.numbers.entries ≡ numbers_of before
+-- the number that counts: one of an N row means nothing
+abbrev pub number_for : RowType → List ℕ → ℚ
+number_for type value = if is_counted type then number value else whole (pos 0)
+
+-- the number of a row after these
+abbrev pub side_so_far : List (List ℕ × List ℕ) → List ℕ × RowType → Option ℚ
+side_so_far before r = option_map (number_for r.1) (named before r.0)
+
+-- the table has these numbers of the rows, and where they are ranges, that many of them count
+pub record HasSides (ranged : Bool) (rows : List (List ℕ × RowType)) (st : Sides) (before : List (List ℕ × List ℕ)) : Type 0 where
+  pub numbers : (i : ℕ) → get_or st.numbers i None ≡ get_or (map (side_so_far before) rows) i None
   pub count : ranged ≡ true → st.ranged ≡ count_ranged rows before
 
 -- the table and the set's name are those of these lines
-pub record HasSideLines {B H : Type 0} (ranged : Bool) (rows : List (List ℕ × RowType)) (st : Sides B H) (earlier : List Line) : Type 0 where
+pub record HasSideLines (ranged : Bool) (rows : List (List ℕ × RowType)) (st : Sides) (earlier : List Line) : Type 0 where
   pub sides : HasSides ranged rows st (sides_of earlier)
   pub group : text_of st.group ≡ side_set earlier
 
--- ---- one more row
-abbrev pub side_fault : Bool → List (List ℕ × RowType) → List (List ℕ × List ℕ) → List ℕ × List ℕ → Option Kind
-side_fault ranged rows before pair = side_fault_after ranged rows (numbers_of before) (counted rows + count_ranged rows before) pair
+-- ---- no row
+pub none_so_far : (rows : List (List ℕ × RowType)) (i : ℕ) → get_or (map (side_so_far []) rows) i None ≡ None
+none_so_far [] i = refl
+none_so_far (r ∷ rows) zero = refl
+none_so_far (r ∷ rows) (suc i) = none_so_far rows i
 
+-- before its first line a section says the same of any rows
+pub sides_none : (ranged : Bool) (rows new : List (List ℕ × RowType)) (st : Sides) → HasSides ranged rows st [] → HasSides ranged new st []
+sides_none ranged rows new st h = record { numbers = λ i. h.numbers i ∙ none_so_far rows i ∙ sym (none_so_far new i); count = h.count }
+
+-- ---- one more row
 too_many : (ranged counts : Bool) (m n : ℕ) → (ranged ≡ true → m ≡ n) → (ranged && counts && nat_le limit m) ≡ (ranged && counts && nat_le limit n)
 too_many true counts m n h = ap (λ k. counts && nat_le limit k) (h refl)
 too_many false counts m n h = refl
 
-module _ {B H : Type 0} (ranged : Bool) (rows : List (List ℕ × RowType)) (st : Sides B H) (before : List (List ℕ × List ℕ)) (h : HasSides ranged rows st before) where
-  pub side_fault_is : (count : ℕ) (pair : List ℕ × List ℕ) → count ≡ counted rows → side_fault_after ranged rows (table st.numbers.entries) (count + st.ranged) pair ≡ side_fault ranged rows before pair
-  side_fault_is count pair e = λ i.
-      when (not (is_some (named rows pair.0))) kind.UnknownRow
-      <|> when (is_some (named (h.numbers i) pair.0)) kind.Duplicate
-      <|> when (too_many ranged (is_ranged rows pair.0) (count + st.ranged) (counted rows + count_ranged rows before) (λ r. (λ i. e i + h.count r i)) i) kind.TooMany
-      <|> side_number_fault pair.1
+and_assoc : (a b c : Bool) → ((a && b) && c) ≡ (a && b && c)
+and_assoc true b c = refl
+and_assoc false b c = refl
 
-  pub sides_more : (new : Sides B H) (pair : List ℕ × List ℕ) → table new.numbers.entries ≡ table st.numbers.entries ++ (pair.0, number pair.1) ∷ []
-      → new.ranged ≡ st.ranged + (if ranged && is_ranged rows pair.0 then 1 else 0) → HasSides ranged rows new (before ++ pair ∷ [])
-  sides_more new pair n r = record {
-    numbers = n ∙ ap (λ t. t ++ (pair.0, number pair.1) ∷ []) h.numbers ∙ sym (map-append (λ p. (p.0, number p.1)) before (pair ∷ []));
-    count = λ e. r ∙ (λ i. h.count e i + (if e i && is_ranged rows pair.0 then 1 else 0)) ∙ sym (counted_push before pair);
+-- a row that isn't known is at fault
+pub unknown_row : (ranged : Bool) (rows : List (List ℕ × RowType)) (before : List (List ℕ × List ℕ)) (pair : List ℕ × List ℕ) → None ≡ named rows pair.0 → side_fault ranged rows before pair ≡ Some kind.UnknownRow
+unknown_row ranged rows before pair n =
+    λ j. when (not (is_some (sym n j))) kind.UnknownRow <|> when (is_some (named before pair.0)) kind.Duplicate
+    <|> when (ranged && is_ranged rows pair.0 && nat_le limit (counted rows + count_ranged rows before)) kind.TooMany <|> side_number_fault pair.1
+
+-- a row without a fault is new in its section
+pub fine_is_new : (ranged : Bool) (rows : List (List ℕ × RowType)) (before : List (List ℕ × List ℕ)) (pair : List ℕ × List ℕ) → side_fault ranged rows before pair ≡ None → named before pair.0 ≡ None
+fine_is_new ranged rows before pair f =
+    by (not (is_some (named rows pair.0))) (named before pair.0) (when (ranged && is_ranged rows pair.0 && nat_le limit (counted rows + count_ranged rows before)) kind.TooMany <|> side_number_fault pair.1) f
+  where
+    by : (u : Bool) (o : Option (List ℕ)) (rest : Option Kind) → (when u kind.UnknownRow <|> when (is_some o) kind.Duplicate <|> rest) ≡ None → o ≡ None
+    by true o rest f = cc
+    by false None rest f = refl
+    by false (Some v) rest f = cc
+
+is_some_map : {A B : Type 0} (f : A → B) (o : Option A) → is_some (option_map f o) ≡ is_some o
+is_some_map f None = refl
+is_some_map f (Some a) = refl
+
+module _ (ranged : Bool) (es : List (Bor (List ℕ) × RowType)) (st : Sides) (before : List (List ℕ × List ℕ)) (h : HasSides ranged (table es) st before) (pair : List ℕ × List ℕ)
+    (i : ℕ) (r : IsRowAt es pair.0 i) (type : RowType) (t : named (table es) pair.0 ≡ Some type) where
+  -- whether the row stands among those before
+  pub given_is : is_some (get_or st.numbers i None) ≡ is_some (named before pair.0)
+  given_is = ap is_some (h.numbers i)
+      ∙ row_gives pair.0 (side_so_far before) is_some (is_some (named before pair.0)) (λ r b. is_some_map (number_for r.1) (named before r.0) ∙ ap (λ n. is_some (named before n)) (sym (same_text pair.0 r.0 b)))
+      es i None r.at r.within
+
+  ranged_is : is_ranged (table es) pair.0 ≡ is_counted type
+  ranged_is = ap counts t
+
+  -- the row's fault, by what the table says of it and how many rows there are
+  pub fault_by : (count : ℕ) → count ≡ counted (table es) → side_fault ranged (table es) before pair
+      ≡ (when (is_some (get_or st.numbers i None)) kind.Duplicate <|> when ((ranged && is_counted type) && nat_le limit (count + st.ranged)) kind.TooMany <|> side_number_fault pair.1)
+  fault_by count e =
+      let m : (ranged && is_ranged (table es) pair.0 && nat_le limit (counted (table es) + count_ranged (table es) before)) ≡ ((ranged && is_counted type) && nat_le limit (count + st.ranged)) =
+      ap (λ b. ranged && b && nat_le limit (counted (table es) + count_ranged (table es) before)) ranged_is
+      ∙ sym (too_many ranged (is_counted type) (count + st.ranged) (counted (table es) + count_ranged (table es) before) (λ r. (λ j. e j + h.count r j)))
+      ∙ sym (and_assoc ranged (is_counted type) (nat_le limit (count + st.ranged))) in
+      λ j. when (not (is_some (t j))) kind.UnknownRow <|> when (sym given_is j) kind.Duplicate <|> when (m j) kind.TooMany <|> side_number_fault pair.1
+
+  counted_push : count_ranged (table es) (before ++ pair ∷ []) ≡ count_ranged (table es) before + (if is_ranged (table es) pair.0 then 1 else 0)
+  counted_push = omega (arith, sum_by-append (λ p. cond (is_ranged (table es) p.0) 1 0) before (pair ∷ []))
+
+  abbrev q : ℚ
+  q = number_for type pair.1
+
+  -- the row has its number then, and the others have theirs
+  own_number : named before pair.0 ≡ None → (r : List ℕ × RowType) → bytes_eq pair.0 r.0 ≡ true → Some type ≡ Some r.1 → Some q ≡ side_so_far (before ++ pair ∷ []) r
+  own_number n r b k =
+      let s : type ≡ r.1 = cc in
+      let f : bytes_eq r.0 pair.0 ≡ true = bytes_flip r.0 pair.0 ∙ b in
+      let m : named before r.0 ≡ None = ap (named before) (sym (same_text pair.0 r.0 b)) ∙ n in
+      (λ j. Some (number_for (s j) pair.1))
+      ∙ sym (ap (option_map (number_for r.1)) (named_push before pair.0 pair.1 r.0 ∙ (λ j. option_or (m j) (cond (f j) (Some pair.1) None))))
+
+  other_number : (r : List ℕ × RowType) → bytes_eq pair.0 r.0 ≡ false → side_so_far before r ≡ side_so_far (before ++ pair ∷ []) r
+  other_number r b =
+      let f : bytes_eq r.0 pair.0 ≡ false = bytes_flip r.0 pair.0 ∙ b in
+      sym (ap (option_map (number_for r.1)) (named_push before pair.0 pair.1 r.0 ∙ ap (λ b. option_or (named before r.0) (cond b (Some pair.1) None)) f ∙ or_none (named before r.0)))
+
+  pub sides_more : named before pair.0 ≡ None → (new : Sides) → Gives st.numbers new.numbers i q → new.ranged ≡ st.ranged + (if ranged && is_counted type then 1 else 0)
+      → HasSides ranged (table es) new (before ++ pair ∷ [])
+  sides_more n new g u = record {
+    numbers = λ j. g j ∙ by j (j == i) refl ∙ ap (λ os. get_or os j None)
+        (row_set pair.0 (Some type) (side_so_far before) (side_so_far (before ++ pair ∷ [])) (λ o. Some q) (own_number n) other_number es i None r t);
+    count = λ e. u ∙ (λ j. h.count e j + (if e j && sym ranged_is j then 1 else 0)) ∙ sym counted_push;
   }
     where
-      counted_push : (before : List (List ℕ × List ℕ)) (pair : List ℕ × List ℕ) → count_ranged rows (before ++ pair ∷ []) ≡ count_ranged rows before + (if is_ranged rows pair.0 then 1 else 0)
-      counted_push before pair = omega (arith, sum_by-append (λ p. cond (is_ranged rows p.0) 1 0) before (pair ∷ []))
+      xs : List (Option ℚ)
+      xs = map (side_so_far before) (table es)
 
--- the fault of rows after those before, where the numbers are those before
+      within : i < length xs
+      within = omega (arith, r.within, length-map (table es) (side_so_far before), length-table es)
+
+      by : (j : ℕ) (b : Bool) → (j == i) ≡ b → (if b then Some q else get_or st.numbers j None) ≡ get_or (set xs i (Some q)) j None
+      by j true k = let e : j ≡ i = grind (arith, k) in sym ((λ m. get_or (set xs i (Some q)) (e m) None) ∙ get_or-set_same xs i (Some q) None within)
+      by j false k = h.numbers j ∙ sym (get_or-set_other xs i j (Some q) None (λ e. let c : (j == i) ≡ true = grind (arith, e) in cc))
+
+-- the fault of rows after those before, by the first of them
 pub sides_fault_is : (ranged : Bool) (rows : List (List ℕ × RowType)) (before : List (List ℕ × List ℕ)) (pair : List ℕ × List ℕ) (pairs : List (List ℕ × List ℕ))
     → sides_fault ranged rows before (pair ∷ pairs) ≡ (side_fault ranged rows before pair <|> sides_fault ranged rows (before ++ pair ∷ []) pairs)
 sides_fault_is ranged rows before pair pairs =
-    joined (not (is_some (named rows pair.0))) (is_some (named before pair.0)) (is_some (named (numbers_of before) pair.0)) (ranged && is_ranged rows pair.0 && nat_le limit (counted rows + count_ranged rows before))
-    (side_number_fault pair.1) (sides_fault ranged rows (before ++ pair ∷ []) pairs) (sym (is_named_numbers before pair.0))
+    joined (not (is_some (named rows pair.0))) (is_some (named before pair.0)) (ranged && is_ranged rows pair.0 && nat_le limit (counted rows + count_ranged rows before))
+    (side_number_fault pair.1) (sides_fault ranged rows (before ++ pair ∷ []) pairs)
   where
-    joined : (u d e t : Bool) (n rest : Option Kind) → d ≡ e
-        → (when u kind.UnknownRow <|> when d kind.Duplicate <|> when t kind.TooMany <|> n <|> rest) ≡ ((when u kind.UnknownRow <|> when e kind.Duplicate <|> when t kind.TooMany <|> n) <|> rest)
-    joined true d e t n rest h = refl
-    joined false true true t n rest h = refl
-    joined false true false t n rest h = cc
-    joined false false true t n rest h = cc
-    joined false false false true n rest h = refl
-    joined false false false false n rest h = refl
+    joined : (u d t : Bool) (n rest : Option Kind)
+        → (when u kind.UnknownRow <|> when d kind.Duplicate <|> when t kind.TooMany <|> n <|> rest) ≡ ((when u kind.UnknownRow <|> when d kind.Duplicate <|> when t kind.TooMany <|> n) <|> rest)
+    joined true d t n rest = refl
+    joined false true t n rest = refl
+    joined false false true n rest = refl
+    joined false false false n rest = refl
 
 -- what the first of some rows says of all
-module _ {B H : Type 0} (ranged : Bool) (rows : List (List ℕ × RowType)) (st : Sides B H) (before : List (List ℕ × List ℕ)) (h : HasSides ranged rows st before) (count : ℕ) (e : count ≡ counted rows)
-    (pair : List ℕ × List ℕ) (pairs : List (List ℕ × List ℕ)) where
-  abbrev After : Option Kind
-  After = side_fault_after ranged rows (table st.numbers.entries) (count + st.ranged) pair
+module _ (ranged : Bool) (rows : List (List ℕ × RowType)) (before : List (List ℕ × List ℕ)) (pair : List ℕ × List ℕ) (pairs : List (List ℕ × List ℕ)) where
+  pub first_fine : side_fault ranged rows before pair ≡ None → sides_fault ranged rows before (pair ∷ pairs) ≡ sides_fault ranged rows (before ++ pair ∷ []) pairs
+  first_fine f = sides_fault_is ranged rows before pair pairs ∙ ap (λ o. o <|> sides_fault ranged rows (before ++ pair ∷ []) pairs) f
 
-  first_is : sides_fault ranged rows before (pair ∷ pairs) ≡ (After <|> sides_fault ranged rows (before ++ pair ∷ []) pairs)
-  first_is = sides_fault_is ranged rows before pair pairs ∙ ap (λ o. o <|> sides_fault ranged rows (before ++ pair ∷ []) pairs) (sym (side_fault_is ranged rows st before h count pair e))
+  pub first_stops : (t : Stop) → Stops t (side_fault ranged rows before pair) → Stops t (sides_fault ranged rows before (pair ∷ pairs))
+  first_stops t k = stops_same t (side_fault ranged rows before pair <|> sides_fault ranged rows (before ++ pair ∷ []) pairs) (sides_fault ranged rows before (pair ∷ pairs)) (sym (sides_fault_is ranged rows before pair pairs))
+      (stops_first t (side_fault ranged rows before pair) (sides_fault ranged rows (before ++ pair ∷ []) pairs) k)
 
-  pub first_fine : After ≡ None → sides_fault ranged rows before (pair ∷ pairs) ≡ sides_fault ranged rows (before ++ pair ∷ []) pairs
-  first_fine f = first_is ∙ ap (λ o. o <|> sides_fault ranged rows (before ++ pair ∷ []) pairs) f
-
-  pub first_stops : (t : Stop) → Stops t After → Stops t (sides_fault ranged rows before (pair ∷ pairs))
-  first_stops t k = stops_same t (After <|> sides_fault ranged rows (before ++ pair ∷ []) pairs) (sides_fault ranged rows before (pair ∷ pairs)) (sym first_is)
-      (stops_first t After (sides_fault ranged rows (before ++ pair ∷ []) pairs) k)
-
-  pub later_stops : (t : Stop) → After ≡ None → Stops t (sides_fault ranged rows (before ++ pair ∷ []) pairs) → Stops t (sides_fault ranged rows before (pair ∷ pairs))
+  pub later_stops : (t : Stop) → side_fault ranged rows before pair ≡ None → Stops t (sides_fault ranged rows (before ++ pair ∷ []) pairs) → Stops t (sides_fault ranged rows before (pair ∷ pairs))
   later_stops t f k = stops_same t (sides_fault ranged rows (before ++ pair ∷ []) pairs) (sides_fault ranged rows before (pair ∷ pairs)) (sym (first_fine f)) k
 
 -- ---- a line's rows with their values, behind a set's name or none

@@ -4,7 +4,7 @@ use Rattle.std.proofs.Common.{refl, sym, ap, ◌∙◌, arith, set, get_or, subs
 use Rattle.std.proofs.lemmas.List.{length-map}
 use denote.Ref.{Bor}
 use Rattle.mps_reader.specs.Faults.{is_repeated}
-use Rattle.mps_reader.specs.Meaning.{place}
+use Rattle.mps_reader.specs.Meaning.{objective_name, place}
 use Rattle.mps_reader.specs.Named.{length_push, place_push, same_text}
 use Rattle.mps_reader.specs.RowsSoFar.{IsNew, IsRowAt, entry_set, last_place, named_at, named_last, run_named, so_far}
 use Rattle.mps_reader.specs.Sections.{Entry, columns_of, is_same, last_of, number, pairs_of, run_of, with_column}
@@ -25,19 +25,19 @@ pub record HasEntries {B H : Type 0} (s : Columns B H) (rows : List (List ℕ ×
   pub columns : table s.columns.entries ≡ columns_of entries
   pub last : text_of s.last ≡ last_of entries
   pub place : IsLastAt (columns_of entries) (last_of entries) s.place
-  pub terms : s.rows ≡ map (so_far entries) rows
+  pub terms : s.rows ≡ map (so_far (objective_name rows) entries) rows
 
 -- ---- the names of an entry
 module _ {B H : Type 0} (s : Columns B H) (es : List (Bor (List ℕ) × RowType)) (entries : List Entry) (h : HasEntries s (table es) entries) where
   pub rows_count : length s.rows ≡ length es
-  rows_count = ap length h.terms ∙ length-map (table es) (so_far entries) ∙ length-table es
+  rows_count = ap length h.terms ∙ length-map (table es) (so_far (objective_name (table es)) entries) ∙ length-table es
 
   pub last_same : (e : Entry) (same : Bool) → same ≡ is_same (text_of s.last) e.column → same ≡ is_same (last_of entries) e.column
   last_same e same k = k ∙ ap (λ o. is_same o e.column) h.last
 
   module _ (e : Entry) (i : ℕ) (d : RowState) (r : IsRowAt es e.row i) where
     named_by_is : (get_or s.rows i d).named_by ≡ named_last e.row entries
-    named_by_is = ap (λ ts. (get_or ts i d).named_by) h.terms ∙ named_at entries e.row es i d r.at r.within
+    named_by_is = ap (λ ts. (get_or ts i d).named_by) h.terms ∙ named_at (objective_name (table es)) entries e.row es i d r.at r.within
 
     -- the last column names the row
     pub repeated_same : true ≡ is_same (last_of entries) e.column → is_place (get_or s.rows i d).named_by s.place ≡ is_repeated (columns_of entries) (run_of entries) (is_same (last_of entries) e.column) e
@@ -91,7 +91,7 @@ module _ {B H : Type 0} (s : Columns B H) (es : List (Bor (List ℕ) × RowType)
         columns = c ∙ (λ j. with_column (same_last j) (h.columns j) e);
         last = l ∙ by same same_last;
         place = subst (λ n. IsLastAt (columns_of (e ∷ entries)) (Some e.column) n) (sym q) stands;
-        terms = t ∙ (λ j. set (h.terms j) i (with_number (w j) (number e.value) (get_or (h.terms j) i d))) ∙ entry_set e entries (stands.0 ∙ sym q ∙ w) es i d r;
+        terms = t ∙ (λ j. set (h.terms j) i (with_number (w j) (number e.value) (get_or (h.terms j) i d))) ∙ entry_set (objective_name (table es)) e entries (stands.0 ∙ sym q ∙ w) es i d r;
       }
     where
       by : (b : Bool) → b ≡ is_same (last_of entries) e.column → cond b (text_of s.last) (Some e.column) ≡ Some e.column

@@ -1,17 +1,15 @@
 //! The rows and the objective of a problem, from the reader's tables.
 
-ghost use Rattle.std.specs.Prelude.{◌≡◌, ◌++◌, OnOk};
+ghost use Rattle.std.specs.Prelude.{◌≡◌, ◌++◌, None, OnOk, get_or};
 ghost use Rattle.std.specs.Option.{option_or};
 ghost use Rattle.problem.specs.Rising.{AreRising, AreNonzero};
-ghost use Rattle.mps_reader.specs.Building.{side_in, row_with, objective_with};
-ghost use Rattle.mps_reader.specs.Tables.{table};
+ghost use Rattle.mps_reader.specs.Building.{side_of, row_with, objective_with};
 
 use crate::kinds::RowType;
+use crate::side_table::SideTable;
 use fraction::Frac;
-use indexmap::IndexMap;
 use problem::{Row, Sense, Terms};
 use std::alloc::AllocError;
-use std::hash::BuildHasher;
 
 /// The rows of a problem, and the objective where there is one.
 #[derive(Drop)]
@@ -43,14 +41,11 @@ impl Parts {
 }
 
 /// The right side of a row: 0 where none is written.
-pub fn side_at<'a, B: BuildHasher + Drop>(
-    sides: &IndexMap<&'a [u8], Frac, B>,
-    name: &'a [u8],
-) -> Frac
-    ensures { result ≡ side_in (table sides.now.entries) name.now }
+pub fn side_at(sides: &SideTable, index: usize) -> Frac
+    ensures { result ≡ side_of (get_or sides.now index None) }
 {
-    match sides.get(name) {
-        Some(number) => *number,
+    match sides.number_at(index) {
+        Some(number) => number,
         None => Frac::of(0),
     }
 }

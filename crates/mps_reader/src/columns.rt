@@ -36,7 +36,7 @@ pub struct Cell<'a> {
 pub struct Columns<'a, B: BuildHasher + Drop> {
     pub columns: IndexMap<&'a [u8], Column, B>,
     pub last: Option<&'a [u8]>,
-    pub place: u32,
+    pub place: u16,
     pub rows: RowTable,
 }
 
@@ -140,7 +140,7 @@ impl<'a, B: BuildHasher + Drop> Columns<'a, B> {
         if same {
             return Ok(());
         }
-        let place = self.columns.len() as u32;
+        let place = self.columns.len() as u16;
         let column = Column {
             line: e.line,
             is_marked: e.is_marked,

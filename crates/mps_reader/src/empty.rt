@@ -16,6 +16,7 @@ use crate::keys::Lent;
 use crate::kinds::RowType;
 use crate::order::Order;
 use crate::row_table::RowTable;
+use crate::side_table::SideTable;
 use crate::sides::Sides;
 use crate::tables::Tables;
 use indexmap::IndexMap;
@@ -23,11 +24,11 @@ use std::alloc::Global;
 use std::hash::BuildHasher;
 
 /// No sides.
-fn no_sides<'a, 'k, B: BuildHasher + Drop>(alloc: Global, keys: &'k B) -> Sides<'a, Lent<'k, B>>
+fn no_sides<'a>(alloc: Global) -> Sides<'a>
     ensures { (ranged : Bool) (rows : List (List ℕ × RowType)) → HasSideLines ranged rows result [] }
 {
     Sides {
-        numbers: IndexMap::with_hasher(alloc, Lent::of(keys)),
+        numbers: SideTable::new(alloc),
         group: None,
         ranged: 0,
     }
@@ -83,8 +84,8 @@ pub fn empty_tables<'a, 'k, B: BuildHasher + Drop>(
         count: 0,
         columns: no_columns(alloc, keys),
         is_marked: false,
-        rhs: no_sides(alloc, keys),
-        ranges: no_sides(alloc, keys),
+        rhs: no_sides(alloc),
+        ranges: no_sides(alloc),
         bounds: no_bounds(alloc, keys),
     }
 }

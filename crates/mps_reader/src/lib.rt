@@ -23,6 +23,7 @@ mod reading;
 mod row_table;
 mod row_terms;
 mod rows;
+mod side_table;
 mod sides;
 mod steps;
 mod tables;

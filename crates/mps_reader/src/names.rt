@@ -1,6 +1,6 @@
 //! Tables of names, in the order in which they came.
 
-ghost use Rattle.std.specs.Prelude.{◌≡◌, ℕ, ◌++◌, ◌∷◌, [], OnOk, OnErr, IfErr, None, Some, false, is_some, option_map, length};
+ghost use Rattle.std.specs.Prelude.{◌≡◌, ◌++◌, ◌∷◌, [], IfOk, OnErr, not, true, is_some};
 ghost use Rattle.mps_reader.specs.Words.{named};
 ghost use Rattle.mps_reader.specs.Tables.{table};
 
@@ -18,18 +18,19 @@ pub fn has<'a, V: Drop, B: BuildHasher + Drop>(
     names.contains_key(name)
 }
 
-/// Puts a new name behind the others.
+/// Puts a name behind the others, or says that it is there already. The one error is want of memory.
 pub fn add<'a, V: Drop, B: BuildHasher + Drop>(
     names: &mut IndexMap<&'a [u8], V, B>,
     name: &'a [u8],
     value: V,
-) -> Result<(), AllocError>
-    requires { is_some (named (table names.old.entries) name.now) ≡ false }
-    ensures ok { OnOk result (table names.new.entries ≡ table names.old.entries ++ (name.now, value) ∷ []) }
+) -> Result<bool, AllocError>
+    ensures new { IfOk result (λ is_new. is_new ≡ not (is_some (named (table names.old.entries) name.now))) }
+    ensures added { IfOk result (λ is_new. is_new ≡ true → table names.new.entries ≡ table names.old.entries ++ (name.now, value) ∷ []) }
     ensures err { OnErr result (table names.new.entries ≡ table names.old.entries) }
 {
     match names.insert(name, value) {
-        Ok(_) => Ok(()),
+        Ok(None) => Ok(true),
+        Ok(Some(_)) => Ok(false),
         Err(_) => Err(AllocError),
     }
 }

@@ -1,21 +1,22 @@
 //! The rows and the objective of a problem, where a ranged row gives two rows.
 
-ghost use Rattle.std.specs.Prelude.{◌≡◌, ℕ, ◌++◌, ◌<◌, OnOk, IfOk, IfSome, List, All, Some, length, slice_get};
+ghost use Rattle.std.specs.Prelude.{◌≡◌, ℕ, ◌++◌, ◌<◌, OnOk, IfOk, IfSome, All, None, Some, get_or, length, slice_get};
 ghost use Rattle.std.specs.Option.{option_or};
 ghost use Rattle.fraction.specs.Checked.{abs_ℚ};
 ghost use Rattle.fraction.specs.Rational.{◌+ℚ◌, neg_ℚ};
 ghost use Rattle.problem.specs.Rising.{AreNonzero, AreRising};
-ghost use Rattle.mps_reader.specs.Building.{objective_with, side_in};
+ghost use Rattle.mps_reader.specs.Building.{objective_with, side_of};
 ghost use Rattle.mps_reader.specs.Meaning.{range_of, ranged_rows, rows_from};
 ghost use Rattle.mps_reader.specs.RangedRows.{IsHeld};
+ghost use Rattle.mps_reader.specs.RowState.{kept_terms};
 ghost use Rattle.mps_reader.specs.RowsMade.{made_objective, made_rows};
 ghost use Rattle.mps_reader.specs.Tables.{table};
-ghost use Rattle.mps_reader.specs.Words.{named};
 
 use crate::building::{Parts, side_at};
 use crate::kinds::RowType;
 use crate::row_table::RowTable;
 use crate::rows::is_counted;
+use crate::side_table::SideTable;
 use fraction::Frac;
 use indexmap::IndexMap;
 use problem::{Row, Sense, Terms};
@@ -113,17 +114,6 @@ fn take_row(
     }
 }
 
-/// The number of a name, where the table has one.
-#[tactic(auto, using(crate::specs::Tables::named_table))]
-fn number_of<'a, B: BuildHasher + Drop>(
-    numbers: &IndexMap<&'a [u8], Frac, B>,
-    name: &'a [u8],
-) -> Option<Frac>
-    ensures { result ≡ named (table numbers.now.entries) name.now }
-{
-    numbers.get(name).copied()
-}
-
 /// The name and the type of the row at an index.
 fn row_at<'a, B: BuildHasher + Drop>(
     rows: &IndexMap<&'a [u8], RowType, B>,
@@ -142,16 +132,16 @@ fn row_at<'a, B: BuildHasher + Drop>(
 pub fn ranged_parts<'a, B: BuildHasher + Drop>(
     alloc: Global,
     rows: &IndexMap<&'a [u8], RowType, B>,
-    sides: &IndexMap<&'a [u8], Frac, B>,
-    ranges: &IndexMap<&'a [u8], Frac, B>,
+    sides: &SideTable,
+    ranges: &SideTable,
     terms: RowTable,
 ) -> Result<Parts, AllocError>
     requires count { length terms ≡ length rows.now.entries }
-    requires rising { All (λ t. AreRising t.terms) terms }
-    requires nonzero { All (λ t. AreNonzero t.terms) terms }
-    requires sides { (name : List ℕ) → IsHeld (side_in (table sides.now.entries) name) }
-    requires ranges { (name : List ℕ) → IfSome (named (table ranges.now.entries) name) (λ q. IsHeld q) }
-    ensures rows { IfOk result (λ p. p.rows.items ≡ made_rows (table sides.now.entries) (table ranges.now.entries) (table rows.now.entries) terms) }
+    requires rising { All (λ t. AreRising (kept_terms t)) terms }
+    requires nonzero { All (λ t. AreNonzero (kept_terms t)) terms }
+    requires sides { (i : ℕ) → IsHeld (side_of (get_or sides.now i None)) }
+    requires ranges { (i : ℕ) → IfSome (get_or ranges.now i None) (λ q. IsHeld q) }
+    ensures rows { IfOk result (λ p. p.rows.items ≡ made_rows sides.now ranges.now 0 (table rows.now.entries) terms) }
     ensures objective { IfOk result (λ p. p.objective ≡ made_objective (table rows.now.entries) terms) }
 {
     let mut parts = Parts {
@@ -160,13 +150,13 @@ pub fn ranged_parts<'a, B: BuildHasher + Drop>(
     };
     let mut left = terms;
     for index in 0..rows.len() {
-        let (name, kind) = row_at(rows, index);
+        let (_, kind) = row_at(rows, index);
         take_row(
             alloc,
             &mut parts,
             kind,
-            side_at(sides, name),
-            number_of(ranges, name),
+            side_at(sides, index),
+            ranges.number_at(index),
             left.take_terms(index),
         )?;
     }

@@ -1,13 +1,15 @@
 //! Lines of ROWS.
 
-ghost use Rattle.std.specs.Prelude.{◌≡◌, ℕ, ◌++◌, ◌<◌, ◌≤◌, OnOk, OnErr, IfErr, None, Some, IfSome, is_some, length, Bool, IsErrOf, true, false};
-ghost use Rattle.mps_reader.specs.Words.{row_type_of, named};
+ghost use Rattle.std.specs.Prelude.{◌≡◌, ◌++◌, ◌∷◌, ◌==◌, ◌||◌, [], OnOk, IfOk, IfErr, None};
+ghost use Rattle.mps_reader.specs.Words.{row_type_of};
 ghost use Rattle.mps_reader.specs.Sections.{row_entry};
 ghost use Rattle.mps_reader.specs.Faults.{row_fault, is_counted, counted};
+ghost use Rattle.mps_reader.specs.RowState.{new_row};
+ghost use Rattle.mps_reader.specs.RowsSoFar.{new_rows};
 ghost use Rattle.mps_reader.specs.Tables.{texts, table, Stops};
 
 use crate::kinds::{Kind, RowType, Stop};
-use crate::names::{add, has};
+use crate::names::add;
 use indexmap::IndexMap;
 use std::hash::BuildHasher;
 
@@ -43,15 +45,23 @@ pub fn is_counted(kind: RowType) -> bool
     }
 }
 
-/// Takes a line of ROWS, or says why not.
+/// Whether the terms of a row of this type count behind other rows, so many of which count: the first N row stands behind rows that all count.
+fn keeps_terms(kind: RowType, count: usize, rows: usize) -> bool
+    ensures { result ≡ (is_counted kind || (count == rows)) }
+{
+    is_counted(kind) || count == rows
+}
+
+/// Takes a line of ROWS and says whether the row's terms count, or says why not. Of rows of type N only those of the first one do.
 pub fn row_line<'a, B: BuildHasher + Drop>(
     rows: &mut IndexMap<&'a [u8], RowType, B>,
     count: &mut usize,
     fields: &[&'a [u8]],
-) -> Result<(), Stop>
+) -> Result<bool, Stop>
     requires { count.old ≡ counted (table rows.old.entries) }
     ensures ok { OnOk result ((row_fault (table rows.old.entries) (texts fields.now) ≡ None)
         × (table rows.new.entries ≡ table rows.old.entries ++ row_entry (texts fields.now))) }
+    ensures keeps { IfOk result (λ keeps. new_rows (table rows.old.entries) ++ new_row keeps ∷ [] ≡ new_rows (table rows.new.entries)) }
     ensures err { IfErr result (λ e. Stops e (row_fault (table rows.old.entries) (texts fields.now))) }
     ensures count { OnOk result (count.new ≡ counted (table rows.new.entries)) }
 {
@@ -61,17 +71,17 @@ pub fn row_line<'a, B: BuildHasher + Drop>(
     let Some(kind) = row_type_of(word) else {
         return Err(Stop::Fault(Kind::BadFields));
     };
-    if has(rows, name) {
-        return Err(Stop::Fault(Kind::Duplicate));
-    }
-    if is_counted(kind) && *count >= LIMIT {
-        return Err(Stop::Fault(Kind::TooMany));
-    }
-    if add(rows, *name, kind).is_err() {
-        return Err(Stop::Memory);
+    let keeps = keeps_terms(kind, *count, rows.len());
+    match add(rows, *name, kind) {
+        Ok(true) => {}
+        Ok(false) => return Err(Stop::Fault(Kind::Duplicate)),
+        Err(_) => return Err(Stop::Memory),
     }
     if is_counted(kind) {
+        if *count >= LIMIT {
+            return Err(Stop::Fault(Kind::TooMany));
+        }
         *count += 1;
     }
-    Ok(())
+    Ok(keeps)
 }

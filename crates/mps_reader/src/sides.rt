@@ -1,16 +1,20 @@
 //! Lines of RHS and RANGES.
 
-ghost use Rattle.std.specs.Prelude.{◌≡◌, ◌≢◌, ℕ, ◌+◌, ◌++◌, ◌∷◌, ◌==◌, ◌&&◌, ◌||◌, [], OnOk, IfErr, List, Bool, None, Some, false, if◌then◌else◌, length};
+ghost use Rattle.std.specs.Prelude.{◌≡◌, ◌≢◌, ℕ, ◌<◌, ◌++◌, ◌∷◌, ◌==◌, ◌&&◌, ◌||◌, [], OnOk, IfOk, IfErr, IfSome, List, None, Some, true, false, if◌then◌else◌, length, nat_le, ◌+◌, pos};
+ghost use Rattle.std.specs.Option.{option_map};
+ghost use Rattle.fraction.specs.Rational.{whole};
 ghost use Rattle.mps_lines.specs.Lines.{Line};
-ghost use Rattle.mps_reader.specs.Faults.{counted, differs, is_ranged, side_line_fault, sides_fault};
-ghost use Rattle.mps_reader.specs.Sections.{number, pairs_of, set_of_sides, side_set, sides, sides_of, with_sides};
-ghost use Rattle.mps_reader.specs.SideLines.{HasSides, HasSideLines, named_fault, side_fault_after, some_pairs, some_sides_fault};
+ghost use Rattle.mps_reader.specs.Faults.{counted, differs, is_counted, side_line_fault, sides_fault};
+ghost use Rattle.mps_reader.specs.RowsSoFar.{IsRowAt};
+ghost use Rattle.mps_reader.specs.Sections.{pairs_of, set_of_sides, side_set, sides, sides_of, with_sides};
+ghost use Rattle.mps_reader.specs.SideLines.{HasSides, HasSideLines, named_fault, number_for, side_fault, some_pairs, some_sides_fault};
 ghost use Rattle.mps_reader.specs.Tables.{Stops, table, text_of, texts};
+ghost use Rattle.mps_reader.specs.Words.{named};
 
 use crate::kinds::{Kind, RowType, Stop};
-use crate::names::{add, has};
 use crate::numbers::side_number;
 use crate::rows::is_counted;
+use crate::side_table::SideTable;
 use fraction::Frac;
 use indexmap::IndexMap;
 use std::hash::BuildHasher;
@@ -20,8 +24,8 @@ const LIMIT: u128 = 1000;
 
 /// The numbers of the rows so far, the set's name, and how many of these rows count where they are ranges.
 #[derive(Drop)]
-pub struct Sides<'a, B: BuildHasher + Drop> {
-    pub numbers: IndexMap<&'a [u8], Frac, B>,
+pub struct Sides<'a> {
+    pub numbers: SideTable,
     pub group: Option<&'a [u8]>,
     pub ranged: usize,
 }
@@ -36,17 +40,42 @@ pub fn differs(before: Option<&[u8]>, group: &[u8]) -> bool
     }
 }
 
-/// Whether a name is that of a row that counts.
+/// A row's index and type, with the number that a line gives it.
+#[derive(Clone, Copy)]
+struct Given {
+    index: usize,
+    kind: RowType,
+    number: Frac,
+}
+
+/// The index and the type of a row, where ROWS names it.
 #[tactic(auto, using(crate::specs::Tables::named_table))]
-fn is_ranged<'a, B: BuildHasher + Drop>(
+fn row_in<'a, B: BuildHasher + Drop>(
     rows: &IndexMap<&'a [u8], RowType, B>,
     name: &'a [u8],
-) -> bool
-    ensures { result ≡ is_ranged (table rows.now.entries) name.now }
+) -> Option<(usize, RowType)>
+    ensures row { IfSome result (λ r. IsRowAt rows.now.entries name.now r.0) }
+    ensures kind { option_map (λ r. r.1) result ≡ named (table rows.now.entries) name.now }
 {
-    match rows.get(name).copied() {
-        Some(kind) => is_counted(kind),
-        None => false,
+    let index = rows.get_index_of(name)?;
+    Some((index, rows[index]))
+}
+
+/// Whether a row of this type counts once more in this section.
+fn counts_twice(are_ranges: bool, kind: RowType) -> bool
+    ensures { result ≡ (are_ranges && is_counted kind) }
+{
+    are_ranges && is_counted(kind)
+}
+
+/// The number that is kept of a row of this type: 0 where it doesn't count.
+fn number_for(kind: RowType, number: Frac) -> Frac
+    ensures { result ≡ (if is_counted kind then number else whole (pos 0)) }
+{
+    if is_counted(kind) {
+        number
+    } else {
+        Frac::of(0)
     }
 }
 
@@ -59,9 +88,55 @@ fn are_pairs(fields: &[&[u8]]) -> bool
     fields.len() == 2 || fields.len() == 4
 }
 
-impl<'a, B: BuildHasher + Drop> Sides<'a, B> {
-    /// Takes a row with its value, or says why not.
-    fn take(
+impl<'a> Sides<'a> {
+    /// Whether there is no room for one more row where it counts, after so many rows and the ranged ones.
+    fn is_full(&self, count: usize, counts: bool) -> bool
+        ensures full { result ≡ (counts && nat_le 1000 (count + self.now.ranged)) }
+        ensures few { result ≡ false → counts ≡ true → self.now.ranged < 1000 }
+    {
+        counts && count as u128 + self.ranged as u128 >= LIMIT
+    }
+
+    /// A row's index and type with its number, or why it isn't taken.
+    fn judged<B: BuildHasher + Drop>(
+        &self,
+        rows: &IndexMap<&'a [u8], RowType, B>,
+        count: usize,
+        are_ranges: bool,
+        row: &'a [u8],
+        value: &'a [u8],
+    ) -> Result<Given, Stop>
+        requires { count ≡ counted (table rows.now.entries) }
+        ensures row { IfOk result (λ g. IsRowAt rows.now.entries row.now g.index) }
+        ensures kind { IfOk result (λ g. named (table rows.now.entries) row.now ≡ Some g.kind) }
+        ensures number { IfOk result (λ g. g.number ≡ number_for g.kind value.now) }
+        ensures few { IfOk result (λ g. (are_ranges && is_counted g.kind) ≡ true → self.now.ranged < 1000) }
+        ensures ok { (before : List (List ℕ × List ℕ)) → HasSides are_ranges (table rows.now.entries) self.now before → IfOk result (λ g.
+            side_fault are_ranges (table rows.now.entries) before (row.now, value.now) ≡ None) }
+        ensures err { (before : List (List ℕ × List ℕ)) → HasSides are_ranges (table rows.now.entries) self.now before → IfErr result (λ stop.
+            Stops stop (side_fault are_ranges (table rows.now.entries) before (row.now, value.now))) }
+    {
+        let Some((index, kind)) = row_in(rows, row) else {
+            return Err(Stop::Fault(Kind::UnknownRow));
+        };
+        if self.numbers.number_at(index).is_some() {
+            return Err(Stop::Fault(Kind::Duplicate));
+        }
+        if self.is_full(count, counts_twice(are_ranges, kind)) {
+            return Err(Stop::Fault(Kind::TooMany));
+        }
+        match side_number(value) {
+            Ok(number) => Ok(Given {
+                index,
+                kind,
+                number: number_for(kind, number),
+            }),
+            Err(stop) => Err(stop),
+        }
+    }
+
+    /// Takes a row with its value after those before, or says why not.
+    fn take<B: BuildHasher + Drop>(
         &mut self,
         rows: &IndexMap<&'a [u8], RowType, B>,
         count: usize,
@@ -69,37 +144,29 @@ impl<'a, B: BuildHasher + Drop> Sides<'a, B> {
         row: &'a [u8],
         value: &'a [u8],
     ) -> Result<(), Stop>
-        ensures fine { OnOk result (side_fault_after are_ranges (table rows.now.entries) (table self.old.numbers.entries) (count + self.old.ranged) (row.now, value.now) ≡ None) }
-        ensures numbers { OnOk result (table self.new.numbers.entries ≡ table self.old.numbers.entries ++ (row.now, number value.now) ∷ []) }
-        ensures ranged { OnOk result (self.new.ranged ≡ self.old.ranged + (if are_ranges && is_ranged (table rows.now.entries) row.now then 1 else 0)) }
+        requires { count ≡ counted (table rows.now.entries) }
+        ensures ok { (before : List (List ℕ × List ℕ)) → HasSides are_ranges (table rows.now.entries) self.old before → OnOk result (
+            (side_fault are_ranges (table rows.now.entries) before (row.now, value.now) ≡ None)
+            × HasSides are_ranges (table rows.now.entries) self.new (before ++ (row.now, value.now) ∷ [])) }
         ensures group { OnOk result (text_of self.new.group ≡ text_of self.old.group) }
-        ensures err { IfErr result (λ stop. Stops stop (side_fault_after are_ranges (table rows.now.entries) (table self.old.numbers.entries) (count + self.old.ranged) (row.now, value.now))) }
+        ensures err { (before : List (List ℕ × List ℕ)) → HasSides are_ranges (table rows.now.entries) self.old before → IfErr result (λ stop.
+            Stops stop (side_fault are_ranges (table rows.now.entries) before (row.now, value.now))) }
     {
-        if !has(rows, row) {
-            return Err(Stop::Fault(Kind::UnknownRow));
-        }
-        if has(&self.numbers, row) {
-            return Err(Stop::Fault(Kind::Duplicate));
-        }
-        let counts = are_ranges && is_ranged(rows, row);
-        if counts && count as u128 + self.ranged as u128 >= LIMIT {
-            return Err(Stop::Fault(Kind::TooMany));
-        }
-        let number = match side_number(value) {
-            Ok(number) => number,
+        let given = match self.judged(rows, count, are_ranges, row, value) {
+            Ok(given) => given,
             Err(stop) => return Err(stop),
         };
-        if add(&mut self.numbers, row, number).is_err() {
+        if self.numbers.put(given.index, given.number).is_err() {
             return Err(Stop::Memory);
         }
-        if counts {
+        if counts_twice(are_ranges, given.kind) {
             self.ranged += 1;
         }
         Ok(())
     }
 
-    /// Takes one row with its value after those before, or says why not.
-    fn take_one(
+    /// Takes one row with its value, or says why not.
+    fn take_one<B: BuildHasher + Drop>(
         &mut self,
         rows: &IndexMap<&'a [u8], RowType, B>,
         count: usize,
@@ -119,7 +186,7 @@ impl<'a, B: BuildHasher + Drop> Sides<'a, B> {
     }
 
     /// Takes two rows with their values, or says why not.
-    fn take_two(
+    fn take_two<B: BuildHasher + Drop>(
         &mut self,
         rows: &IndexMap<&'a [u8], RowType, B>,
         count: usize,
@@ -142,7 +209,7 @@ impl<'a, B: BuildHasher + Drop> Sides<'a, B> {
     }
 
     /// Takes rows with their values behind a set's name or none, or says why not.
-    fn take_pairs(
+    fn take_pairs<B: BuildHasher + Drop>(
         &mut self,
         rows: &IndexMap<&'a [u8], RowType, B>,
         count: usize,
@@ -171,7 +238,7 @@ impl<'a, B: BuildHasher + Drop> Sides<'a, B> {
     }
 
     /// Takes rows with their values behind a set's name, or says why not.
-    fn take_named(
+    fn take_named<B: BuildHasher + Drop>(
         &mut self,
         rows: &IndexMap<&'a [u8], RowType, B>,
         count: usize,
@@ -200,7 +267,7 @@ impl<'a, B: BuildHasher + Drop> Sides<'a, B> {
     }
 
     /// Takes the fields of a line without a set's name, or says why not.
-    fn take_plain(
+    fn take_plain<B: BuildHasher + Drop>(
         &mut self,
         rows: &IndexMap<&'a [u8], RowType, B>,
         count: usize,
@@ -221,7 +288,7 @@ impl<'a, B: BuildHasher + Drop> Sides<'a, B> {
     }
 
     /// Takes the fields of a line, or says why not: an odd count begins with a set's name.
-    pub fn take_line(
+    pub fn take_line<B: BuildHasher + Drop>(
         &mut self,
         rows: &IndexMap<&'a [u8], RowType, B>,
         count: usize,

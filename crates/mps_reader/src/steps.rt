@@ -59,8 +59,11 @@ fn rows_line<'a, B: BuildHasher + Drop>(
     if !are_fields(fields) {
         return Err(Stop::Fault(Kind::BadFields));
     }
-    row_line(&mut tables.rows, &mut tables.count, fields)?;
-    match tables.columns.rows.push() {
+    let keeps = match row_line(&mut tables.rows, &mut tables.count, fields) {
+        Ok(keeps) => keeps,
+        Err(stop) => return Err(stop),
+    };
+    match tables.columns.rows.push(keeps) {
         Ok(()) => Ok(()),
         Err(_) => Err(Stop::Memory),
     }

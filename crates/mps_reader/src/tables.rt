@@ -18,7 +18,7 @@ pub struct Tables<'a, B: BuildHasher + Drop> {
     pub count: usize,
     pub columns: Columns<'a, B>,
     pub is_marked: bool,
-    pub rhs: Sides<'a, B>,
-    pub ranges: Sides<'a, B>,
+    pub rhs: Sides<'a>,
+    pub ranges: Sides<'a>,
     pub bounds: Bounds<'a, B>,
 }

@@ -23,7 +23,7 @@ use Rattle.plain_search.specs.FirstSearch.{State, start, cutoff, box_of, multipl
 use Rattle.plain_search.specs.Laws.{IsSpent, SpentIsBelow}
 use Rattle.plain_search.specs.PointCount.{span_count, point_count}
 use Rattle.plain_search.specs.Standing.{IsStanding}
-use Rattle.plain_search.proofs.Boxes.{root_box}
+use Rattle.cert_tree.proofs.Boxes.{root_box}
 use Rattle.plain_search.proofs.Endings.{ended_length, parted_length}
 use Rattle.plain_search.proofs.Splits.{IsFree, middle_low, middle_high}
 use Rattle.plain_search.proofs.Standing.{as_good_itself, closed_box, corner_below, improves}

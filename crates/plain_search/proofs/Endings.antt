@@ -1,6 +1,6 @@
 -- How nodes stand after a node has ended or has been split.
-use Rattle.std.specs.Prelude.{◌≡◌, ◌<◌, ◌≤◌, ◌+◌, ℕ, zero, suc, ℤ, List, [], ◌∷◌, ◌++◌, map, length, Option, Some, None, slice_index_or, slice_set, refl}
-use Rattle.std.proofs.Common.{sym, ap, ◌∙◌, subst, inl, inr, arith, length-append}
+use Rattle.std.specs.Prelude.{◌≡◌, ◌<◌, ◌≤◌, ◌+◌, ℕ, ℤ, List, [], ◌∷◌, length, Some, None, refl}
+use Rattle.std.proofs.Common.{sym, ap, ◌∙◌, inl, inr, arith}
 use Rattle.std.proofs.lemmas.Bool.{cases_eq, cases_lt}
 use Rattle.std.proofs.lemmas.List.{append-nil, get_or_append_left, get_or_push, get_or-set_same, get_or-set_other, length-set, length-map, length_push}
 use Rattle.problem.specs.Program.{Program}
@@ -9,7 +9,8 @@ use Rattle.cert_merge.specs.Open.{OpenNode, OpenSearch, open_node_at, with_node,
 use Rattle.cert_tree.specs.Finished.{IsTree, IsReached, left_branch, right_branch}
 use Rattle.cert_tree.specs.Continued.{IsAsGood, IsContinued}
 use Rattle.plain_search.specs.FirstSearch.{box_of, parted}
-use Rattle.plain_search.proofs.Boxes.{branch_is, same_box}
+use Rattle.cert_tree.proofs.Boxes.{same_box}
+use Rattle.plain_search.proofs.SoFar.{branch_is}
 
 -- ---- one change
 module _ (s : OpenSearch) (i : ℕ) (e : Ending) (h : i < length s.nodes) where

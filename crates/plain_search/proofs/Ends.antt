@@ -1,10 +1,8 @@
 -- Where first searches end.
 use Rattle.std.specs.Prelude.{◌≡◌, ◌⊎◌, ◌<◌, ◌≤◌, ◌+◌, ℕ, zero, suc, nat_lt, Bool, true, false, cond, List, [], ◌∷◌, length, All, Option, Some, None, refl}
-use Rattle.std.specs.List.{Contains}
 use Rattle.std.specs.Option.{option_map_or}
 use Rattle.std.proofs.Common.{sym, ap, ◌∙◌, subst, inl, inr, arith}
 use Rattle.std.proofs.lemmas.Bool.{ltb-true, ltb-false}
-use Rattle.std.proofs.lemmas.List.{nil_from_length}
 use Rattle.std.proofs.lemmas.List.Elements.{All-head}
 use Rattle.std.proofs.lemmas.Option.{none-some}
 use Rattle.problem.specs.Limited.{IsLimited, rows_below}
@@ -15,13 +13,13 @@ use Rattle.row_activity.specs.Activity.{span_at}
 use Rattle.row_activity.specs.Verdicts.{verdict}
 use Rattle.row_activity.specs.Meaning.{Tells}
 use Rattle.row_activity.specs.Laws.{verdict_tells}
-use Rattle.cert_merge.specs.Search.{Ending, Node, Cut, node_at}
-use Rattle.cert_merge.specs.Open.{OpenSearch, open_node_at, so_far, node_so_far, ended}
+use Rattle.cert_merge.specs.Search.{Ending, Node, node_at}
+use Rattle.cert_merge.specs.Open.{OpenSearch, open_node_at, so_far, ended}
 use Rattle.cert_tree.specs.Finished.{HasEnded, AreCutsBehind, IsFinished}
 use Rattle.cert_tree.proofs.Finishing.{certificate_valid, certificate_answers}
-use Rattle.plain_search.specs.FirstSearch.{State, start, cutoff, box_of, corner, first_free, middle, parted, treated, taken, step, steps, first_search}
-use Rattle.plain_search.specs.Laws.{StepsAreEnough, IsSpent, SpentIsSpent, IsImprovement, PointsImprove, IsDone, FinishedIsFinished}
-use Rattle.plain_search.proofs.Boxes.{node_is}
+use Rattle.plain_search.specs.FirstSearch.{State, start, cutoff, box_of, first_free, middle, parted, treated, taken, step, steps, first_search}
+use Rattle.plain_search.specs.Laws.{StepsAreEnough, IsSpent, SpentIsSpent, PointsImprove, FinishedIsFinished}
+use Rattle.plain_search.proofs.SoFar.{node_is}
 use Rattle.plain_search.proofs.Endings.{ended_length, parted_length, size_is}
 use Rattle.plain_search.specs.Standing.{IsStanding}
 use Rattle.plain_search.proofs.Standing.{corner_feasible, corner_below}

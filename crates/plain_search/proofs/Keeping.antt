@@ -18,7 +18,7 @@ use Rattle.row_activity.specs.declared.verdict.Verdict.TheVariants.{Unsettled}
 use Rattle.row_activity.specs.Verdicts.{verdict}
 use Rattle.row_activity.specs.Activity.{span_at}
 use Rattle.cert_merge.specs.Search.{Ending}
-use Rattle.plain_search.proofs.Boxes.{root_box}
+use Rattle.cert_tree.proofs.Boxes.{root_box}
 use Rattle.cert_merge.specs.Open.{OpenSearch, started, with_ending, so_far}
 use Rattle.cert_tree.specs.Continued.{IsAsGood}
 use Rattle.cert_tree.proofs.Sources.{length-box}

@@ -1,5 +1,5 @@
 mod Prices
-mod Boxes
+mod SoFar
 mod Endings
 mod Standing
 mod Splits

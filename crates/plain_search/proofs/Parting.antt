@@ -1,13 +1,12 @@
 -- What holds of a search on the way holds after a split, and after each step.
-use Rattle.std.specs.Prelude.{◌≡◌, ◌⊎◌, ◌<◌, ◌≤◌, ◌+◌, ℕ, zero, suc, ℤ, pos, ◌+ℤ◌, ◌≤ℤ◌, ◌<ℤ◌, nat_lt, Bool, true, false, cond, List, [], ◌∷◌, length, All, Option, Some, None, slice_get, refl}
+use Rattle.std.specs.Prelude.{◌≡◌, ◌⊎◌, ◌<◌, ◌≤◌, ◌+◌, ℕ, zero, suc, ℤ, pos, ◌+ℤ◌, ◌≤ℤ◌, nat_lt, Bool, true, false, cond, List, [], ◌∷◌, length, All, Option, Some, None, refl}
 use Rattle.std.specs.List.{Contains}
-use Rattle.std.specs.Option.{ForSome, option_map_or}
+use Rattle.std.specs.Option.{option_map_or}
 use Rattle.std.proofs.Common.{sym, ap, ◌∙◌, subst, inl, inr, arith}
 use Rattle.std.proofs.lemmas.Int.{ints}
 use Rattle.std.proofs.lemmas.Bool.{cases_eq, cases_lt}
 use Rattle.std.proofs.lemmas.List.Elements.{All-nil, All-cons, All-head, All-tail, All-weaker}
 use Rattle.std.proofs.lemmas.Option.{same_Some, none-some}
-use Rattle.fraction.specs.Rational.{ℚ}
 use Rattle.problem_box.specs.declared.span.Span.{Span}
 use Rattle.problem_box.specs.Changes.{cut_low, cut_high}
 use Rattle.problem.specs.Limited.{IsModestSpan}
@@ -16,16 +15,17 @@ use Rattle.row_activity.specs.declared.verdict.Verdict.{Verdict}
 use Rattle.row_activity.specs.declared.verdict.Verdict.TheVariants.{Empty, Refuted, Priced, Point, Unsettled}
 use Rattle.row_activity.specs.Activity.{span_at}
 use Rattle.row_activity.specs.Verdicts.{verdict}
-use Rattle.row_activity.specs.Meaning.{IsOpen, Tells}
+use Rattle.row_activity.specs.Meaning.{Tells}
 use Rattle.row_activity.specs.Laws.{verdict_tells}
 use Rattle.row_activity.specs.Cuts.{modest-cut_high, modest-cut_low}
-use Rattle.cert_merge.specs.Search.{Branch, Ending, split, node_at}
+use Rattle.cert_merge.specs.Search.{Branch, Ending, split}
 use Rattle.cert_merge.specs.Open.{OpenNode, OpenSearch, open_node_at, so_far}
-use Rattle.cert_tree.specs.Finished.{IsTree, IsReached, HasEnded, left_branch, right_branch}
+use Rattle.cert_tree.specs.Finished.{IsTree, HasEnded, left_branch, right_branch}
 use Rattle.cert_tree.proofs.Continuing.{endings_stay}
-use Rattle.plain_search.specs.FirstSearch.{State, start, cutoff, box_of, first_free, middle, parted, treated, taken, step, steps, first_search}
+use Rattle.plain_search.specs.FirstSearch.{State, start, cutoff, box_of, first_free, middle, parted, treated, taken, step, steps}
 use Rattle.plain_search.specs.Laws.{AreFalling}
-use Rattle.plain_search.proofs.Boxes.{branch_is, root_box, child_box}
+use Rattle.cert_tree.proofs.Boxes.{root_box, child_box}
+use Rattle.plain_search.proofs.SoFar.{branch_is}
 use Rattle.plain_search.proofs.Endings.{IsGrown, continued, old_box, grown_tree, size_is, parted_length, parted_here, parted_old, parted_branch, parted_left, parted_right}
 use Rattle.plain_search.specs.Standing.{IsPart, IsStanding}
 use Rattle.plain_search.proofs.Standing.{not_head, further, as_good_itself, closed_empty, closed_refuted, closed_priced, closed_point}

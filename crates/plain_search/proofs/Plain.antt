@@ -1,11 +1,11 @@
 -- A first search closes its nodes by an empty column, by one row, or by the objective's own bounds, and has few nodes.
-use Rattle.std.specs.Prelude.{◌≡◌, ◌⊎◌, ◌<◌, ◌≤◌, ◌+◌, ◌*◌, ◌^◌, ℕ, zero, suc, ℤ, pos, negsuc, nat_lt, Bool, true, false, cond, List, [], ◌∷◌, length, All, Option, Some, None, IfSome, slice_get, refl}
+use Rattle.std.specs.Prelude.{◌≡◌, ◌⊎◌, ◌<◌, ◌≤◌, ◌+◌, ◌^◌, ℕ, zero, suc, ℤ, pos, negsuc, nat_lt, Bool, true, false, cond, List, [], ◌∷◌, length, Option, Some, None, IfSome, slice_get, refl}
 use Rattle.std.specs.Option.{option_map_or}
 use Rattle.std.proofs.Common.{sym, ap, ◌∙◌, subst, inl, inr, arith}
 use Rattle.std.proofs.lemmas.Bool.{cases_eq, cases_lt, ltb-false}
 use Rattle.std.proofs.lemmas.List.Elements.{All-head}
 use Rattle.std.proofs.lemmas.Option.{same_Some, none-some, slice_get_within}
-use Rattle.fraction.specs.Rational.{ℚ, whole}
+use Rattle.fraction.specs.Rational.{whole}
 use Rattle.problem_box.specs.declared.span.Span.{Span}
 use Rattle.problem_box.specs.Boxes.{IsInBox}
 use Rattle.problem.specs.Limited.{IsLimited}
@@ -18,7 +18,7 @@ use Rattle.row_activity.specs.Activity.{span_at}
 use Rattle.row_activity.specs.Verdicts.{verdict}
 use Rattle.row_activity.specs.Meaning.{Tells}
 use Rattle.row_activity.specs.Laws.{verdict_tells}
-use Rattle.cert_merge.specs.Search.{Branch, Ending, empty, refute, bound, split, Node, Search, node_at, path_of}
+use Rattle.cert_merge.specs.Search.{Branch, Ending, empty, refute, bound, split, Node, node_at, path_of}
 use Rattle.cert_merge.specs.Open.{OpenNode, OpenSearch, open_node_at, with_ending, so_far, ended}
 use Rattle.cert_merge.specs.Plain.{IsOneRow, IsPlainEnding, IsPlain}
 use Rattle.cert_merge.specs.Setters.{IsBranchWithin}
@@ -28,7 +28,7 @@ use Rattle.cert_tree.proofs.Sources.{length-box}
 use Rattle.plain_search.specs.FirstSearch.{State, start, cutoff, box_of, multiplier, first_free, middle, parted, treated, taken, step, steps, first_search}
 use Rattle.plain_search.specs.Laws.{FinishedIsPlain}
 use Rattle.plain_search.specs.Standing.{IsStanding}
-use Rattle.plain_search.proofs.Boxes.{node_is, branch_is}
+use Rattle.plain_search.proofs.SoFar.{node_is, branch_is}
 use Rattle.plain_search.proofs.Endings.{ended_here, ended_elsewhere, ended_branch, ended_length, parted_length, parted_here, parted_old, parted_branch, parted_left, parted_right, size_is}
 use Rattle.plain_search.proofs.Parting.{Stays, start_stands, step_stands, steps_stand, open_free}
 use Rattle.plain_search.proofs.Ends.{all_ended}

@@ -1,5 +1,5 @@
 -- The price of what a verdict tells, as a difference of values at a point of the box.
-use Rattle.std.specs.Prelude.{◌≡◌, ◌<◌, ◌≤◌, ◌+◌, ℕ, zero, suc, ℤ, pos, negsuc, ◌≤ℤ◌, ◌*ℤ◌, int_lt, Bool, true, false, cond, List, [], ◌∷◌, ◌++◌, map, length, All, Some, slice_get, slice_index_or, refl}
+use Rattle.std.specs.Prelude.{◌≡◌, ◌<◌, ◌+◌, ℕ, zero, suc, ℤ, pos, negsuc, ◌≤ℤ◌, int_lt, Bool, true, false, cond, List, [], ◌∷◌, ◌++◌, map, length, Some, slice_get, refl}
 use Rattle.std.proofs.Common.{sym, ap, ◌∙◌, subst, inl, inr, arith, length-append}
 use Rattle.std.proofs.lemmas.Int.{ints}
 use Rattle.std.proofs.lemmas.List.{get_or_append_left}
@@ -22,12 +22,12 @@ use Rattle.row_activity.specs.Activity.{low_end, low_of, high_of, IsNonempty}
 use Rattle.row_activity.specs.Extremes.{low_of-≤ℚ, ≤ℚ-high_of}
 use Rattle.row_activity.specs.Meaning.{IsMissed}
 use Rattle.cert_rows.specs.Lines.{Line, row_at, no_line}
-use Rattle.cert_rows.specs.Combination.{HasRightSign, combined_terms, combined_rhs}
+use Rattle.cert_rows.specs.Combination.{HasRightSign}
 use Rattle.cert_rows.specs.Validity.{IsCombination, bound_rows}
 use Rattle.cert_merge.specs.Closing.{left_of, fillings_price, price}
 use Rattle.cert_merge.specs.Search.{Cut}
 use Rattle.cert_merge.specs.Merged.{base_lines}
-use Rattle.cert_tree.proofs.Base.{bare, length-base}
+use Rattle.cert_tree.proofs.Base.{bare_row, length-base}
 use Rattle.plain_search.specs.FirstSearch.{multiplier}
 
 -- ---- minus one
@@ -121,11 +121,6 @@ bare_price ls target ss n =
     (at.point, at.inside, zero-+ℚ _ ∙ at.priced ∙ ap (λ v. value target at.point +ℚ v) (*ℚ-zero minus) ∙ +ℚ-zero _)
 
 -- ---- one row
-bare_row : (rs : List Row) (i : ℕ) → row_at (map bare rs) i ≡ slice_index_or rs i no_line.row
-bare_row [] i = refl
-bare_row (r ∷ rs) zero = refl
-bare_row (r ∷ rs) (suc i) = bare_row rs i
-
 module _ (p : Program) (cs : List Cut) (i : ℕ) (r : Row) (there : slice_get p.rows i ≡ Some r) where
   pub row_there : i < length (base_lines p cs)
   row_there = let k = slice_get_within p.rows i r there in omega (arith, k, length-base p cs)

@@ -1,15 +1,12 @@
 -- The limits of a small problem with whole coefficients.
-use Rattle.std.specs.Prelude.{◌≡◌, ◌<◌, ◌≤◌, ◌*◌, ◌^◌, ℕ, ℤ, pos, nat_abs, [], ◌∷◌, All}
+use Rattle.std.specs.Prelude.{◌≡◌, ◌<◌, ◌≤◌, ◌^◌, ℕ, ℤ, pos, nat_abs, [], ◌∷◌, All}
 use Rattle.std.proofs.Common.{sym, ap, ◌∙◌, arith}
-use Rattle.std.proofs.Math.Nat.{one-dvd}
 use Rattle.std.proofs.lemmas.List.Elements.{All-nil, All-cons}
 use Rattle.fraction.specs.Rational.{ℚ, whole}
-use Rattle.fraction.specs.Bounds.{Within, whole_parts}
+use Rattle.fraction.specs.Bounds.{whole_parts}
 use Rattle.problem.specs.Modest.{IsModest}
 use Rattle.problem.specs.Limited.{AreLimited}
-
-pub whole_within : (z : ℤ) (a : ℕ) → nat_abs z * 10 ^ 15 ≤ a → Within (10 ^ 15) a (whole z)
-whole_within z a h = record { divides = rw (whole_parts z).1 (one-dvd (10 ^ 15)); size = rw (whole_parts z).0 (rw (whole_parts z).1 (omega arith)) }
+use Rattle.row_activity.proofs.Samples.{whole_within}
 
 nonzero : (z : ℤ) → (z ≡ pos 0 → ⊥) → whole z ≡ whole (pos 0) → ⊥
 nonzero z n e = n (sym (whole_parts z).0 ∙ ap (λ (q : ℚ). q.num) e ∙ (whole_parts (pos 0)).0)

@@ -1,14 +1,14 @@
 -- The box of an unsettled node is split within its first free column.
-use Rattle.std.specs.Prelude.{◌≡◌, ◌<◌, ◌≤◌, ◌+◌, ◌^◌, nat_abs, ℕ, zero, suc, ℤ, pos, ◌+ℤ◌, ◌*ℤ◌, ◌≤ℤ◌, ◌<ℤ◌, int_lt, nat_lt, Bool, true, false, cond, List, [], ◌∷◌, All, length, map, take, Option, Some, None, slice_get, slice_index_or, ◌++◌, refl}
+use Rattle.std.specs.Prelude.{◌≡◌, ◌<◌, ◌≤◌, ◌+◌, ◌^◌, nat_abs, ℕ, zero, suc, ℤ, pos, ◌+ℤ◌, ◌≤ℤ◌, ◌<ℤ◌, int_lt, nat_lt, Bool, true, false, cond, List, [], ◌∷◌, All, length, take, Some, slice_get, slice_index_or, ◌++◌, refl}
 use Rattle.std.specs.Option.{ForSome}
 use Rattle.std.proofs.Common.{sym, ap, ◌∙◌, subst, arith}
 use Rattle.std.proofs.lemmas.Int.{ints}
 use Rattle.std.proofs.lemmas.List.Elements.{All-nil, All-cons, All-head, All-tail}
 use Rattle.std.proofs.lemmas.Option.{same_Some, none-some, slice_get_within, get_or_from_slice_get}
 use Rattle.std.proofs.lemmas.List.{take_more, length-map, get_or-map}
-use Rattle.fraction.specs.Rational.{floor_div, floor_below, floor_least}
+use Rattle.fraction.specs.Rational.{floor_below, floor_least}
 use Rattle.problem_box.specs.declared.span.Span.{Span}
-use Rattle.problem_box.specs.Boxes.{IsWithin, IsInBox}
+use Rattle.problem_box.specs.Boxes.{IsInBox}
 use Rattle.problem_box.specs.Changes.{cut_low, cut_high, IsFixed, IsFirstFree}
 use Rattle.problem.specs.Limited.{IsModestSpan}
 use Rattle.row_activity.specs.Activity.{span_at, IsNonempty}

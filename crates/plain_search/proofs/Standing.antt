@@ -1,46 +1,40 @@
 -- What holds of a search on the way.
-use Rattle.std.specs.Prelude.{◌≡◌, ◌⊎◌, ◌<◌, ◌≤◌, ◌+◌, ℕ, zero, suc, ℤ, pos, ◌+ℤ◌, ◌≤ℤ◌, ◌<ℤ◌, int_lt, nat_lt, Bool, true, false, cond, List, [], ◌∷◌, ◌++◌, map, length, take, All, Option, Some, None, slice_get, slice_index_or, refl}
+use Rattle.std.specs.Prelude.{◌≡◌, ◌<◌, ℕ, zero, suc, ℤ, pos, false, List, [], ◌∷◌, length, Option, Some, None, refl}
 use Rattle.std.specs.List.{Contains}
 use Rattle.std.specs.Option.{ForSome}
 use Rattle.std.proofs.Common.{sym, ap, ◌∙◌, subst, inl, inr, arith}
 use Rattle.std.proofs.lemmas.Int.{ints}
-use Rattle.std.proofs.lemmas.Bool.{cases_eq, cases_lt, false≢true}
-use Rattle.std.proofs.lemmas.List.Elements.{All-nil, All-cons, All-head, All-tail, All-weaker, All-contains}
-use Rattle.std.proofs.lemmas.Option.{same_Some, none-some, get_or_from_slice_get}
-use Rattle.fraction.specs.Rational.{ℚ, whole, ◌≤ℚ◌, ≤ℚ_refl, ≤ℚ_trans, floor_div, floor_below, floor_least}
+use Rattle.std.proofs.lemmas.Bool.{cases_eq, false≢true}
+use Rattle.std.proofs.lemmas.List.Elements.{All-nil, All-head, All-tail, All-weaker}
+use Rattle.std.proofs.lemmas.Option.{same_Some, none-some}
+use Rattle.fraction.specs.Rational.{ℚ, whole, ◌≤ℚ◌, ≤ℚ_refl}
 use Rattle.fraction.specs.Order.{◌<ℚ◌, same_le, less_at_most}
 use Rattle.problem_box.specs.declared.span.Span.{Span}
-use Rattle.problem_box.specs.Boxes.{IsWithin, IsInBox}
-use Rattle.problem_box.specs.Changes.{cut_low, cut_high, IsFixed}
-use Rattle.problem.specs.Limited.{IsModestSpan}
+use Rattle.problem_box.specs.Boxes.{IsInBox}
+use Rattle.problem_box.specs.Changes.{IsFixed}
 use Rattle.problem.specs.Program.{Program}
 use Rattle.problem.specs.Feasible.{IsFeasible, objective_at}
 use Rattle.row_activity.specs.declared.verdict.Sign.{Sign}
-use Rattle.row_activity.specs.declared.verdict.Verdict.{Verdict}
-use Rattle.row_activity.specs.declared.verdict.Verdict.TheVariants.{Empty, Refuted, Priced, Point, Unsettled}
-use Rattle.row_activity.specs.Activity.{span_at, low_of, IsNonempty}
-use Rattle.row_activity.specs.Extremes.{low_of-≤ℚ}
+use Rattle.row_activity.specs.declared.verdict.Verdict.TheVariants.{Empty, Refuted, Priced, Point}
+use Rattle.row_activity.specs.Activity.{low_of, IsNonempty}
 use Rattle.row_activity.specs.Verdicts.{first_empty, first_of_all, refuted_from, reaches, is_fixed, verdict}
-use Rattle.row_activity.specs.Meaning.{IsRefuted, IsPriced, IsOnePoint, IsOpen, Tells}
-use Rattle.row_activity.specs.Laws.{first_empty_tells, verdict_tells, feasible_point}
-use Rattle.row_activity.specs.Cuts.{modest-cut_high, modest-cut_low}
+use Rattle.row_activity.specs.Meaning.{IsRefuted, IsPriced, IsOnePoint, Tells}
+use Rattle.row_activity.specs.Laws.{first_empty_tells, feasible_point}
 use Rattle.problem.specs.declared.row.Sense.TheVariants.{G}
 use Rattle.cert_rows.specs.Lines.{row_at}
 use Rattle.cert_rows.specs.Combination.{HasRightSign}
 use Rattle.cert_rows.specs.Validity.{IsCombination}
 use Rattle.cert_merge.specs.Closing.{price}
-use Rattle.cert_merge.specs.Search.{Branch, Ending, empty, refute, bound, split, node_at, low, high}
+use Rattle.cert_merge.specs.Search.{Ending, empty, refute, bound}
 use Rattle.cert_merge.specs.Open.{OpenNode, OpenSearch, open_node_at, with_ending, so_far}
 use Rattle.cert_merge.specs.Merged.{base_lines}
-use Rattle.cert_tree.specs.Finished.{IsCrossed, IsTree, HasEnded, IsIncumbent, left_branch, right_branch}
-use Rattle.cert_tree.specs.Continued.{IsAsGood, IsContinued}
+use Rattle.cert_tree.specs.Finished.{IsCrossed, HasEnded, IsIncumbent}
+use Rattle.cert_tree.specs.Continued.{IsAsGood}
 use Rattle.cert_tree.proofs.Continuing.{endings_stay}
-use Rattle.plain_search.specs.FirstSearch.{State, start, cutoff, box_of, multiplier, corner, first_free, middle, closed, improved, parted, treated, taken, step, steps, first_search}
-use Rattle.plain_search.specs.Laws.{AreFalling}
+use Rattle.plain_search.specs.FirstSearch.{cutoff, box_of, multiplier, corner, closed, improved}
 use Rattle.plain_search.specs.Standing.{IsPart, IsStanding}
-use Rattle.plain_search.proofs.Boxes.{branch_is, root_box, child_box}
 use Rattle.plain_search.proofs.Prices.{row_above, row_combined, bare_price}
-use Rattle.plain_search.proofs.Endings.{ended_here, ended_elsewhere, ended_branch, ended_length, IsGrown, continued, old_box, grown_tree, size_is, parted_length, parted_here, parted_old, parted_branch, parted_left, parted_right}
+use Rattle.plain_search.proofs.Endings.{ended_here, ended_elsewhere, ended_branch, ended_length, IsGrown, continued, old_box, grown_tree, size_is}
 
 -- ---- lists of numbers
 pub not_head : (i : ℕ) (rest : List ℕ) (k : ℕ) → Contains (i ∷ rest) k → (k ≡ i → ⊥) → Contains rest k

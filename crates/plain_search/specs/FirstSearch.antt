@@ -1,5 +1,5 @@
 -- The first search: depth first, the open node of greatest number next, each unsettled box split in the middle of its first free column.
-use Rattle.std.specs.Prelude.{ℕ, zero, suc, ◌+◌, ℤ, pos, negsuc, ◌+ℤ◌, int_lt, nat_lt, if◌then◌else◌, Bool, true, false, List, [], ◌∷◌, map, length, Option, Some, None}
+use Rattle.std.specs.Prelude.{ℕ, zero, suc, ◌+◌, ℤ, pos, negsuc, ◌+ℤ◌, int_lt, nat_lt, if◌then◌else◌, false, List, [], ◌∷◌, map, length, Option, Some, None}
 use Rattle.std.specs.Option.{option_map_or}
 use Rattle.fraction.specs.Rational.{ℚ, whole, floor_div}
 use Rattle.problem_box.specs.declared.span.Span.{Span}

@@ -52,10 +52,8 @@ fn refuted(alloc: Global, row: usize, sign: Sign) -> Result<Ending, AllocError>
     requires { row < 2 ^ 32 }
     ensures { IfOk result (λ e. ending_of e ≡ refute ((row, multiplier sign) ∷ [])) }
 {
-    let items = vec![in alloc; (row as u32, multiplier(sign))]?;
-    Ok(Ending::Refute {
-        mult: Terms::make(items),
-    })
+    let mult = Terms::make(alloc, &[(row as u32, multiplier(sign))])?;
+    Ok(Ending::Refute { mult })
 }
 
 /// The ending of a node over whose box the objective alone reaches the incumbent's value.
@@ -63,7 +61,7 @@ fn priced(alloc: Global) -> Ending
     ensures { ending_of result ≡ bound [] false }
 {
     Ending::Bound {
-        mult: Terms::make(Vec::new(alloc)),
+        mult: Terms::new(alloc),
         rounded: false,
     }
 }
@@ -107,7 +105,7 @@ fn add_children(
 /// The boxes of the two nodes of a split, the next of which has this number. The one error is want of memory.
 fn push_halves(
     alloc: Global,
-    open: &mut Vec<OpenBox>,
+    open_boxes: &mut Vec<OpenBox>,
     number: u32,
     node: OpenBox,
     column: usize,
@@ -118,14 +116,14 @@ fn push_halves(
     requires left { ForSome (slice_get node.area column) (λ s. (s.lo ≤ℤ bound) × (bound <ℤ s.hi)) }
     requires right { ForSome (slice_get node.area column) (λ s. (s.lo <ℤ (bound +ℤ pos 1)) × ((bound +ℤ pos 1) ≤ℤ s.hi)) }
     requires bound { nat_abs bound ≤ 10 ^ 9 }
-    ensures { OnOk result (open.new.items ≡ open.old.items ++ halves number node column bound) }
+    ensures { OnOk result (open_boxes.new.items ≡ open_boxes.old.items ++ halves number node column bound) }
 {
     let mut right = node.area.copy(alloc)?;
     right.cut_low(column, bound + 1);
     let mut left = node.area;
     left.cut_high(column, bound);
-    open.push(OpenBox { number, area: left })?;
-    open.push(OpenBox {
+    open_boxes.push(OpenBox { number, area: left })?;
+    open_boxes.push(OpenBox {
         number: number + 1,
         area: right,
     })?;

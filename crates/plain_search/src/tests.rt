@@ -21,13 +21,15 @@ fn terms(alloc: Global, a: Four) -> Result<Terms, AllocError>
     requires fourth { a.3 ≢ pos 0 }
     ensures { IfOk result (λ t. AreLimited 4 t) }
 {
-    let items = vec![in alloc;
-        (0, Frac::of(a.0 as i128)),
-        (1, Frac::of(a.1 as i128)),
-        (2, Frac::of(a.2 as i128)),
-        (3, Frac::of(a.3 as i128)),
-    ]?;
-    Ok(Terms::make(items))
+    Terms::make(
+        alloc,
+        &[
+            (0, Frac::of(a.0 as i128)),
+            (1, Frac::of(a.1 as i128)),
+            (2, Frac::of(a.2 as i128)),
+            (3, Frac::of(a.3 as i128)),
+        ],
+    )
 }
 
 /// The row with these coefficients.

@@ -41,12 +41,12 @@ fn numbers(
 }
 
 /// Adds a column with its coefficient, unless that is 0.
-fn push_term(items: &mut Vec<(u32, Frac)>, column: u16, coefficient: i16) -> Result<(), AllocError>
-    requires { AreLimited column items.old.items }
-    ensures { OnOk result (AreLimited (column + 1) items.new.items) }
+fn push_term(terms: &mut Terms, column: u16, coefficient: i16) -> Result<(), AllocError>
+    requires { AreLimited column terms.old }
+    ensures { OnOk result (AreLimited (column + 1) terms.new) }
 {
     if coefficient != 0 {
-        items.push((column as u32, Frac::of(coefficient as i128)))?;
+        terms.push(column as u32, Frac::of(coefficient as i128))?;
     }
     Ok(())
 }
@@ -56,11 +56,11 @@ fn terms(alloc: Global, columns: u16, coefficients: &[i16]) -> Result<Terms, All
     requires { length coefficients.now ≡ columns }
     ensures { IfOk result (λ t. AreLimited columns t) }
 {
-    let mut items = Vec::new(alloc);
+    let mut terms = Terms::new(alloc);
     for column in 0..columns {
-        push_term(&mut items, column, coefficients[column as usize])?;
+        push_term(&mut terms, column, coefficients[column as usize])?;
     }
-    Ok(Terms::make(items))
+    Ok(terms)
 }
 
 /// The row with these coefficients.
@@ -133,5 +133,5 @@ pub fn equation(alloc: Global, columns: u16, rhs: i16) -> Result<Problem, AllocE
 {
     let twos = vec![in alloc; 2i16; columns as usize]?;
     let row = row(alloc, Sense::E, rhs, columns, &twos)?;
-    problem(alloc, columns, row, Terms::make(Vec::new(alloc)))
+    problem(alloc, columns, row, Terms::new(alloc))
 }

@@ -7,3 +7,4 @@ pub mod Checked
 pub mod Modest
 pub mod Limited
 pub mod Rising
+pub mod Forms

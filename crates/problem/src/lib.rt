@@ -5,6 +5,7 @@ mod names;
 mod point;
 mod program;
 mod row;
+mod term;
 mod terms;
 #[cfg(test)]
 mod tests;
@@ -13,4 +14,5 @@ pub use names::Names;
 pub use point::Point;
 pub use program::Problem;
 pub use row::{Row, Sense};
+pub use term::Term;
 pub use terms::Terms;

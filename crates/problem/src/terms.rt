@@ -1,9 +1,10 @@
 // Columns with their coefficients.
-ghost use Rattle.std.specs.Prelude.{◌≡◌, ◌<◌, ◌↔◌, IsTrue, IfOk, All, length};
+ghost use Rattle.std.specs.Prelude.{◌≡◌, ◌<◌, ◌↔◌, ◌++◌, ◌∷◌, [], IsTrue, IfOk, OnOk, All, length};
 ghost use Rattle.problem.specs.Linear.{value, IsWhole};
 ghost use Rattle.problem.specs.Checked.{with_term, checked_value};
 ghost use Rattle.problem.specs.Modest.{AreModest, IsModestPoint};
 
+use crate::term::Term;
 use fraction::Frac;
 use std::alloc::{AllocError, Global};
 use std::marker::Model;
@@ -11,7 +12,7 @@ use std::marker::Model;
 /// Columns with their coefficients, seen as a list of pairs.
 #[derive(Drop)]
 pub struct Terms {
-    items: Vec<(u32, Frac)>,
+    items: Vec<Term>,
 }
 
 impl Model for Terms {
@@ -36,15 +37,48 @@ fn with_term(total: Frac, coefficient: Frac, number: i64) -> Option<Frac>
 }
 
 impl Terms {
-    /// The list of these pairs of a column and its coefficient.
-    pub fn make(items: Vec<(u32, Frac)>) -> Terms
-        ensures { result ≡ items.items }
+    /// No terms.
+    pub fn new(alloc: Global) -> Terms
+        ensures { result ≡ [] }
     {
-        Terms { items }
+        Terms {
+            items: Vec::new(alloc),
+        }
     }
 
-    /// The pairs.
-    pub fn as_slice(&self) -> &[(u32, Frac)]
+    /// The terms of these pairs of a column and its coefficient. The one error is want of memory.
+    pub fn make(alloc: Global, pairs: &[(u32, Frac)]) -> Result<Terms, AllocError>
+        ensures { IfOk result (λ t. t ≡ pairs.now) }
+    {
+        let mut items = Vec::with_capacity(alloc, pairs.len())?;
+        for pair in pairs {
+            items.push(Term::make(alloc, pair.0, pair.1)?)?;
+        }
+        Ok(Terms { items })
+    }
+
+    /// Puts a term behind the others. The one error is want of memory.
+    pub fn push(&mut self, column: u32, coefficient: Frac) -> Result<(), AllocError>
+        ensures { OnOk result (self.new ≡ self.old ++ (column, coefficient) ∷ []) }
+    {
+        let term = Term::make(*self.items.allocator(), column, coefficient)?;
+        // A problem has many lists of terms, so each takes little more room than it needs.
+        if self.items.len() == self.items.capacity() {
+            self.items.reserve_exact(self.items.len() / 4 + 1)?;
+        }
+        self.items.push(term)?;
+        Ok(())
+    }
+
+    /// How many terms there are.
+    pub fn len(&self) -> usize
+        ensures { result ≡ length self.now }
+    {
+        self.items.len()
+    }
+
+    /// The terms.
+    pub fn as_slice(&self) -> &[Term]
         ensures { result.now ≡ self.now }
     {
         self.items.as_slice()
@@ -54,8 +88,10 @@ impl Terms {
     pub fn copy(&self, alloc: Global) -> Result<Terms, AllocError>
         ensures { IfOk result (λ t. t ≡ self.now) }
     {
-        let mut items = Vec::new(alloc);
-        items.extend_from_slice(&self.items)?;
+        let mut items = Vec::with_capacity(alloc, self.items.len())?;
+        for term in &self.items {
+            items.push(term.copy(alloc)?)?;
+        }
         Ok(Terms { items })
     }
 
@@ -72,8 +108,8 @@ impl Terms {
         ensures { result ≡ checked_value self.now point.now }
     {
         let mut total = Frac::of(0);
-        for (column, coefficient) in &self.items {
-            total = with_term(total, *coefficient, point[*column as usize])?;
+        for term in &self.items {
+            total = with_term(total, term.coefficient(), point[term.column() as usize])?;
         }
         Some(total)
     }
@@ -93,11 +129,11 @@ impl Terms {
 }
 
 /// Whether each coefficient is a whole number.
-fn all_whole(items: &[(u32, Frac)]) -> bool
+fn all_whole(items: &[Term]) -> bool
     ensures { IsTrue result ↔ All (λ t. IsWhole t.1) items.now }
 {
     for item in items {
-        if !item.1.is_whole() {
+        if !item.coefficient().is_whole() {
             return false;
         }
     }

@@ -11,7 +11,9 @@ fn copies(rt: HostRuntime) -> Result<(), AllocError> {
     assert_eq!(rt; names.len(), 1);
     let point = Point::make(vec![in alloc; 3, -4]?).copy(alloc)?;
     assert!(rt; point.as_slice() == [3, -4].as_slice());
-    let terms = Terms::make(vec![in alloc; (0, Frac::of(2)), (1, Frac::make(1, 2))]?);
+    let mut terms = Terms::make(alloc, [(0, Frac::of(2)), (1, Frac::make(1, 2))].as_slice())?;
+    // The one coefficient that has more than 64 bits.
+    terms.push(2, Frac::of(1 << 70))?;
     let row = Row {
         sense: Sense::L,
         rhs: Frac::of(4),
@@ -19,8 +21,11 @@ fn copies(rt: HostRuntime) -> Result<(), AllocError> {
     }
     .copy(alloc)?;
     assert_eq!(rt; row.sense, Sense::L);
-    assert!(rt;
-        row.rhs == Frac::of(4) && row.terms.as_slice().len() == 2 && !row.terms.are_whole()
-    );
+    assert!(rt; row.rhs == Frac::of(4) && row.terms.len() == 3 && !row.terms.are_whole());
+    let mut sum = Frac::of(0);
+    for term in row.terms.as_slice() {
+        sum = sum.add(term.coefficient()).unwrap_or(Frac::of(0));
+    }
+    assert!(rt; sum == Frac::make((1 << 71) + 5, 2));
     Ok(())
 }

@@ -40,9 +40,12 @@ no_terms v h = subst (IsSumOf 0) (sym h) record { divides = rw (whole_parts (pos
 pub all_terms : (e : ℚ → Span → ℤ) (ss : List Span) (us : List (ℕ × ℚ)) (i : ℕ) (total v : ℚ) → length us ≤ i → total +ℚ sum_of_ends e ss (drop i us) ≡ v → total ≡ v
 all_terms e ss us i total v l h = sym (+ℚ-zero total) ∙ ap (λ r. total +ℚ r) (sym (at_drop_all (sum_of_ends e ss) us i l)) ∙ h
 
-module _ (e : ℚ → Span → ℤ) (modest_end : IsModestEnd e) (ss : List Span) (ts us : List (ℕ × ℚ)) (i : ℕ) (total : ℚ) (t : ℕ × ℚ) (s : Span) (z : ℤ)
-    (items : us ≡ ts) (within : i < length us) (item : t ≡ get_or us i t) (limited : AreLimited (length ss) ts) (area : IsLimitedBox ss)
+module _ (e : ℚ → Span → ℤ) (modest_end : IsModestEnd e) (ss : List Span) (ts us : List (ℕ × ℚ)) (i : ℕ) (total : ℚ) (t read : ℕ × ℚ) (s : Span) (z : ℤ)
+    (items : us ≡ ts) (within : i < length us) (same : t ≡ read) (item_read : read ≡ get_or us i read) (limited : AreLimited (length ss) ts) (area : IsLimitedBox ss)
     (there : slice_get ss t.0 ≡ Some s) (chosen : z ≡ e t.1 s) (size : IsSumOf i total) where
+  item : t ≡ get_or us i t
+  item = subst (λ (v : ℕ × ℚ). v ≡ get_or us i v) (sym same) item_read
+
   modest : IsModest t.1
   modest =
       let l : i < length ts = omega (arith, ap length items) in

@@ -61,7 +61,7 @@ pub fn low(terms: &Terms, area: &IntBox) -> Frac
 {
     let mut total = Frac::of(0);
     for term in terms.as_slice() {
-        let (column, coefficient) = *term;
+        let (column, coefficient) = term.pair();
         let span = area.span(column as usize);
         total = with_product(total, coefficient, low_end(coefficient, span));
     }
@@ -77,7 +77,7 @@ pub fn high(terms: &Terms, area: &IntBox) -> Frac
 {
     let mut total = Frac::of(0);
     for term in terms.as_slice() {
-        let (column, coefficient) = *term;
+        let (column, coefficient) = term.pair();
         let span = area.span(column as usize);
         total = with_product(total, coefficient, high_end(coefficient, span));
     }
@@ -94,7 +94,7 @@ pub(crate) fn range(terms: &Terms, area: &IntBox) -> (Frac, Frac)
     let mut low = Frac::of(0);
     let mut high = Frac::of(0);
     for term in terms.as_slice() {
-        let (column, coefficient) = *term;
+        let (column, coefficient) = term.pair();
         let span = area.span(column as usize);
         low = with_product(low, coefficient, low_end(coefficient, span));
         high = with_product(high, coefficient, high_end(coefficient, span));

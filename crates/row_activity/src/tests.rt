@@ -15,8 +15,10 @@ fn terms(alloc: Global, x: i8, y: i8) -> Result<Terms, AllocError>
     requires y { y ≢ pos 0 }
     ensures { IfOk result (λ t. AreLimited 2 t) }
 {
-    let items = vec![in alloc; (0, Frac::of(x as i128)), (1, Frac::of(y as i128))]?;
-    Ok(Terms::make(items))
+    Terms::make(
+        alloc,
+        [(0, Frac::of(x as i128)), (1, Frac::of(y as i128))].as_slice(),
+    )
 }
 
 /// The row with these coefficients of columns 0 and 1.

@@ -1,6 +1,6 @@
 -- The labels of a merged certificate are words: a letter and a number.
-use Rattle.std.specs.Prelude.{◌<◌, ◌+◌, ◌==◌, ◌/◌, ◌%◌, ℕ, zero, suc, Bool, true, false, cond, nat_lt, List, [], ◌∷◌, ◌++◌, Option, Some, None, length, codes, All}
-use Rattle.std.specs.Fmt.{decimal, digits, digits_onto, digit_glyph}
+use Rattle.std.specs.Prelude.{◌<◌, ◌+◌, ℕ, zero, suc, List, [], ◌∷◌, ◌++◌, Option, Some, None, length, codes, All}
+use Rattle.std.specs.Fmt.{decimal}
 use Rattle.std.proofs.Common.{arith}
 use Rattle.std.proofs.lemmas.List.Elements.{All-nil, All-cons, All-append}
 use Rattle.problem.specs.Program.{Program}
@@ -11,32 +11,10 @@ use Rattle.cert_rows.specs.declared.line.CertRow.{CertRow}
 use Rattle.cert_rows.specs.declared.line.Why.{Why}
 use Rattle.cert_merge.specs.Merged.{label_of, labelled, row_lines, bound_lines, cut_lines, assumption_of, assumption_lines, node_of, node_lines, merged}
 use Rattle.cert_merge.specs.Search.{Cut, Branch, Node, Search}
+use Rattle.vipr_print.specs.Numerals.{decimal_word}
 use Rattle.vipr_print.specs.Unique.{IsWord}
 
 -- ---- a letter and a number
-glyph_visible : (d : ℕ) → 32 < digit_glyph false d
-glyph_visible d = by (nat_lt d 10)
-  where
-    by : (b : Bool) → 32 < cond b (48 + d) (87 + d)
-    by true = omega arith
-    by false = omega arith
-
-digits_visible : (k n : ℕ) (after : List ℕ) → IsWord after → IsWord (digits_onto k 10 false n after)
-digits_visible zero n after h = h
-digits_visible (suc k) n after h = by (n / 10 == 0) (digits_visible k (n / 10) (digit_glyph false (n % 10) ∷ after) more)
-  where
-    more : IsWord (digit_glyph false (n % 10) ∷ after)
-    more = All-cons (λ b. 32 < b) (digit_glyph false (n % 10)) after (glyph_visible (n % 10)) h
-
-    by : (b : Bool) → IsWord (digits_onto k 10 false (n / 10) (digit_glyph false (n % 10) ∷ after))
-        → IsWord (cond b (digit_glyph false (n % 10) ∷ after) (digits_onto k 10 false (n / 10) (digit_glyph false (n % 10) ∷ after)))
-    by true rest = more
-    by false rest = rest
-
-decimal_word : (n : ℕ) → IsWord (decimal n)
-unfolding digits
-decimal_word n = digits_visible 64 n [] (All-nil (λ b. 32 < b))
-
 label_word : (letter i : ℕ) → 32 < letter → IsWord (label_of (letter ∷ []) i)
 label_word letter i h = All-cons (λ b. 32 < b) letter (decimal i) h (decimal_word i)
 

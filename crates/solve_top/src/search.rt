@@ -24,8 +24,8 @@ use std::alloc::{AllocError, Global};
 use vipr_print::laws::{numbers_are_short, texts_spell_one_certificate, valid_points_are_whole};
 use vipr_print::{PrintFault, print};
 
-// No other certificate has the text of a valid one, where the names of the problem are words. This reads each part of the certificate once
-// and has no effect: its contract is for callers' proofs.
+// No other certificate has the text of a valid one, where the names of the problem are words. It has no effect, and LLVM leaves nothing of
+// it: its contract is for callers' proofs.
 #[tactic(auto, using(crate::proofs::Uniqueness::spells_only))]
 fn text_spells_no_other(problem: &Problem, search: &Search, certificate: &Cert)
     requires merged { certificate.now ≡ merged problem.now search.now }

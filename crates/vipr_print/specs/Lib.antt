@@ -1,3 +1,4 @@
 pub mod Spelling
 pub mod Printed
 pub mod Unique
+pub mod Numerals

@@ -22,7 +22,8 @@ pub fn valid_points_are_whole(problem: &Problem)
     problem.limits_hold();
 }
 
-/// No number of a certificate has more than 64 digits, since no number in memory does. Nothing but the proof asks for a call.
+/// No number of a certificate has more than 64 digits, since no number in memory does. Its contract is for callers' proofs: it has no
+/// effect, so LLVM leaves nothing of its walk over the certificate.
 pub fn numbers_are_short(certificate: &Cert)
     ensures { HasShortNumbers certificate.now }
 {

@@ -7,7 +7,7 @@ ghost use Rattle.vipr_print.specs.Spelling.{spelled_number, spelled_term, spelle
 use cert_rows::{CertRow, Why};
 use fraction::Frac;
 use itoa::Buffer;
-use problem::Sense;
+use problem::{Sense, Term};
 use std::alloc::AllocError;
 
 /// Pushes a whole number.
@@ -41,17 +41,17 @@ pub fn push_number(out: &mut Vec<u8>, x: Frac) -> Result<(), AllocError>
     push_natural(out, den)
 }
 
-fn push_term(out: &mut Vec<u8>, term: &(u32, Frac)) -> Result<(), AllocError>
+fn push_term(out: &mut Vec<u8>, term: &Term) -> Result<(), AllocError>
     ensures { OnOk result (out.new.items ≡ out.old.items ++ spelled_term term.now) }
 {
     out.extend_from_slice(b" ")?;
-    push_natural(out, u128::from(term.0))?;
+    push_natural(out, u128::from(term.column()))?;
     out.extend_from_slice(b" ")?;
-    push_number(out, term.1)
+    push_number(out, term.coefficient())
 }
 
 /// Pushes how many terms there are, and each term.
-pub fn push_terms(out: &mut Vec<u8>, terms: &[(u32, Frac)]) -> Result<(), AllocError>
+pub fn push_terms(out: &mut Vec<u8>, terms: &[Term]) -> Result<(), AllocError>
     ensures { OnOk result (out.new.items ≡ out.old.items ++ spelled_terms terms.now) }
 {
     push_natural(out, terms.len() as u128)?;
@@ -82,7 +82,7 @@ pub fn push_row(out: &mut Vec<u8>, row: &CertRow) -> Result<(), AllocError>
     push_terms(out, row.terms.as_slice())
 }
 
-fn push_multipliers(out: &mut Vec<u8>, word: &[u8], terms: &[(u32, Frac)]) -> Result<(), AllocError>
+fn push_multipliers(out: &mut Vec<u8>, word: &[u8], terms: &[Term]) -> Result<(), AllocError>
     ensures { OnOk result (out.new.items ≡ out.old.items ++ word.now ++ spelled_terms terms.now) }
 {
     out.extend_from_slice(word)?;

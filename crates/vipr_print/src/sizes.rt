@@ -4,7 +4,7 @@ ghost use Rattle.vipr_print.specs.Unique.{IsShortFraction, IsShortTerm, IsShortL
 
 use cert_rows::{CertRow, Goal, Why};
 use fraction::Frac;
-use problem::Point;
+use problem::{Point, Term};
 
 fn fraction_is_short(x: Frac)
     ensures { IsShortFraction x }
@@ -12,15 +12,15 @@ fn fraction_is_short(x: Frac)
     let _numerator = x.numer();
 }
 
-fn term_is_short(term: &(u32, Frac))
+fn term_is_short(term: &Term)
     ensures { IsShortTerm term.now }
 {
-    let _number = term.0;
-    fraction_is_short(term.1);
+    let _number = term.column();
+    fraction_is_short(term.coefficient());
 }
 
 /// Each number of these terms has at most 64 digits, and so has their count.
-pub fn terms_are_short(terms: &[(u32, Frac)])
+pub fn terms_are_short(terms: &[Term])
     ensures { IsShortList terms.now }
 {
     for term in terms {

@@ -12,9 +12,10 @@ const TEXT: &str =
 
 /// One number with the coefficient 1, 2 or 3.
 fn terms(alloc: Global, number: u32, coefficient: u8) -> Result<Terms, AllocError> {
-    let mut items = Vec::new(alloc);
-    items.push((number, Frac::of(i128::from(coefficient))))?;
-    Ok(Terms::make(items))
+    Terms::make(
+        alloc,
+        [(number, Frac::of(i128::from(coefficient)))].as_slice(),
+    )
 }
 
 /// A row over column 0.

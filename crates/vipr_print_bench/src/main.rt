@@ -23,12 +23,12 @@ fn label(alloc: Global, number: u32) -> Result<Label, AllocError> {
 }
 
 fn multipliers(alloc: Global, first: u32) -> Result<Terms, AllocError> {
-    let mut items = Vec::new(alloc);
+    let mut terms = Terms::new(alloc);
     for step in 0..MULTIPLIERS {
         let number = Frac::make(i128::from(step) - 4, i128::from(step % 3) + 1);
-        items.push((first.wrapping_add(step), number))?;
+        terms.push(first.wrapping_add(step), number)?;
     }
-    Ok(Terms::make(items))
+    Ok(terms)
 }
 
 /// `N.. G .. 0 { lin 8 .. } -1`: a line that is printed, whether or not it follows from others.
@@ -37,7 +37,7 @@ fn derived_line(alloc: Global, number: u32) -> Result<(CertRow, Why), AllocError
         label: label(alloc, number)?,
         sense: Sense::G,
         rhs: Frac::of(i128::from(number)),
-        terms: Terms::make(Vec::new(alloc)),
+        terms: Terms::new(alloc),
     };
     let mult = multipliers(alloc, number)?;
     Ok((row, Why::Lin { mult }))
@@ -51,7 +51,7 @@ fn certificate(alloc: Global, lines: u32) -> Result<Cert, AllocError> {
     }
     let part = Part {
         names: Names::make(Vec::new(alloc)),
-        objective: Terms::make(Vec::new(alloc)),
+        objective: Terms::new(alloc),
         rows: CertRows::make(Vec::new(alloc)),
     };
     let points = Points::make(Vec::new(alloc));

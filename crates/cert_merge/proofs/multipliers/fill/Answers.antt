@@ -8,5 +8,7 @@ pub loop-done-preserved : goal.loop-done-preserved
 loop-done-preserved c =
     next_placed (filling c.args.problem.now c.args.search.now c.args.setters.now c.args.negated) c.args.terms.now c.loop-done.done c.index-terms-terms.result (reverse c.loop-done.items.items) (reverse c.place.new.items.items)
     (omega (arith, c.loop-done-test.true)) c.index-terms-terms.is
-    (c.in_ok-place.ensures ∙ ap (λ m. placed m (reverse c.loop-done.items.items)) c.filling.ensures)
+    (c.in_ok-place.ensures
+    ∙ ap (λ m. placed m (reverse c.loop-done.items.items))
+    (c.filling.ensures ∙ ap (filling c.args.problem.now c.args.search.now c.args.setters.now c.args.negated) c.pair-term.ensures))
     ∙ c.loop-done.invariant

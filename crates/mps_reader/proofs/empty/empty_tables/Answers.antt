@@ -13,6 +13,7 @@ returns-clause-tables g c = record {
   rhs = c.no_sides.ensures false [];
   ranges = c.no_sides-2.ensures true [];
   no_columns = λ l. refl;
+  no_rhs = λ l. refl;
   no_ranges = λ l. refl;
   bounds = c.no_bounds.ensures;
 }

@@ -14,10 +14,10 @@ pub ranged_parts-requires-clause-nonzero : goal.ranged_parts-requires-clause-non
 ranged_parts-requires-clause-nonzero g c = parts_nonzero c.args.tables c.args.upper c.requires
 
 pub ranged_parts-requires-clause-sides : goal.ranged_parts-requires-clause-sides
-ranged_parts-requires-clause-sides g c name = parts_sides c.args.tables c.args.upper c.requires name
+ranged_parts-requires-clause-sides g c i = parts_sides c.args.tables c.args.upper c.requires i
 
 pub ranged_parts-requires-clause-ranges : goal.ranged_parts-requires-clause-ranges
-ranged_parts-requires-clause-ranges g c name = parts_ranges c.args.tables c.args.upper c.requires name
+ranged_parts-requires-clause-ranges g c i = parts_ranges c.args.tables c.args.upper c.requires i
 
 pub column_names-requires : goal.column_names-requires
 column_names-requires g c = names_ascii c.args.tables.columns.columns.entries (kept_names c.args.tables c.args.upper c.requires)

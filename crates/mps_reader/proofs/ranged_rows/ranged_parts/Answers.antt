@@ -6,7 +6,7 @@ use Rattle.fraction.specs.Rational.{ℚ}
 use Rattle.mps_reader.specs.RangedRows.{IsHeld}
 use Rattle.mps_reader.specs.Building.{objective_with}
 use Rattle.mps_reader.specs.Meaning.{rows_from}
-use Rattle.mps_reader.specs.RowState.{unnamed}
+use Rattle.mps_reader.specs.RowState.{unkept}
 use Rattle.mps_reader.specs.RowsMade.{left_from, left_within, next_limits, rows_done, rows_next}
 use Rattle.mps_reader.specs.Tables.{length-table, table}
 use Rattle.mps_reader.specs.declared.kinds.RowType.{RowType}
@@ -28,8 +28,8 @@ take_row-requires-clause-rising g c =
     let left = c.loop-index.left in
     let l : i < length rows = omega (arith, c.loop-index-test.true, c.len-index-end.ensures, length-table c.args.rows.now.entries) in
     subst (λ ts. AreRising ts) (sym c.take_terms.ensures.terms)
-    (next_limits (table c.args.sides.now.entries) (table c.args.ranges.now.entries) rows c.args.terms c.loop-index.parts.rows.items c.loop-index.parts.objective i
-    (drop i left) c.loop-index.invariant (get_or left i unnamed) (drop (i + 1) left) (left_from left i (length rows) c.loop-index.invariant.count l)).0
+    (next_limits c.args.sides.now c.args.ranges.now rows c.args.terms c.loop-index.parts.rows.items c.loop-index.parts.objective i
+    (drop i left) c.loop-index.invariant (get_or left i unkept) (drop (i + 1) left) (left_from left i (length rows) c.loop-index.invariant.count l)).0
 
 pub take_row-requires-clause-nonzero : goal.take_row-requires-clause-nonzero
 take_row-requires-clause-nonzero g c =
@@ -38,11 +38,11 @@ take_row-requires-clause-nonzero g c =
     let left = c.loop-index.left in
     let l : i < length rows = omega (arith, c.loop-index-test.true, c.len-index-end.ensures, length-table c.args.rows.now.entries) in
     subst (λ ts. AreNonzero ts) (sym c.take_terms.ensures.terms)
-    (next_limits (table c.args.sides.now.entries) (table c.args.ranges.now.entries) rows c.args.terms c.loop-index.parts.rows.items c.loop-index.parts.objective i
-    (drop i left) c.loop-index.invariant (get_or left i unnamed) (drop (i + 1) left) (left_from left i (length rows) c.loop-index.invariant.count l)).1
+    (next_limits c.args.sides.now c.args.ranges.now rows c.args.terms c.loop-index.parts.rows.items c.loop-index.parts.objective i
+    (drop i left) c.loop-index.invariant (get_or left i unkept) (drop (i + 1) left) (left_from left i (length rows) c.loop-index.invariant.count l)).1
 
 pub take_row-requires-clause-rhs : goal.take_row-requires-clause-rhs
-take_row-requires-clause-rhs g c = subst (λ (q : ℚ). IsHeld q) (sym c.side_at.ensures) (c.requires.sides c.row_at-kind.result.0.now)
+take_row-requires-clause-rhs g c = subst (λ (q : ℚ). IsHeld q) (sym c.side_at.ensures) (c.requires.sides c.loop-index.index)
 
 pub loop-index-preserved : goal.loop-index-preserved
 loop-index-preserved g c =
@@ -55,23 +55,23 @@ loop-index-preserved g c =
     let r : List ℕ × RowType = (c.row_at-kind.result.0.now, k) in
     let done = c.loop-index.parts.rows.items in
     let o = c.loop-index.parts.objective in
-    let behind : drop (i + 1) left ≡ drop (i + 1) new = sym (ap (drop (i + 1)) c.take_terms.ensures.rows ∙ drop-set-lt (i + 1) left i unnamed (omega arith)) in
-    rows_next (table c.args.sides.now.entries) (table c.args.ranges.now.entries) rows c.args.terms done o i (drop i left) c.loop-index.invariant
-    (get_or left i unnamed) (drop (i + 1) new) r c.take_row.new.parts.rows.items c.take_row.new.parts.objective
-    (left_from left i (length rows) c.loop-index.invariant.count l ∙ ap (λ ts. get_or left i unnamed ∷ ts) behind) c.row_at-kind.ensures
-    (c.in_ok-take_row.ensures.rows ∙ (λ j. done ++ rows_from k (c.side_at.ensures j) (c.number_of.ensures j) (c.take_terms.ensures.terms j)))
+    let behind : drop (i + 1) left ≡ drop (i + 1) new = sym (ap (drop (i + 1)) c.take_terms.ensures.rows ∙ drop-set-lt (i + 1) left i unkept (omega arith)) in
+    rows_next c.args.sides.now c.args.ranges.now rows c.args.terms done o i (drop i left) c.loop-index.invariant
+    (get_or left i unkept) (drop (i + 1) new) r c.take_row.new.parts.rows.items c.take_row.new.parts.objective
+    (left_from left i (length rows) c.loop-index.invariant.count l ∙ ap (λ ts. get_or left i unkept ∷ ts) behind) c.row_at-kind.ensures
+    (c.in_ok-take_row.ensures.rows ∙ (λ j. done ++ rows_from k (c.side_at.ensures j) (c.number_at.ensures j) (c.take_terms.ensures.terms j)))
     (c.in_ok-take_row.ensures.objective ∙ ap (λ ts. option_or o (objective_with k ts)) c.take_terms.ensures.terms)
 
 pub returns-clause-rows : goal.returns-clause-rows
 returns-clause-rows g c =
     let left = drop c.loop-index.index c.loop-index.left in
     let n : length left ≡ 0 = omega (arith, c.loop-index.invariant.count, c.loop-index-test.false, c.len-index-end.ensures, length-table c.args.rows.now.entries) in
-    (rows_done (table c.args.sides.now.entries) (table c.args.ranges.now.entries) (table c.args.rows.now.entries) c.args.terms c.loop-index.parts.rows.items c.loop-index.parts.objective c.loop-index.index left
+    (rows_done c.args.sides.now c.args.ranges.now (table c.args.rows.now.entries) c.args.terms c.loop-index.parts.rows.items c.loop-index.parts.objective c.loop-index.index left
     c.loop-index.invariant (empty_of left n)).0
 
 pub returns-clause-objective : goal.returns-clause-objective
 returns-clause-objective g c =
     let left = drop c.loop-index.index c.loop-index.left in
     let n : length left ≡ 0 = omega (arith, c.loop-index.invariant.count, c.loop-index-test.false, c.len-index-end.ensures, length-table c.args.rows.now.entries) in
-    (rows_done (table c.args.sides.now.entries) (table c.args.ranges.now.entries) (table c.args.rows.now.entries) c.args.terms c.loop-index.parts.rows.items c.loop-index.parts.objective c.loop-index.index left
+    (rows_done c.args.sides.now c.args.ranges.now (table c.args.rows.now.entries) c.args.terms c.loop-index.parts.rows.items c.loop-index.parts.objective c.loop-index.index left
     c.loop-index.invariant (empty_of left n)).1

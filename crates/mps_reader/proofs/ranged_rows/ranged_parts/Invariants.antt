@@ -5,4 +5,4 @@ use Rattle.mps_reader.proofs.ranged_rows.ranged_parts.Given as goal
 
 abbrev pub invariant-loop-index : goal.invariant-loop-index
 invariant-loop-index g l =
-    HasRows (table l.sides.entries) (table l.ranges.entries) (table l.rows.entries) l.fn.terms l.parts.rows.items l.parts.objective l.index (drop l.index l.left)
+    HasRows l.sides l.ranges (table l.rows.entries) l.fn.terms l.parts.rows.items l.parts.objective l.index (drop l.index l.left)

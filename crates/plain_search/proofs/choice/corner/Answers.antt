@@ -1,5 +1,5 @@
-use Rattle.std.proofs.Common.{◌≡◌, sym, ap, ◌∙◌, ◌++◌, ◌∷◌, [], arith}
-use Rattle.std.proofs.lemmas.Int.{ints, to_z-of_z}
+use Rattle.std.proofs.Common.{◌≡◌, ap, ◌∙◌, ◌++◌, ◌∷◌, [], arith}
+use Rattle.std.proofs.lemmas.Int.{to_z-of_z}
 use Rattle.plain_search.proofs.Splits.{corner_more}
 use Rattle.plain_search.proofs.choice.corner.Goals as goal
 

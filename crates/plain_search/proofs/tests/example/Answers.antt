@@ -1,4 +1,4 @@
-use Rattle.std.proofs.Common.{length, map, string_bytes, [], ◌∷◌, sym, ap, ◌∙◌, subst, arith}
+use Rattle.std.proofs.Common.{length, map, string_bytes, [], sym, ap, ◌∙◌, subst, arith}
 use Rattle.std.specs.Prelude.{All}
 use Rattle.std.proofs.lemmas.List.Elements.{All-nil, All-cons}
 use Rattle.problem.specs.Limited.{AreLimited, IsLimitedRow}

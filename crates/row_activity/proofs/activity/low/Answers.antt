@@ -14,26 +14,26 @@ loop-term-init c = record {
 
 pub with_product-total-requires-clause-product : goal.with_product-total-requires-clause-product
 with_product-total-requires-clause-product c =
-    let z : to_z w64 (of_z w64 c.low_end.result) ≡ low_end c.term-item.result.1 c.span-span.result = search rules in
-    product_fits_here low_end IsModestEnd-low_end c.args.area.now c.args.terms.now c.as_slice-term-items.result.now c.loop-term.term-index c.loop-term.total c.term-item.result c.span-span.result _
-    c.as_slice-term-items.ensures (omega arith) c.term-item.is c.requires.limited c.requires.limited_box c.span-span.ensures z c.loop-term.invariant.size
+    let z : to_z w64 (of_z w64 c.low_end.result) ≡ low_end c.pair-column.result.1 c.span-span.result = search rules in
+    product_fits_here low_end IsModestEnd-low_end c.args.area.now c.args.terms.now c.as_slice-term-items.result.now c.loop-term.term-index c.loop-term.total c.pair-column.result c.term-item.result c.span-span.result _
+    c.as_slice-term-items.ensures (omega arith) c.pair-column.ensures c.term-item.is c.requires.limited c.requires.limited_box c.span-span.ensures z c.loop-term.invariant.size
 
 pub with_product-total-requires-clause-sum : goal.with_product-total-requires-clause-sum
 with_product-total-requires-clause-sum c =
-    let z : to_z w64 (of_z w64 c.low_end.result) ≡ low_end c.term-item.result.1 c.span-span.result = search rules in
-    sum_fits_here low_end IsModestEnd-low_end c.args.area.now c.args.terms.now c.as_slice-term-items.result.now c.loop-term.term-index c.loop-term.total c.term-item.result c.span-span.result _
-    c.as_slice-term-items.ensures (omega arith) c.term-item.is c.requires.limited c.requires.limited_box c.span-span.ensures z c.loop-term.invariant.size
+    let z : to_z w64 (of_z w64 c.low_end.result) ≡ low_end c.pair-column.result.1 c.span-span.result = search rules in
+    sum_fits_here low_end IsModestEnd-low_end c.args.area.now c.args.terms.now c.as_slice-term-items.result.now c.loop-term.term-index c.loop-term.total c.pair-column.result c.term-item.result c.span-span.result _
+    c.as_slice-term-items.ensures (omega arith) c.pair-column.ensures c.term-item.is c.requires.limited c.requires.limited_box c.span-span.ensures z c.loop-term.invariant.size
 
 pub loop-term-preserved : goal.loop-term-preserved
 loop-term-preserved c =
-    let z : to_z w64 (of_z w64 c.low_end.result) ≡ low_end c.term-item.result.1 c.span-span.result = search rules in
+    let z : to_z w64 (of_z w64 c.low_end.result) ≡ low_end c.pair-column.result.1 c.span-span.result = search rules in
     record {
       size = subst (IsSumOf (c.loop-term.term-index + 1)) (sym c.with_product-total.ensures)
-          (size_more low_end IsModestEnd-low_end c.args.area.now c.args.terms.now c.as_slice-term-items.result.now c.loop-term.term-index c.loop-term.total c.term-item.result c.span-span.result _
-          c.as_slice-term-items.ensures (omega arith) c.term-item.is c.requires.limited c.requires.limited_box c.span-span.ensures z c.loop-term.invariant.size);
+          (size_more low_end IsModestEnd-low_end c.args.area.now c.args.terms.now c.as_slice-term-items.result.now c.loop-term.term-index c.loop-term.total c.pair-column.result c.term-item.result c.span-span.result _
+          c.as_slice-term-items.ensures (omega arith) c.pair-column.ensures c.term-item.is c.requires.limited c.requires.limited_box c.span-span.ensures z c.loop-term.invariant.size);
       rest = ap (λ v. v +ℚ low_of c.args.area.now (drop (c.loop-term.term-index + 1) c.as_slice-term-items.result.now)) c.with_product-total.ensures
-          ∙ rest_more low_end IsModestEnd-low_end c.args.area.now c.args.terms.now c.as_slice-term-items.result.now c.loop-term.term-index c.loop-term.total c.term-item.result c.span-span.result _
-          c.as_slice-term-items.ensures (omega arith) c.term-item.is c.requires.limited c.requires.limited_box c.span-span.ensures z c.loop-term.invariant.size
+          ∙ rest_more low_end IsModestEnd-low_end c.args.area.now c.args.terms.now c.as_slice-term-items.result.now c.loop-term.term-index c.loop-term.total c.pair-column.result c.term-item.result c.span-span.result _
+          c.as_slice-term-items.ensures (omega arith) c.pair-column.ensures c.term-item.is c.requires.limited c.requires.limited_box c.span-span.ensures z c.loop-term.invariant.size
           ∙ c.loop-term.invariant.rest;
     }
 

@@ -1,4 +1,4 @@
-use Rattle.std.proofs.Common.{◌≡◌, ◌++◌, ◌∙◌, ap, sym, append_assoc}
+use Rattle.std.proofs.Common.{◌++◌, ◌∙◌, ap, sym, append_assoc}
 use Rattle.vipr_print.specs.Spelling.{column_numbers, next_column}
 use Rattle.vipr_print.proofs.Sequence.{more_columns}
 use Rattle.vipr_print.proofs.pieces.push_columns.Goals as goal

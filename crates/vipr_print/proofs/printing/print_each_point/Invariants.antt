@@ -1,6 +1,5 @@
 use Rattle.std.proofs.Common.{take}
 use Rattle.std.specs.Prelude.{Ok}
-use Rattle.std.specs.List.{flat_map}
 use Rattle.vipr_print.specs.Spelling.{point_lines}
 use Rattle.vipr_print.specs.Printed.{Printed}
 use Rattle.vipr_print.proofs.printing.print_each_point.Given as goal

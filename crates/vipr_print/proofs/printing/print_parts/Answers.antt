@@ -1,6 +1,5 @@
-use Rattle.std.specs.Prelude.{◌++◌, length, codes}
-use Rattle.std.specs.List.{flat_map}
-use Rattle.vipr_print.specs.Spelling.{count_line, name_line, integer_line, objective_line, constraint_line, row_line, claim_line, point_lines, derived_line, names_text, integers_text, rows_text, problem_text, claim_text, derived_text}
+use Rattle.std.specs.Prelude.{◌++◌}
+use Rattle.vipr_print.specs.Spelling.{problem_text, claim_text, derived_text}
 use Rattle.vipr_print.proofs.Sequence.{printed-then, printed-stopped, handed_on}
 use Rattle.vipr_print.proofs.printing.print_parts.Goals as goal
 

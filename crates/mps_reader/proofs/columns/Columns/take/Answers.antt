@@ -1,6 +1,6 @@
 use Rattle.std.proofs.Common.{◌≡◌, false, Result, Ok, Err, OnOk, is_err, sym, ◌∙◌, get_or, set}
 use Rattle.mps_reader.specs.Faults.{entry_fault, number_fault}
-use Rattle.mps_reader.specs.RowState.{unnamed, with_number}
+use Rattle.mps_reader.specs.RowState.{unkept, with_number}
 use Rattle.mps_reader.specs.RowsSoFar.{names_fine, names_stop}
 use Rattle.mps_reader.specs.State.{entry_held, last_same}
 use Rattle.mps_reader.specs.Stopping.{stops_same}
@@ -38,7 +38,7 @@ returns-in-Ok-take-clause-ok g c entries h =
     let q = c.in-Ok-number_in.ensures.ok in (
       names_fine (table es) entries e (c.in-Ok.ensures.ok entries h k) ∙ q.1,
       entry_held s es entries e h same c.is_same-same.ensures c.in-Ok.ensures.new
-          (record { columns = new.columns; last = new.last; place = new.place; rows = c.take.new.self }) i unnamed c.in-Ok.ensures.row
+          (record { columns = new.columns; last = new.last; place = new.place; rows = c.take.new.self }) i unkept c.in-Ok.ensures.row
           (of_fine c.stand_at.result f c.stand_at.ensures.columns) (of_fine c.stand_at.result f c.stand_at.ensures.last) (of_fine c.stand_at.result f c.stand_at.ensures.place)
-          (c.in-Ok-take.ensures ∙ (λ j. set (w j) i (with_number new.place (q.0 j) (get_or (w j) i unnamed)))),
+          (c.in-Ok-take.ensures ∙ (λ j. set (w j) i (with_number new.place (q.0 j) (get_or (w j) i unkept)))),
     )

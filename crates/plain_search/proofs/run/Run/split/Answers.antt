@@ -1,4 +1,4 @@
-use Rattle.std.specs.Prelude.{◌≡◌, ◌<◌, ◌≤◌, ◌+◌, ◌++◌, ◌<ℤ◌, length, pos}
+use Rattle.std.specs.Prelude.{◌≡◌, ◌≤◌, ◌+◌, ◌++◌, ◌<ℤ◌, length, pos}
 use Rattle.std.proofs.Common.{sym, ap, ◌∙◌, subst, arith, refl}
 use mir.Syntax.{w64}
 use mir.Val.{to_z, of_z}
@@ -7,8 +7,8 @@ use Rattle.plain_search.specs.Kept.{halves}
 use Rattle.problem_box.specs.declared.span.Span.{Span}
 use Rattle.problem.specs.Limited.{IsModestSpan}
 use Rattle.row_activity.specs.Activity.{span_at}
-use Rattle.plain_search.specs.FirstSearch.{middle, first_free}
-use Rattle.plain_search.proofs.Splits.{IsFree, free_at, left_at, right_at, column_there, modest_at, span_found, has_room}
+use Rattle.plain_search.specs.FirstSearch.{middle}
+use Rattle.plain_search.proofs.Splits.{free_at, left_at, right_at, column_there, modest_at, span_found, has_room}
 use Rattle.plain_search.proofs.Keeping.{top_there, top_length, top_modest, halves_follow, halves_keep}
 use Rattle.plain_search.proofs.run.Run.split.Goals as goal
 
@@ -80,7 +80,7 @@ returns-clause-follows c =
     let middle_is : c.middle-bound.result ≡ middle (span_at c.args.node.area c.first_free-column.result) = c.middle-bound.ensures ∙ ap middle (sym (span_found c.args.node.area c.first_free-column.result c.span.result c.span.ensures)) in
     let bound : to_z w64 (of_z w64 c.middle-bound.result) ≡ middle (span_at c.args.node.area c.first_free-column.result) = omega (arith, ints, middle_is) in
     let room : length c.args.self.now.search.nodes + 2 ≤ c.args.limit = omega (arith, c.saturating_sub.ensures, c.len.ensures, c.if-saturating_sub-lt2.false) in
-    halves_follow c.args.problem.now c.args.limit c.args.self.now.search c.args.self.now.open.items c.args.node c.requires.kept c.first_free-column.result free (to_z w64 (of_z w64 c.middle-bound.result)) bound c.add_children.new.search c.push_halves.new.open.items
+    halves_follow c.args.problem.now c.args.limit c.args.self.now.search c.args.self.now.open.items c.args.node c.requires.kept c.first_free-column.result free (to_z w64 (of_z w64 c.middle-bound.result)) bound c.add_children.new.search c.push_halves.new.open_boxes.items
     c.in_ok-add_children.ensures (c.in_ok-push_halves.ensures ∙ ap (λ n. c.args.self.now.open.items ++ halves n c.args.node c.first_free-column.result (to_z w64 (of_z w64 c.middle-bound.result))) c.len-number.ensures) c.first_free-column.ensures c.requires.unsettled (has_room c.args.limit (length c.args.self.now.search.nodes) room)
 
 pub returns-clause-kept : goal.returns-clause-kept
@@ -88,5 +88,5 @@ returns-clause-kept c =
     let free = free_at c.args.node.area c.first_free-column.result c.requires.free c.first_free-column.ensures in
     let middle_is : c.middle-bound.result ≡ middle (span_at c.args.node.area c.first_free-column.result) = c.middle-bound.ensures ∙ ap middle (sym (span_found c.args.node.area c.first_free-column.result c.span.result c.span.ensures)) in
     let bound : to_z w64 (of_z w64 c.middle-bound.result) ≡ middle (span_at c.args.node.area c.first_free-column.result) = omega (arith, ints, middle_is) in
-    halves_keep c.args.problem.now c.args.limit c.args.self.now.search c.args.self.now.open.items c.args.node c.requires.kept c.first_free-column.result free (to_z w64 (of_z w64 c.middle-bound.result)) bound c.add_children.new.search c.push_halves.new.open.items
+    halves_keep c.args.problem.now c.args.limit c.args.self.now.search c.args.self.now.open.items c.args.node c.requires.kept c.first_free-column.result free (to_z w64 (of_z w64 c.middle-bound.result)) bound c.add_children.new.search c.push_halves.new.open_boxes.items
     c.in_ok-add_children.ensures (c.in_ok-push_halves.ensures ∙ ap (λ n. c.args.self.now.open.items ++ halves n c.args.node c.first_free-column.result (to_z w64 (of_z w64 c.middle-bound.result))) c.len-number.ensures) (returns-clause-follows c)

@@ -1,5 +1,4 @@
-use Rattle.std.specs.Prelude.{◌∷◌, []}
-use Rattle.std.proofs.Common.{sym, ap, ◌∙◌, subst}
+use Rattle.std.proofs.Common.{sym, ◌∙◌, subst}
 use Rattle.plain_search.specs.Kept.{IsKept}
 use Rattle.plain_search.proofs.Keeping.{started_kept}
 use Rattle.plain_search.proofs.run.Run.start.Goals as goal
