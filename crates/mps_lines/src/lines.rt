@@ -56,10 +56,14 @@ fn begins_blank(line: &[u8]) -> bool
 fn kept_fields<'a>(alloc: Global, line: &'a [u8]) -> Result<Vec<&'a [u8]>, AllocError>
     ensures { IfOk result (λ v. map (λ f. f.now) v.items ≡ kept_fields line.now) }
 {
-    line.split(|b| *b == b' ' || *b == b'\t')
-        .filter(|field| !(field.len() == 0))
-        .take(6)
-        .collect(alloc)
+    // Room for all of them at once, since each line of a text comes here.
+    let mut fields = Vec::with_capacity(alloc, 6)?;
+    fields.extend(
+        line.split(|b| *b == b' ' || *b == b'\t')
+            .filter(|field| !(field.len() == 0))
+            .take(6),
+    )?;
+    Ok(fields)
 }
 
 /// Where the first LF stands, or the length.
