@@ -32,7 +32,11 @@ fn length(alloc: Global, certificate: &Cert) -> (u64, bool) {
 }
 
 /// Makes the certificate of a problem and prints it; then prints the derived lines and the bytes of the text.
-pub fn show_certificate<R: Print>(rt: &R, alloc: Global, problem: &Problem) -> io::Result<()> {
+pub(crate) fn show_certificate<R: Print>(
+    rt: &R,
+    alloc: Global,
+    problem: &Problem,
+) -> io::Result<()> {
     let Some(certificate) = certificate_of(alloc, problem)? else {
         return println!(rt; "spent");
     };
@@ -42,7 +46,7 @@ pub fn show_certificate<R: Print>(rt: &R, alloc: Global, problem: &Problem) -> i
 }
 
 /// The same, with the nanoseconds until the certificate was made, and until it was printed, in front.
-pub fn time_certificate<R: Clock + Print>(
+pub(crate) fn time_certificate<R: Clock + Print>(
     rt: &R,
     alloc: Global,
     problem: &Problem,
