@@ -1,9 +1,10 @@
-# make test: the gate. It proves each crate, tries the edits that have to be refused, and runs the tests. Then it sees that the examples are
-# the models that the cases run.
-# make demo: builds the program, solves examples/one.mps, and shows the answer and the certificate.
-# make install PREFIX=DIR: puts the program into DIR/bin, by default /usr/local/bin.
-#
-# The program is proved before it is built, with each crate below it. What was proved in this checkout before is kept.
+# make test: the gate. `rt ci` proves each crate, tries the edits that have to be refused, and runs the tests and the programs. Then come
+# checks of our own: the examples are the models that the cases run, the definitions stand apart from lemmas, and the built program
+# leaves a user's files whole.
+# make demo: solves examples/one.mps, and shows the answer and the certificate. It takes the proved program where there is one. Else it
+# builds the same program without its proof, and says so.
+# make build: builds the proved program. What was proved in this checkout before is kept.
+# make install PREFIX=DIR: puts the proved program into DIR/bin, by default /usr/local/bin.
 
 PREFIX ?= /usr/local
 program = crates/bnc_cli/out/bnc_cli
@@ -13,19 +14,19 @@ program = crates/bnc_cli/out/bnc_cli
 test: kit
 	rt ci
 	@for model in crates/model_cases/data/*.mps; do cmp "$$model" "examples/$${model##*/}" || exit 1; done
+	@tools/definitions check
+	@tests/files.sh $(program)
 
-demo: build
-	@work=$$(mktemp -d) && trap 'rm -rf "$$work"' EXIT && cp examples/one.mps "$$work" && cd "$$work" \
-	    && echo '$$ bnc solve one.mps one.journal one.cert' && '$(CURDIR)/$(program)' solve one.mps one.journal one.cert \
-	    && echo '$$ cat one.cert' && cat one.cert
+demo: kit
+	@tools/demo
 
 install: build
 	install -d '$(DESTDIR)$(PREFIX)/bin'
 	install -m 755 $(program) '$(DESTDIR)$(PREFIX)/bin/bnc'
 
-# The run only shows that what was built runs.
+# `rt run` proves and builds the program. The run itself only shows that it starts.
 build: kit
-	@echo "proving and building bnc; from nothing this takes some twenty minutes"
+	@[ -x $(program) ] || echo "proving and building bnc, with each crate below it; from nothing this takes a while (CONTRIBUTING.md)"
 	@cd crates/bnc_cli && log=$$(mktemp) && trap 'rm -f "$$log"' EXIT \
 	    && { rt run -- solve data/one.mps one.journal /dev/null >"$$log" 2>&1 || { cat "$$log"; exit 1; }; }
 

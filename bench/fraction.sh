@@ -2,13 +2,8 @@
 # Compares the crate fraction with the same rules in plain Rust (bench/fraction/plain.rs), in one run on one machine: a line for each size
 # and operation with the nanoseconds of both, the least of five runs, and their ratio. Build the program first: `rt run` in
 # crates/fraction_bench.
-set -e
-cd "$(dirname "$0")/.."
-proved=crates/fraction_bench/out/fraction_bench
-[ -x "$proved" ] || { echo "no $proved: call rt run in crates/fraction_bench" >&2; exit 1; }
-work=$(mktemp -d)
-trap 'rm -rf "$work"' EXIT
-rustc --edition 2021 -O bench/fraction/plain.rs -o "$work/plain"
+. "$(dirname "$0")/common.sh"
+prepare fraction_bench fraction
 for run in 1 2 3 4 5; do
     "$work/plain" >>"$work/plain.txt"
     "$proved" time >>"$work/proved.txt"
@@ -16,7 +11,7 @@ done
 python3 - "$work/plain.txt" "$work/proved.txt" <<'END'
 import sys
 
-OPERATIONS = 300_000  # the pairs of all runs in the programs
+OPERATIONS = 100_000  # the pairs of all runs in the programs
 
 
 def least(path):

@@ -3,13 +3,8 @@
 # leave beside those of a lock and an unlock, the least of five runs, and their ratio; alone, and by four threads. Then four threads each
 # keep a turn for long: how many cores the program takes meanwhile, of which one works. Build the program first: `rt run` in
 # crates/turn_lock_bench.
-set -e
-cd "$(dirname "$0")/.."
-proved=crates/turn_lock_bench/out/turn_lock_bench
-[ -x "$proved" ] || { echo "no $proved: call rt run in crates/turn_lock_bench" >&2; exit 1; }
-work=$(mktemp -d)
-trap 'rm -rf "$work"' EXIT
-rustc --edition 2021 -O bench/lock/plain.rs -o "$work/plain"
+. "$(dirname "$0")/common.sh"
+prepare turn_lock_bench lock
 python3 - "$work/plain" "$proved" <<'END'
 import os
 import subprocess

@@ -1,13 +1,8 @@
 #!/bin/sh
 # How fast a certificate is printed into memory: 200,000 derived lines by the crate vipr_print, beside the same lines by `write!` in plain
 # Rust (bench/print/plain.rs), in one run on one machine, the least of five. Build the program first: `rt run` in crates/vipr_print_bench.
-set -e
-cd "$(dirname "$0")/.."
-proved=crates/vipr_print_bench/out/vipr_print_bench
-[ -x "$proved" ] || { echo "no $proved: call rt run in crates/vipr_print_bench" >&2; exit 1; }
-work=$(mktemp -d)
-trap 'rm -rf "$work"' EXIT
-rustc --edition 2021 -O bench/print/plain.rs -o "$work/plain"
+. "$(dirname "$0")/common.sh"
+prepare vipr_print_bench print
 for run in 1 2 3 4 5; do
     "$work/plain" >>"$work/plain.txt"
     "$proved" time >>"$work/proved.txt"

@@ -1,16 +1,12 @@
 #!/bin/sh
 # How long the built program takes, and how much memory at most: on a model of 1,000 columns, and on one of near 4 MiB, the most that it
 # reads. A line for each: the bytes of the model, the lines of the certificate, the least time of five runs and the peak of memory. Build
-# the program first, by `make demo`.
-set -e
-cd "$(dirname "$0")/.."
-program=$(pwd)/crates/bnc_cli/out/bnc_cli
-[ -x "$program" ] || { echo "no $program: call make demo" >&2; exit 1; }
+# the program first, by `make test` or `make build`.
+. "$(dirname "$0")/common.sh"
+prepare bnc_cli
 [ -x /usr/bin/time ] || { echo "no /usr/bin/time: it measures the memory" >&2; exit 1; }
-work=$(mktemp -d)
-trap 'rm -rf "$work"' EXIT
 cd "$work"
-python3 - "$program" <<'END'
+python3 - "$proved" <<'END'
 import subprocess
 import sys
 import time

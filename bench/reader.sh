@@ -3,13 +3,8 @@
 # are long in one way each, such as one line, one number or empty lines alone. Beside it plain Rust (bench/reader/plain.rs), which reads
 # the same texts into the same shape of data, in one run on one machine: the least processor time of five, and the peak of memory. Build
 # the program first: `rt run` in crates/mps_reader_bench.
-set -e
-cd "$(dirname "$0")/.."
-proved=$(pwd)/crates/mps_reader_bench/out/mps_reader_bench
-[ -x "$proved" ] || { echo "no $proved: call rt run in crates/mps_reader_bench" >&2; exit 1; }
-work=$(mktemp -d)
-trap 'rm -rf "$work"' EXIT
-rustc --edition 2021 -O bench/reader/plain.rs -o "$work/plain"
+. "$(dirname "$0")/common.sh"
+prepare mps_reader_bench reader
 python3 bench/reader/texts.py "$work"
 python3 - "$work" "$proved" <<'END'
 import os

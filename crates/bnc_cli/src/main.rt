@@ -4,26 +4,18 @@
 //! CERT, and prints a few lines. The search has at most N nodes, 1 to 1,000,000,000, and 1,000,000 where the words don't say; U, 0
 //! to 1,000,000,000, bounds each column that has no bound. JOURNAL is a path, and nothing is kept there yet.
 //!
-//! All of that is `run` of `solve_top`. Here are the real files that it reads and writes, and the exit status: the number of a
-//! `Status` of `solve_top`.
+//! All of that is `run` of `solve_top`. Here the real files of `file_streams` are put in its hands, and the exit status is told: the
+//! number of a `Status` of `solve_top`.
 #![tactic(auto)]
 
-mod file_sink;
-mod file_source;
-mod standard_output;
-#[cfg(test)]
-mod tests;
-
-use file_sink::FileSink;
-use file_source::FileSource;
+use file_streams::{Destination, FileSink, FileSource, Spared, StandardOutput, hold_standard};
 use outside::{MemDisk, NoHold};
 use solve_top::{Paths, Status, Words, WordsFault, paths_of, run};
-use standard_output::StandardOutput;
 use std::alloc::{AllocError, Global};
 use std::env;
 use std::fs::File;
 use std::hash::{BuildHasher, BuildHasherDefault, DefaultHasher, RandomState};
-use std::io::ErrorKind;
+use std::io::{ErrorKind, Stderr, Stdout};
 use std::process::ExitCode;
 use std::rt::Files;
 use std::sync::Wait;
@@ -43,17 +35,27 @@ fn words_of(rt: &HostRuntime) -> Result<Words, AllocError> {
     Ok(words)
 }
 
-/// One run over the files of the paths. Its status, but `Sink` where all was written and the certificate can't be kept.
+/// One run over the files of the paths, of which the certificate spares the other two. Its status, but `Sink` where all was written and
+/// the certificate can't be kept.
 fn status_of<R: Threads + Wait + Sync + Files<File = File>, B: BuildHasher + Drop>(
     rt: &R,
     alloc: Global,
     keys: B,
     words: &Words,
     paths: &Paths,
-    mut out: StandardOutput,
+    streams: (Stdout, Stderr),
 ) -> u8 {
-    let mut model = FileSource::new(rt, paths.model.as_deref());
-    let mut cert = FileSink::new(rt, paths.cert.as_deref());
+    let mut model = FileSource::open(rt, paths.model.as_deref());
+    let destination = Destination {
+        path: paths.cert.as_deref(),
+        spared: Spared {
+            open: model.inode(),
+            paths: [paths.model.as_deref(), paths.journal.as_deref()],
+        },
+        streams,
+    };
+    let mut cert = FileSink::new(rt, destination);
+    let mut out = StandardOutput::new(streams.0);
     let disk = MemDisk::new(alloc);
     let ran = run(
         rt, alloc, keys, words, &mut model, disk, &mut cert, &mut out, &NoHold,
@@ -65,8 +67,11 @@ fn status_of<R: Threads + Wait + Sync + Files<File = File>, B: BuildHasher + Dro
 }
 
 /// Runs the words of the command line over the files that they name. Words that are no command name none, and are refused by the
-/// run. Where memory runs out before it, nothing is printed.
+/// run. Where memory runs out before it, or the standard descriptors can't be held, nothing is printed.
 fn main(rt: HostRuntime) -> ExitCode {
+    if hold_standard(&rt).is_err() {
+        return ExitCode::from(Status::Sink.number());
+    }
     let Ok(words) = words_of(&rt) else {
         return ExitCode::from(Status::Memory.number());
     };
@@ -79,12 +84,12 @@ fn main(rt: HostRuntime) -> ExitCode {
         },
         Err(WordsFault::Memory) => return ExitCode::from(Status::Memory.number()),
     };
-    let out = StandardOutput::new(rt.stdout());
+    let streams = (rt.stdout(), rt.stderr());
     let status = match RandomState::new(&rt) {
-        Ok(keys) => status_of(&rt, rt.alloc(), keys, &words, &paths, out),
+        Ok(keys) => status_of(&rt, rt.alloc(), keys, &words, &paths, streams),
         Err(_) => {
             let fixed: BuildHasherDefault<DefaultHasher> = BuildHasherDefault::new();
-            status_of(&rt, rt.alloc(), fixed, &words, &paths, out)
+            status_of(&rt, rt.alloc(), fixed, &words, &paths, streams)
         }
     };
     ExitCode::from(status)

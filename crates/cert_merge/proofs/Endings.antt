@@ -1,27 +1,30 @@
 -- The lines of closed nodes, by the table of their setters.
 use Rattle.std.specs.Prelude.{◌≡◌, ◌<◌, ℕ, zero, suc, ℤ, pos, negsuc, int_lt, Bool, true, false, cond, eqb, List, [], ◌∷◌, ◌++◌, map, length, Option, Some, None, slice_index_or, refl}
 use Rattle.std.proofs.Common.{ap, sym, subst, ◌∙◌, inl, inr, arith}
-use Rattle.fraction.specs.Rational.{ℚ, whole, ◌+ℚ◌, ◌*ℚ◌, neg_ℚ, zero-+ℚ, neg-+ℚ, +ℚ_assoc, one-*ℚ, zero-*ℚ}
-use Rattle.fraction.specs.Ring.{ring_ℚ, +ℚ-mul}
-use Rattle.fraction.specs.Bounds.{whole_parts}
+use Rattle.fraction.specs.Rational.{ℚ, whole, ◌+ℚ◌, ◌*ℚ◌, neg_ℚ}
+use Rattle.fraction.specs.Lemmas.Rational.{zero-+ℚ, neg-+ℚ, +ℚ_assoc, one-*ℚ, zero-*ℚ}
+use Rattle.fraction.specs.Lemmas.Ring.{ring_ℚ, +ℚ-mul, +ℚ-zero}
+use Rattle.fraction.specs.Lemmas.Bounds.{whole_parts}
 use Rattle.problem.specs.declared.row.Row.{Row}
-use Rattle.problem.specs.Program.{Program}
-use Rattle.problem.specs.Linear.{coefficient, at_column, scaled, coefficient-append, +ℚ-zero, whole-+}
+use Rattle.problem.specs.Problem.{Problem}
+use Rattle.problem.specs.Linear.{coefficient, at_column, scaled}
+use Rattle.problem.specs.Lemmas.Linear.{coefficient-append}
 use Rattle.problem.specs.Limited.{IsLimited}
-use Rattle.cert_rows.specs.Lines.{row_at, no_line}
+use Rattle.cert_rows.specs.Lines.{row_at, no_cert_line}
 use Rattle.cert_rows.specs.Combination.{combined_terms}
 use Rattle.cert_rows.specs.Validity.{bound_rows}
 use Rattle.cert_merge.specs.declared.setters.Setter.{Setter}
 use Rattle.cert_merge.specs.Search.{Cut, Ending, refute, bound, Search, node_at}
-use Rattle.cert_merge.specs.Closing.{left_of, all_placed}
+use Rattle.cert_merge.specs.Closing.{reduced_cost, all_placed}
 use Rattle.cert_rows.specs.declared.line.CertRow.{CertRow}
 use Rattle.cert_rows.specs.declared.line.Why.{Why}
 use Rattle.cert_rows.specs.declared.line.Why.TheVariants.{Lin}
-use Rattle.cert_merge.specs.Merged.{absurd_row, goal_row, base_lines, filled, bound_reason, ending_line, node_of}
+use Rattle.cert_merge.specs.Merged.{absurd_row, goal_row, base_lines, with_bound_multipliers, bound_reason, ending_line, node_of}
 use Rattle.cert_merge.specs.Plain.{IsOneRow, IsPlainEnding}
-use Rattle.cert_merge.specs.Setters.{AreSetters, signed, fillings_by}
+use Rattle.cert_merge.specs.Setters.{AreSetters, signed, bound_multipliers_by}
 use Rattle.cert_merge.specs.Valued.{value_of, row_to_show, node_row, refuting}
 use Rattle.cert_merge.proofs.RisingFillings.{turned, fillings_of}
+use Rattle.fraction.specs.Lemmas.Whole.{whole-+}
 
 -- ---- signs
 neg_only : (x y : ℚ) → x +ℚ y ≡ whole (pos 0) → y ≡ neg_ℚ x
@@ -84,38 +87,38 @@ turned_not [] = refl
 turned_not (t ∷ ts) = ap (λ us. t ∷ us) (turned_not ts)
 
 -- ---- rows among the lines before the cuts
-row_in_front : (rs xs ys : List Row) (k : ℕ) (d : Row) → k < length rs
-    → (slice_index_or (map (λ (r : Row). record { row = r; assumes = [] }) ((rs ++ xs) ++ ys)) k no_line).row ≡ slice_index_or rs k d
-row_in_front [] xs ys k d l = absurd (omega (arith, l))
-row_in_front (r ∷ rs) xs ys zero d l = refl
-row_in_front (r ∷ rs) xs ys (suc k) d l = row_in_front rs xs ys k d (omega (arith, l))
+row_in_prefix : (rs xs ys : List Row) (k : ℕ) (d : Row) → k < length rs
+    → (slice_index_or (map (λ (r : Row). record { row = r; assumes = [] }) ((rs ++ xs) ++ ys)) k no_cert_line).row ≡ slice_index_or rs k d
+row_in_prefix [] xs ys k d l = absurd (omega (arith, l))
+row_in_prefix (r ∷ rs) xs ys zero d l = refl
+row_in_prefix (r ∷ rs) xs ys (suc k) d l = row_in_prefix rs xs ys k d (omega (arith, l))
 
 -- ---- the two kinds
-module _ (p : Program) (s : Search) (n : ℕ) (ts : List Setter) (limited : IsLimited p) (long : length ts ≡ length p.spans) (setters : AreSetters s n ts) where
+module _ (p : Problem) (s : Search) (n : ℕ) (ts : List Setter) (limited : IsLimited p) (long : length ts ≡ length p.spans) (setters : AreSetters s n ts) where
   one_row : (m : ℕ × ℚ) (b : Bool) → m.0 < length p.rows → IsSign m.1 b
-      → all_placed (fillings_by p s ts (int_lt (pos 0) m.1.num) (slice_index_or p.rows m.0 absurd_row).terms) (m ∷ []) ≡ filled p s n [] (m ∷ [])
+      → all_placed (bound_multipliers_by p s ts (int_lt (pos 0) m.1.num) (slice_index_or p.rows m.0 absurd_row).terms) (m ∷ []) ≡ with_bound_multipliers p s n [] (m ∷ [])
   one_row m b l h =
       let row : Row = slice_index_or p.rows m.0 absurd_row in
-      let same : row_at (base_lines p s.cuts) m.0 ≡ row = row_in_front p.rows (bound_rows 0 p.spans) (map (λ (c : Cut). c.row) s.cuts) m.0 absurd_row l in
-      let left : (i : ℕ) → left_of [] (combined_terms (base_lines p s.cuts) (m ∷ [])) i ≡ coefficient (map (turned b) row.terms) i =
+      let same : row_at (base_lines p s.cuts) m.0 ≡ row = row_in_prefix p.rows (bound_rows 0 p.spans) (map (λ (c : Cut). c.row) s.cuts) m.0 absurd_row l in
+      let left : (i : ℕ) → reduced_cost [] (combined_terms (base_lines p s.cuts) (m ∷ [])) i ≡ coefficient (map (turned b) row.terms) i =
       λ i. zero-+ℚ _
       ∙ ap neg_ℚ (coefficient-append (scaled m.1 (row_at (base_lines p s.cuts) m.0).terms) [] i ∙ +ℚ-zero _)
       ∙ ap (λ (r : Row). neg_ℚ (coefficient (scaled m.1 r.terms) i)) same
       ∙ sym (coefficient_turned b m.1 row.terms i h.leaves) in
       ap (λ fs. all_placed fs (m ∷ []))
-      (ap (λ v. fillings_by p s ts v row.terms) h.sign
-      ∙ sym (fillings_of p s n ts b row.terms (left_of [] (combined_terms (base_lines p s.cuts) (m ∷ []))) long setters (limited.rows m.0 absurd_row l).terms left))
+      (ap (λ v. bound_multipliers_by p s ts v row.terms) h.sign
+      ∙ sym (fillings_of p s n ts b row.terms (reduced_cost [] (combined_terms (base_lines p s.cuts) (m ∷ []))) long setters (limited.rows m.0 absurd_row l).terms left))
 
-  pub refuted_is : (ms : List (ℕ × ℚ)) → IsOneRow p ms → refuting p s ts ms ≡ filled p s n [] ms
+  pub refuted_is : (ms : List (ℕ × ℚ)) → IsOneRow p ms → refuting p s ts ms ≡ with_bound_multipliers p s n [] ms
   refuted_is [] h = absurd h
   refuted_is (m ∷ []) h = elim h.1 [ inl e ↦ one_row m true h.0 (by_one m.1 e) | inr e ↦ one_row m false h.0 (by_minus_one m.1 e) ]
   refuted_is (m ∷ k ∷ ks) h = absurd h
 
-  pub bounded_is : all_placed (fillings_by p s ts false p.objective) [] ≡ filled p s n p.objective []
+  pub bounded_is : all_placed (bound_multipliers_by p s ts false p.objective) [] ≡ with_bound_multipliers p s n p.objective []
   bounded_is =
-      let left : (i : ℕ) → left_of p.objective [] i ≡ coefficient (map (turned false) p.objective) i =
+      let left : (i : ℕ) → reduced_cost p.objective [] i ≡ coefficient (map (turned false) p.objective) i =
       λ i. ap (λ v. coefficient p.objective i +ℚ v) (sym neg_none) ∙ +ℚ-zero _ ∙ ap (λ us. coefficient us i) (sym (turned_not p.objective)) in
-      ap (λ fs. all_placed fs []) (sym (fillings_of p s n ts false p.objective (left_of p.objective []) long setters limited.objective left))
+      ap (λ fs. all_placed fs []) (sym (fillings_of p s n ts false p.objective (reduced_cost p.objective []) long setters limited.objective left))
 
   -- ---- the lines
   node_is : (e : Ending) → (node_at s n).ending ≡ e → (node_row n (ending_line p s n e).0, (ending_line p s n e).1) ≡ node_of p s n
@@ -123,7 +126,7 @@ module _ (p : Program) (s : Search) (n : ℕ) (ts : List Setter) (limited : IsLi
 
   pub refuted_node : (ms : List (ℕ × ℚ)) → (node_at s n).ending ≡ refute ms → IsPlainEnding p s (node_at s n).ending → (node_row n absurd_row, Lin (refuting p s ts ms)) ≡ node_of p s n
   refuted_node ms h plain =
-      let line : CertRow × Why = (node_row n absurd_row, Lin (filled p s n [] ms)) in
+      let line : CertRow × Why = (node_row n absurd_row, Lin (with_bound_multipliers p s n [] ms)) in
       let here : (node_row n absurd_row, Lin (refuting p s ts ms)) ≡ line = λ i. (node_row n absurd_row, Lin (refuted_is ms (subst (IsPlainEnding p s) h plain) i)) in
       here ∙ node_is (refute ms) h
 
@@ -132,10 +135,10 @@ module _ (p : Program) (s : Search) (n : ℕ) (ts : List Setter) (limited : IsLi
   shown (Some x) = refl
 
   pub bounded_node : (v : Option ℚ) (ms : List (ℕ × ℚ)) (rounded : Bool) → (node_at s n).ending ≡ bound ms rounded → IsPlainEnding p s (node_at s n).ending → v ≡ value_of p s.incumbent
-      → (node_row n (row_to_show p v), Lin (all_placed (fillings_by p s ts false p.objective) [])) ≡ node_of p s n
+      → (node_row n (row_to_show p v), Lin (all_placed (bound_multipliers_by p s ts false p.objective) [])) ≡ node_of p s n
   bounded_node v ms rounded h plain value =
       let q = subst (IsPlainEnding p s) h plain in
       let row : row_to_show p v ≡ goal_row p s.incumbent = ap (row_to_show p) value ∙ shown s.incumbent in
-      let mult : Lin (all_placed (fillings_by p s ts false p.objective) []) ≡ bound_reason rounded (filled p s n p.objective ms) =
-      (λ i. Lin (bounded_is i)) ∙ (λ i. bound_reason (sym q.1 i) (filled p s n p.objective (sym q.0 i))) in
+      let mult : Lin (all_placed (bound_multipliers_by p s ts false p.objective) []) ≡ bound_reason rounded (with_bound_multipliers p s n p.objective ms) =
+      (λ i. Lin (bounded_is i)) ∙ (λ i. bound_reason (sym q.1 i) (with_bound_multipliers p s n p.objective (sym q.0 i))) in
       (λ i. (node_row n (row i), mult i)) ∙ node_is (bound ms rounded) h

@@ -1,13 +1,8 @@
 pub mod Parts
 pub mod Claims
-pub mod Filling
-pub mod Closings
-pub mod LongerLines
-pub mod TreeLemmas
 pub mod WorkedTree
 pub mod WorkedTables
 pub mod OpenNodes
-pub mod Tracing
 pub mod Placing
 pub mod Refuting
 pub mod RisingFillings

@@ -1,56 +1,31 @@
 -- What rising terms leave goes to the bounds of their own columns, in their order.
-use Rattle.std.specs.Prelude.{◌≡◌, ◌<◌, ◌≤◌, ◌⊎◌, ◌+◌, ℕ, suc, pos, int_lt, nat_lt, eqb, Bool, true, false, cond, List, [], ◌∷◌, map, length, All, Option, Some, None, refl}
+use Rattle.std.specs.Prelude.{◌≡◌, ◌<◌, ◌≤◌, ◌⊎◌, ◌+◌, ℕ, suc, pos, int_lt, nat_lt, Bool, true, false, cond, List, [], ◌∷◌, map, length, All, Option, Some, None, refl}
 use Rattle.std.specs.Ordering.{int_eq}
 use Rattle.std.proofs.Common.{ap, sym, subst, ◌∙◌, inl, inr, arith}
-use Rattle.std.proofs.lemmas.Bool.{eqb-true, eqb-false, ltb-true, ltb-false}
+use Rattle.std.proofs.lemmas.Bool.{ltb-true, ltb-false}
 use Rattle.std.proofs.lemmas.Int.{ints}
 use Rattle.std.proofs.lemmas.List.Elements.{All-nil, All-cons, All-head, All-tail}
 use Rattle.fraction.specs.Gcd.{gcd, gcd_within}
-use Rattle.fraction.specs.Rational.{ℚ, whole, frac, frac_same, ℚ_is, lit_one, ◌+ℚ◌, neg_ℚ, zero-+ℚ, neg-+ℚ}
+use Rattle.fraction.specs.Rational.{ℚ, whole, frac, ◌+ℚ◌, neg_ℚ}
+use Rattle.fraction.specs.Lemmas.Rational.{zero-+ℚ, neg-+ℚ}
+use Rattle.fraction.specs.Lemmas.Order.{zero_from_num}
 use Rattle.problem_box.specs.declared.span.Span.{Span}
-use Rattle.problem.specs.Program.{Program}
-use Rattle.problem.specs.Linear.{coefficient, +ℚ-zero}
+use Rattle.problem.specs.Problem.{Problem}
+use Rattle.problem.specs.Linear.{coefficient}
+use Rattle.problem.specs.Lemmas.Linear.{past_first}
+use Rattle.problem.specs.Lemmas.Rising.{before_first, at_first}
 use Rattle.problem.specs.Rising.{RiseFrom, AreNonzero}
 use Rattle.problem.specs.Limited.{AreLimited}
 use Rattle.cert_merge.specs.declared.setters.Setter.{Setter}
 use Rattle.cert_merge.specs.Search.{Side, low, high, Search, path_of, setter}
-use Rattle.cert_merge.specs.Closing.{Source, fillings}
+use Rattle.cert_merge.specs.Closing.{Source, bound_multipliers}
 use Rattle.cert_merge.specs.Numbers.{bound_line, assumption_line, line_of_bound, sources_from, sources_of}
-use Rattle.cert_merge.specs.Setters.{AreSetters, set_line, line_by, side_for, signed, fillings_by}
+use Rattle.cert_merge.specs.Setters.{AreSetters, set_line, line_by, side_for, signed, bound_multipliers_by}
 
--- ---- coefficients of rising terms
--- below the first column there is nothing
-before_first : (j k : ℕ) (ts : List (ℕ × ℚ)) → j < k → RiseFrom k ts → coefficient ts j ≡ whole (pos 0)
-before_first j k [] l h = refl
-before_first j k (t ∷ ts) l h = other (before_first j (suc t.0) ts (omega (arith, h.0)) h.1) (eqb t.0 j) refl
-  where
-    other : coefficient ts j ≡ whole (pos 0) → (b : Bool) → eqb t.0 j ≡ b → cond b t.1 (whole (pos 0)) +ℚ coefficient ts j ≡ whole (pos 0)
-    other z true e = absurd (omega (arith, eqb-true t.0 j e, h.0))
-    other z false e = zero-+ℚ _ ∙ z
-
--- at the first column stands the first coefficient
-at_first : (t : ℕ × ℚ) (ts : List (ℕ × ℚ)) → RiseFrom (suc t.0) ts → coefficient (t ∷ ts) t.0 ≡ t.1
-at_first t ts h = same (eqb t.0 t.0) refl
-  where
-    same : (b : Bool) → eqb t.0 t.0 ≡ b → cond b t.1 (whole (pos 0)) +ℚ coefficient ts t.0 ≡ t.1
-    same true e = ap (λ v. t.1 +ℚ v) (before_first t.0 (suc t.0) ts (omega arith) h) ∙ +ℚ-zero t.1
-    same false e = absurd (eqb-false t.0 t.0 e refl)
-
--- behind it, the rest
-after_first : (t : ℕ × ℚ) (ts : List (ℕ × ℚ)) (j : ℕ) → t.0 < j → coefficient (t ∷ ts) j ≡ coefficient ts j
-after_first t ts j l = other (eqb t.0 j) refl
-  where
-    other : (b : Bool) → eqb t.0 j ≡ b → cond b t.1 (whole (pos 0)) +ℚ coefficient ts j ≡ coefficient ts j
-    other true e = absurd (omega (arith, eqb-true t.0 j e))
-    other false e = zero-+ℚ _
-
--- ---- fillings
+-- ---- bound multipliers
 zero_skips : (x : ℚ) → x ≡ whole (pos 0) → int_eq x.num (pos 0) ≡ true
 unfolding frac gcd gcd_within
 zero_skips x e = ap (λ (v : ℚ). int_eq v.num (pos 0)) e
-
-zero_num : (c : ℚ) → c.num ≡ pos 0 → c ≡ whole (pos 0)
-zero_num c e = ℚ_is c ∙ ap (λ n. frac n c.den) e ∙ frac_same (pos 0) (pos 0) c.den 1 c.lowest.0 lit_one (omega (arith, ints))
 
 first_or_later : (j k : ℕ) → j ≤ k → (k ≡ j) ⊎ (j < k)
 first_or_later j k l = step (nat_lt j k) refl
@@ -83,7 +58,7 @@ turned_below : (b : Bool) (n : ℕ) (ts : List (ℕ × ℚ)) → All (λ t. t.0 
 turned_below b n [] h = All-nil (λ (t : ℕ × ℚ). t.0 < n)
 turned_below b n (t ∷ ts) h = All-cons (λ (u : ℕ × ℚ). u.0 < n) (turned b t) (map (turned b) ts) (All-head (λ (u : ℕ × ℚ). u.0 < n) t ts h) (turned_below b n ts (All-tail (λ (u : ℕ × ℚ). u.0 < n) t ts h))
 
--- ---- fillings
+-- ---- bound multipliers
 -- a number, on the line of the bound that it goes to
 abbrev pub on_bound : (ℕ → Side → ℕ) → ℕ × ℚ → ℕ × ℚ
 on_bound line t = (line t.0 (side_for t.1), t.1)
@@ -93,11 +68,11 @@ kept : (line : Side → ℕ) (c : ℚ) (rest : List (ℕ × ℚ)) → (c ≡ who
 kept line c rest n = step (int_eq c.num (pos 0)) (int_lt (pos 0) c.num) refl
   where
     step : (b d : Bool) → int_eq c.num (pos 0) ≡ b → cond b rest ((cond d (line low) (line high), c) ∷ rest) ≡ (line (cond d low high), c) ∷ rest
-    step true d e = absurd (n (zero_num c (grind (arith, ints))))
+    step true d e = absurd (n (zero_from_num c (grind (arith, ints))))
     step false true e = refl
     step false false e = refl
 
-module _ (p : Program) (s : Search) (n : ℕ) where
+module _ (p : Problem) (s : Search) (n : ℕ) where
   abbrev sources : ℕ → List Span → List Source
   sources j ss = sources_from p s n j ss
 
@@ -105,26 +80,26 @@ module _ (p : Program) (s : Search) (n : ℕ) where
   line j side = line_of_bound p s n j side
 
   pub fillings_are : (f : ℕ → ℚ) (j : ℕ) (ss : List Span) (ts : List (ℕ × ℚ)) → ((i : ℕ) → j ≤ i → f i ≡ coefficient ts i) → RiseFrom j ts → AreNonzero ts → All (λ t. t.0 < j + length ss) ts
-      → fillings f j (sources j ss) ≡ map (on_bound line) ts
+      → bound_multipliers f j (sources j ss) ≡ map (on_bound line) ts
   fillings_are f j [] [] h a z b = refl
   fillings_are f j [] (t ∷ ts) h a z b = absurd (omega (arith, a.0, All-head (λ (t : ℕ × ℚ). t.0 < j + 0) t ts b))
   fillings_are f j (s ∷ ss) [] h a z b =
-      ap (λ e. cond e (fillings f (j + 1) (sources (j + 1) ss)) ((cond (int_lt (pos 0) (f j).num) (line j low) (line j high), f j) ∷ fillings f (j + 1) (sources (j + 1) ss))) (zero_skips (f j) (h j (omega arith)))
+      ap (λ e. cond e (bound_multipliers f (j + 1) (sources (j + 1) ss)) ((cond (int_lt (pos 0) (f j).num) (line j low) (line j high), f j) ∷ bound_multipliers f (j + 1) (sources (j + 1) ss))) (zero_skips (f j) (h j (omega arith)))
       ∙ fillings_are f (j + 1) ss [] (λ i l. h i (omega arith)) tt z (All-nil (λ (t : ℕ × ℚ). t.0 < j + 1 + length ss))
   fillings_are f j (s ∷ ss) (t ∷ ts) h a z b =
-      let rest : List (ℕ × ℚ) = fillings f (j + 1) (sources (j + 1) ss) in
+      let rest : List (ℕ × ℚ) = bound_multipliers f (j + 1) (sources (j + 1) ss) in
       let at : ℚ → List (ℕ × ℚ) = λ v. cond (int_eq v.num (pos 0)) rest ((cond (int_lt (pos 0) v.num) (line j low) (line j high), v) ∷ rest) in
       let below : All (λ (t : ℕ × ℚ). t.0 < j + 1 + length ss) (t ∷ ts) = subst (λ k. All (λ (t : ℕ × ℚ). t.0 < k) (t ∷ ts)) (let z : j + suc (length ss) ≡ j + 1 + length ss = omega arith in z) b in
       elim (first_or_later j t.0 a.0) [
         | inl e ↦
-            ap at (h j (omega arith) ∙ ap (coefficient (t ∷ ts)) (sym e) ∙ at_first t ts a.1)
+            ap at (h j (omega arith) ∙ at_first t ts j a.1 e)
             ∙ kept (line j) t.1 rest (All-head (λ (t : ℕ × ℚ). t.1 ≡ whole (pos 0) → ⊥) t ts z)
             ∙ (λ i. on_bound line (sym e i, t.1) ∷ fillings_are f (j + 1) ss ts
-            (λ i l. h i (omega arith) ∙ after_first t ts i (omega (arith, e)))
+            (λ i l. h i (omega arith) ∙ past_first t ts i (λ q. omega (arith, e, q, l)))
             (subst (λ k. RiseFrom k ts) (let z : suc t.0 ≡ j + 1 = omega (arith, e) in z) a.1)
             (All-tail (λ (t : ℕ × ℚ). t.1 ≡ whole (pos 0) → ⊥) t ts z) (All-tail (λ (t : ℕ × ℚ). t.0 < j + 1 + length ss) t ts below) i)
         | inr l ↦
-            ap (λ e. cond e rest ((cond (int_lt (pos 0) (f j).num) (line j low) (line j high), f j) ∷ rest)) (zero_skips (f j) (h j (omega arith) ∙ before_first j t.0 (t ∷ ts) l (omega arith, a.1)))
+            ap (λ e. cond e rest ((cond (int_lt (pos 0) (f j).num) (line j low) (line j high), f j) ∷ rest)) (zero_skips (f j) (h j (omega arith) ∙ before_first t.0 (t ∷ ts) j (omega arith, a.1) l))
             ∙ fillings_are f (j + 1) ss (t ∷ ts) (λ i l. h i (omega arith)) (omega (arith, l), a.1) z below
       ]
 
@@ -136,13 +111,13 @@ module _ (p : Program) (s : Search) (n : ℕ) where
   pub line_by_is : (ts : List Setter) (j : ℕ) (side : Side) → AreSetters s n ts → j < length ts → line_by p s ts j side ≡ line_of_bound p s n j side
   line_by_is ts j side h l = ap (set_line p s j side) (h j side l) ∙ set_line_is j side (setter j side (path_of s n n)) refl
 
-  filled_by : (ts : List Setter) (b : Bool) (us : List (ℕ × ℚ)) → AreSetters s n ts → All (λ t. t.0 < length ts) us → map (on_bound line) (map (turned b) us) ≡ fillings_by p s ts b us
+  filled_by : (ts : List Setter) (b : Bool) (us : List (ℕ × ℚ)) → AreSetters s n ts → All (λ t. t.0 < length ts) us → map (on_bound line) (map (turned b) us) ≡ bound_multipliers_by p s ts b us
   filled_by ts b [] h l = refl
   filled_by ts b (u ∷ us) h l =
       λ i. (sym (line_by_is ts u.0 (side_for (signed b u.1)) h (All-head (λ (t : ℕ × ℚ). t.0 < length ts) u us l)) i, signed b u.1) ∷ filled_by ts b us h (All-tail (λ (t : ℕ × ℚ). t.0 < length ts) u us l) i
 
   pub fillings_of : (ts : List Setter) (b : Bool) (us : List (ℕ × ℚ)) (f : ℕ → ℚ) → length ts ≡ length p.spans → AreSetters s n ts → AreLimited (length p.spans) us
-      → ((i : ℕ) → f i ≡ coefficient (map (turned b) us) i) → fillings f 0 (sources_of p s n) ≡ fillings_by p s ts b us
+      → ((i : ℕ) → f i ≡ coefficient (map (turned b) us) i) → bound_multipliers f 0 (sources_of p s n) ≡ bound_multipliers_by p s ts b us
   fillings_of ts b us f long h l e =
       fillings_are f 0 p.spans (map (turned b) us) (λ i k. e i) (turned_rise b 0 us l.rising) (turned_nonzero b us l.nonzero)
       (subst (λ k. All (λ (t : ℕ × ℚ). t.0 < k) (map (turned b) us)) (let z : length p.spans ≡ 0 + length p.spans = omega arith in z) (turned_below b (length p.spans) us l.below))

@@ -1,35 +1,23 @@
 -- A worked problem keeps to the limits.
-use Prim.Native.Nat.{◌∣◌}
-use Rattle.std.proofs.Math.Nat.{one-dvd}
-use Rattle.std.specs.Prelude.{◌≡◌, ◌<◌, ◌≤◌, ◌*◌, ◌^◌, ℕ, ℤ, pos, nat_abs, List, [], ◌∷◌, length}
-use Rattle.std.proofs.Common.{ap, sym, subst, ◌∙◌, arith}
-use Rattle.std.proofs.lemmas.Int.{ints}
+use Rattle.std.specs.Prelude.{◌≡◌, ◌<◌, ◌*◌, ◌^◌, ℕ, pos, List, [], ◌∷◌, length}
+use Rattle.std.proofs.Common.{arith}
 use Rattle.std.proofs.lemmas.List.Elements.{All-nil, All-cons}
 use Rattle.fraction.specs.Rational.{ℚ, whole}
-use Rattle.fraction.specs.Bounds.{Within, whole_parts}
+use Rattle.fraction.specs.Lemmas.Bounds.{whole_nonzero}
 use Rattle.problem_box.specs.declared.span.Span.{Span}
 use Rattle.problem.specs.declared.row.Sense.TheVariants.{E}
 use Rattle.problem.specs.declared.row.Row.{Row}
 use Rattle.problem.specs.Modest.{IsModest}
+use Rattle.problem.specs.Lemmas.Modest.{whole_within}
 use Rattle.problem.specs.Rising.{AreNonzero}
 use Rattle.problem.specs.Limited.{IsLimited, IsLimitedRow, AreLimited, IsModestSpan}
-
-whole_within : (z : ℤ) (n a : ℕ) → nat_abs z * n ≤ a → Within n a (whole z)
-whole_within z n a l =
-    let at_one : nat_abs z * n ≤ a * 1 = omega (arith, l) in
-    record {
-      divides = subst (λ d. d ∣ n) (sym (whole_parts z).1) (one-dvd n);
-      size = subst (λ y. nat_abs y * n ≤ a * (whole z).den) (sym (whole_parts z).0) (subst (λ d. nat_abs z * n ≤ a * d) (sym (whole_parts z).1) at_one);
-    }
 
 -- 2x + 2y
 abbrev pub twice_both : List (ℕ × ℚ)
 twice_both = (0, whole (pos 2)) ∷ (1, whole (pos 2)) ∷ []
 
 two_nonzero : whole (pos 2) ≡ whole (pos 0) → ⊥
-two_nonzero e =
-    let z : pos 2 ≡ pos 0 = sym (whole_parts (pos 2)).0 ∙ ap (λ (v : ℚ). v.num) e ∙ (whole_parts (pos 0)).0 in
-    omega (arith, ints, z)
+two_nonzero e = whole_nonzero (pos 2) (λ z. cc) e
 
 pub both_nonzero : AreNonzero twice_both
 both_nonzero =
@@ -37,7 +25,7 @@ both_nonzero =
     All-cons Nonzero (0, whole (pos 2)) ((1, whole (pos 2)) ∷ []) two_nonzero (All-cons Nonzero (1, whole (pos 2)) [] two_nonzero (All-nil Nonzero))
 
 two_modest : IsModest (whole (pos 2))
-two_modest = whole_within (pos 2) (10 ^ 15) (10 ^ 24) (omega arith)
+two_modest = whole_within (pos 2) (10 ^ 24) (omega arith)
 
 terms_limited : AreLimited 2 twice_both
 terms_limited =
@@ -62,6 +50,6 @@ equation_limited names two = record {
   few_columns = omega arith;
   few_rows = omega arith;
   spans = All-cons IsModestSpan (record { lo = pos 0; hi = pos 1 }) (record { lo = pos 0; hi = pos 1 } ∷ []) (omega arith, omega arith) (All-cons IsModestSpan (record { lo = pos 0; hi = pos 1 }) [] (omega arith, omega arith) (All-nil IsModestSpan));
-  rows = All-cons (IsLimitedRow 2) equation [] (record { terms = terms_limited; rhs = whole_within (pos 3) (10 ^ 15) (2 * 10 ^ 24) (omega arith) }) (All-nil (IsLimitedRow 2));
+  rows = All-cons (IsLimitedRow 2) equation [] (record { terms = terms_limited; rhs = whole_within (pos 3) (2 * 10 ^ 24) (omega arith) }) (All-nil (IsLimitedRow 2));
   objective = record { below = All-nil (λ (t : ℕ × ℚ). t.0 < 2); rising = tt; nonzero = All-nil (λ (t : ℕ × ℚ). t.1 ≡ whole (pos 0) → ⊥); modest = All-nil (λ (t : ℕ × ℚ). IsModest t.1) };
 }

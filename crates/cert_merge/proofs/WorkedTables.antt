@@ -8,7 +8,7 @@ use Rattle.problem_box.specs.declared.span.Span.{Span}
 use Rattle.problem.specs.declared.row.Sense.{Sense}
 use Rattle.problem.specs.declared.row.Sense.TheVariants.{G, L, E}
 use Rattle.problem.specs.declared.row.Row.{Row}
-use Rattle.problem.specs.Program.{Program}
+use Rattle.problem.specs.Problem.{Problem}
 use Rattle.cert_rows.specs.declared.line.CertRow.{CertRow}
 use Rattle.cert_rows.specs.declared.line.Why.{Why}
 use Rattle.cert_rows.specs.declared.line.Why.TheVariants.{Asm, Lin, Rnd, Uns}
@@ -43,7 +43,7 @@ abbrev y : List (ℕ × ℚ)
 y = (1, n 1) ∷ []
 
 -- one column, and a row for each multiple of it that is given
-abbrev one : List (ℕ × ℚ) → List Row → ℤ → ℤ → Program
+abbrev one : List (ℕ × ℚ) → List Row → ℤ → ℤ → Problem
 one objective rows lo hi = record { names = codes "x" ∷ []; rows = rows; objective = objective; spans = span lo hi ∷ [] }
 
 -- node 0 alone
@@ -100,7 +100,7 @@ unfolding frac gcd gcd_within ◌+ℚ◌ ◌*ℚ◌ neg_ℚ digits
 table20 = refl
 
 -- 2x + 2y = 3, x and y in 0..1
-abbrev even : Program
+abbrev even : Problem
 even = record { names = codes "x" ∷ codes "y" ∷ []; rows = bare E (n 3) ((0, n 2) ∷ (1, n 2) ∷ []) ∷ []; objective = []; spans = span (pos 0) (pos 1) ∷ span (pos 0) (pos 1) ∷ [] }
 
 abbrev reached : ℕ → ℕ → Side → ℤ → Ending → Node
@@ -180,7 +180,7 @@ unfolding frac gcd gcd_within ◌+ℚ◌ ◌*ℚ◌ neg_ℚ digits
 table_x_first = refl
 
 -- and it is a search that can be merged, with any rows and columns of the same numbers
-module _ (p : Program) (rows : length p.rows ≡ 1) (columns : length p.spans ≡ 2) where
+module _ (p : Problem) (rows : length p.rows ≡ 1) (columns : length p.spans ≡ 2) where
   plain_branches : (i : ℕ) → i < 5 → IsBranchWithin x_first (length p.spans) (node_at x_first i).branch
   plain_branches zero l = tt
   plain_branches (suc zero) l = (omega arith, omega (arith, columns))

@@ -4,18 +4,19 @@ use Rattle.std.specs.List.{Contains}
 use Rattle.std.proofs.Common.{inr, arith}
 use Rattle.std.proofs.lemmas.List.Elements.{All-nil, All-cons}
 use Rattle.fraction.specs.Gcd.{gcd, gcd_within}
-use Rattle.fraction.specs.Rational.{ℚ, whole, frac, ◌+ℚ◌, ◌*ℚ◌, neg_ℚ, floor, ceil, ≤ℚ_refl}
+use Rattle.fraction.specs.Rational.{ℚ, whole, frac, ◌+ℚ◌, ◌*ℚ◌, neg_ℚ, floor, ceil}
+use Rattle.fraction.specs.Lemmas.Rational.{≤ℚ_refl}
 use Rattle.problem.specs.declared.row.Sense.{Sense}
 use Rattle.problem.specs.declared.row.Sense.TheVariants.{G, L, E}
 use Rattle.problem.specs.declared.row.Row.{Row}
 use Rattle.cert_rows.specs.declared.line.Why.{Why}
 use Rattle.cert_rows.specs.declared.line.Why.TheVariants.{Lin, Uns}
-use Rattle.cert_rows.specs.Lines.{Line, assumed_by}
+use Rattle.cert_rows.specs.Lines.{CertLine, assumed_by}
 use Rattle.cert_rows.specs.Domination.{Dominates}
 use Rattle.cert_rows.specs.Validity.{AllFollow, with_derived}
-use Rattle.cert_rows.proofs.Decider.{is_linear, decides-linear, is_split, decides-split}
+use Rattle.cert_rows.specs.Lemmas.Decider.{is_linear, decides-linear, is_split, decides-split}
 use Rattle.cert_merge.specs.Tree.{NodeLine, derived_of, IsChild, AreNodeLines, IsConcluded}
-use Rattle.cert_merge.proofs.TreeLemmas.{tree_follows}
+use Rattle.cert_merge.specs.Lemmas.TreeLemmas.{tree_follows}
 
 abbrev n : ℕ → ℚ
 n k = whole (pos k)
@@ -23,7 +24,7 @@ n k = whole (pos k)
 abbrev m : ℕ → ℚ
 m k = whole (negsuc k)
 
-abbrev line : Sense → ℚ → List (ℕ × ℚ) → List ℕ → Line
+abbrev line : Sense → ℚ → List (ℕ × ℚ) → List ℕ → CertLine
 line sense rhs terms assumes = record { row = record { sense = sense; rhs = rhs; terms = terms }; assumes = assumes }
 
 abbrev x : List (ℕ × ℚ)
@@ -32,7 +33,7 @@ x = (0, n 1) ∷ []
 abbrev y : List (ℕ × ℚ)
 y = (1, n 1) ∷ []
 
-abbrev ls : List Line
+abbrev ls : List CertLine
 ls =
     line E (n 3) ((0, n 2) ∷ (1, n 2) ∷ []) [] ∷ line G (n 0) x [] ∷ line L (n 1) x [] ∷ line G (n 0) y [] ∷ line L (n 1) y []
     ∷ line L (n 0) y (5 ∷ []) ∷ line G (n 1) y (6 ∷ []) ∷ line L (n 0) x (7 ∷ []) ∷ line G (n 1) x (8 ∷ []) ∷ []
@@ -81,7 +82,7 @@ unfolding frac gcd gcd_within ◌+ℚ◌ ◌*ℚ◌ neg_ℚ floor ceil
 split_y = refl
 
 child : (paths : List (List ℕ)) (path : List ℕ) (i l q : ℕ) → q < length paths → i ≡ 9 + q → slice_index_or paths q [] ≡ l ∷ path → l < 9 → assumed_by ls l ≡ l ∷ [] → IsChild ls paths path i l
-child paths path i l q h e f g a = record { place = q; there = h; line = e; path_is = f; assumption = record { earlier = g; itself = a } }
+child paths path i l q h e f g a = record { place = q; there = h; line = e; path_is = f; is_assumption = record { earlier = g; itself = a } }
 
 two_known : (a b : ℕ) → All (Contains (b ∷ a ∷ [])) (a ∷ b ∷ [])
 two_known a b = All-cons (Contains (b ∷ a ∷ [])) a (b ∷ []) (1, omega arith, refl) (All-cons (Contains (b ∷ a ∷ [])) b [] (0, omega arith, refl) (All-nil (Contains (b ∷ a ∷ []))))

@@ -9,3 +9,4 @@ pub mod Laws
 pub mod Setters
 pub mod Plain
 pub mod Valued
+pub mod Lemmas

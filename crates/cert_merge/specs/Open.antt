@@ -1,6 +1,7 @@
 -- A search that goes on: a node has no ending while it is open.
-use Rattle.std.specs.Prelude.{ℕ, ℤ, List, [], ◌∷◌, ◌++◌, map, All, Option, Some, None, IsSome, slice_index_or, slice_set}
+use Rattle.std.specs.Prelude.{ℕ, List, [], ◌∷◌, ◌++◌, map, All, Option, Some, None, IsSome, slice_index_or, slice_set}
 use Rattle.cert_merge.specs.Search.{Cut, Branch, Ending, Node, Search, no_node}
+use Rattle.problem.specs.Linear.{Point}
 
 pub record OpenNode : Type 0 where
   pub branch : Option Branch
@@ -9,7 +10,7 @@ pub record OpenNode : Type 0 where
 pub record OpenSearch : Type 0 where
   pub cuts : List Cut
   pub nodes : List OpenNode
-  pub incumbent : Option (List ℤ)
+  pub incumbent : Option Point
 
 -- a node that is there
 abbrev pub open_node_at : OpenSearch → ℕ → OpenNode
@@ -33,12 +34,12 @@ with_ending s i e = record s { nodes = slice_set s.nodes i (record { branch = (o
 
 -- ---- as a search
 -- an open node stands with the ending of a node that isn't there
-abbrev pub ended : Option Ending → Ending
-ended (Some e) = e
-ended None = no_node.ending
+abbrev pub ending_if_any : Option Ending → Ending
+ending_if_any (Some e) = e
+ending_if_any None = no_node.ending
 
 abbrev pub node_so_far : OpenNode → Node
-node_so_far n = record { branch = n.branch; ending = ended n.ending }
+node_so_far n = record { branch = n.branch; ending = ending_if_any n.ending }
 
 abbrev pub so_far : OpenSearch → Search
 so_far s = record { cuts = s.cuts; nodes = map node_so_far s.nodes; incumbent = s.incumbent }

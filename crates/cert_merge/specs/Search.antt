@@ -1,12 +1,12 @@
 -- A finished search: what the certificate needs of it, and nothing else.
 use Rattle.std.specs.Prelude.{ℕ, zero, suc, ℤ, eqb, ◌&&◌, if◌then◌else◌, List, [], ◌∷◌, Option, Some, None, Bool, true, false, slice_index_or}
-use Rattle.fraction.specs.Rational.{ℚ}
 use Rattle.problem.specs.declared.row.Row.{Row}
+use Rattle.problem.specs.Linear.{Point, Multipliers}
 
 -- a cut: its row, and the multipliers of rows, bound rows and earlier cuts that it was made with
 pub record Cut : Type 0 where
   pub row : Row
-  pub mult : List (ℕ × ℚ)
+  pub mult : Multipliers
 
 -- which bound of its column a branch sets
 pub data Side : Type 0 where
@@ -23,8 +23,8 @@ pub record Branch : Type 0 where
 -- how a node ended; multipliers name rows and cuts
 pub data Ending : Type 0 where
   empty : ℕ → Ending  -- the column's bounds cross
-  refute : List (ℕ × ℚ) → Ending  -- a combination that is absurd over the node's box
-  bound : List (ℕ × ℚ) → Bool → Ending  -- a combination that reaches the incumbent's value; whether by rounding up
+  refute : Multipliers → Ending  -- a combination that is absurd over the node's box
+  bound : Multipliers → Bool → Ending  -- a combination that reaches the incumbent's value; whether by rounding up
   split : ℕ → ℤ → ℕ → ℕ → Ending  -- the column, its number b, the nodes with `x <= b` and with `x >= b + 1`
 
 -- a node: its branch, none at node 0, and its ending
@@ -36,7 +36,7 @@ pub record Node : Type 0 where
 pub record Search : Type 0 where
   pub cuts : List Cut
   pub nodes : List Node
-  pub incumbent : Option (List ℤ)
+  pub incumbent : Option Point
 
 -- what stands for a node of a number that no node has
 abbrev pub no_node : Node

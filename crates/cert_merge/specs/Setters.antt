@@ -2,11 +2,12 @@
 use Rattle.std.specs.Prelude.{◌≡◌, ◌<◌, ℕ, pos, negsuc, int_lt, Bool, true, false, if◌then◌else◌, List, [], ◌∷◌, map, length, Option, Some, None, slice_index_or, slice_set}
 use Rattle.std.specs.Option.{option_or}
 use Rattle.fraction.specs.Rational.{ℚ, whole, neg_ℚ}
-use Rattle.problem.specs.Program.{Program}
+use Rattle.problem.specs.Problem.{Problem}
 use Rattle.cert_merge.specs.declared.setters.Setter.{Setter}
 use Rattle.cert_merge.specs.Search.{Side, low, high, Branch, Search, node_at, path_of, setter}
 use Rattle.cert_merge.specs.Numbers.{bound_line, assumption_line}
 use Rattle.cert_merge.specs.Closing.{placed}
+use Rattle.problem.specs.Linear.{Terms, Multipliers}
 
 -- ---- the table
 abbrev pub no_setter : Setter
@@ -46,11 +47,11 @@ AreBranches s n = (i : ℕ) → i < length s.nodes → IsBranchWithin s n (node_
 
 -- ---- lines
 -- the line of a bound, by the node that set it
-abbrev pub set_line : Program → Search → ℕ → Side → Option ℕ → ℕ
+abbrev pub set_line : Problem → Search → ℕ → Side → Option ℕ → ℕ
 set_line p s j side None = bound_line p j side
 set_line p s j side (Some k) = assumption_line p s k
 
-abbrev pub line_by : Program → Search → List Setter → ℕ → Side → ℕ
+abbrev pub line_by : Problem → Search → List Setter → ℕ → Side → ℕ
 line_by p s ts j side = set_line p s j side (set_at ts j side)
 
 -- a number above 0 goes to the lower bound, any other to the upper one
@@ -61,11 +62,11 @@ abbrev pub signed : Bool → ℚ → ℚ
 signed true v = neg_ℚ v
 signed false v = v
 
-abbrev pub filling : Program → Search → List Setter → Bool → ℕ × ℚ → ℕ × ℚ
-filling p s ts negated t = (line_by p s ts t.0 (side_for (signed negated t.1)), signed negated t.1)
+abbrev pub bound_multiplier_by : Problem → Search → List Setter → Bool → ℕ × ℚ → ℕ × ℚ
+bound_multiplier_by p s ts negated t = (line_by p s ts t.0 (side_for (signed negated t.1)), signed negated t.1)
 
-abbrev pub fillings_by : Program → Search → List Setter → Bool → List (ℕ × ℚ) → List (ℕ × ℚ)
-fillings_by p s ts negated terms = map (filling p s ts negated) terms
+abbrev pub bound_multipliers_by : Problem → Search → List Setter → Bool → Terms → Multipliers
+bound_multipliers_by p s ts negated terms = map (bound_multiplier_by p s ts negated) terms
 
-abbrev pub crossing_by : Program → Search → List Setter → ℕ → List (ℕ × ℚ)
+abbrev pub crossing_by : Problem → Search → List Setter → ℕ → Multipliers
 crossing_by p s ts j = placed (line_by p s ts j low, whole (pos 1)) ((line_by p s ts j high, whole (negsuc 0)) ∷ [])

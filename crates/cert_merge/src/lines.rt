@@ -7,7 +7,7 @@ ghost use Rattle.cert_merge.specs.Numbers.{assumption_line, node_line};
 ghost use Rattle.cert_merge.specs.Merged.{label_of, labelled, absurd_row, branch_row, node_of};
 ghost use Rattle.cert_merge.specs.Closing.{all_placed};
 ghost use Rattle.cert_merge.specs.Plain.{IsNumbered, IsOneRow, IsPlain};
-ghost use Rattle.cert_merge.specs.Setters.{AreSetters, NameNodes, fillings_by, crossing_by};
+ghost use Rattle.cert_merge.specs.Setters.{AreSetters, NameNodes, bound_multipliers_by, crossing_by};
 ghost use Rattle.cert_merge.specs.Valued.{value_of, row_to_show, node_row, sense_for, refuting};
 
 use crate::multipliers::{crossing, fill, is_positive};
@@ -148,7 +148,7 @@ fn bounded_line(
     requires numbered { IsNumbered problem.now search.now }
     requires columns { length setters.now ≡ length problem.now.spans }
     requires nodes { NameNodes (length search.now.nodes) setters.now }
-    ensures { IfOk result (λ l. l ≡ (node_row node (row_to_show problem.now value), Lin (all_placed (fillings_by problem.now search.now setters.now false problem.now.objective) []))) }
+    ensures { IfOk result (λ l. l ≡ (node_row node (row_to_show problem.now value), Lin (all_placed (bound_multipliers_by problem.now search.now setters.now false problem.now.objective) []))) }
 {
     problem.limits_hold();
     let row = goal_row(alloc, problem, value, node)?;

@@ -4,7 +4,7 @@ ghost use Rattle.std.specs.List.{insert};
 ghost use Rattle.fraction.specs.Rational.{ℚ};
 ghost use Rattle.cert_merge.specs.Closing.{placed, all_placed};
 ghost use Rattle.cert_merge.specs.Plain.{IsNumbered};
-ghost use Rattle.cert_merge.specs.Setters.{NameNodes, signed, filling, fillings_by, crossing_by};
+ghost use Rattle.cert_merge.specs.Setters.{NameNodes, signed, bound_multiplier_by, bound_multipliers_by, crossing_by};
 
 use crate::node::Side;
 use crate::numbers::bound_number;
@@ -43,7 +43,7 @@ fn place(items: &mut Vec<(u32, Frac)>, item: (u32, Frac)) -> Result<(), AllocErr
 }
 
 /// What a closed node leaves of a column, on the line of the bound that it goes to.
-fn filling(
+fn bound_multiplier_by(
     problem: &Problem,
     search: &Search,
     setters: &Setters,
@@ -54,7 +54,7 @@ fn filling(
     requires columns { length setters.now ≡ length problem.now.spans }
     requires nodes { NameNodes (length search.now.nodes) setters.now }
     requires there { term.0 < length problem.now.spans }
-    ensures { result ≡ filling problem.now search.now setters.now negated term }
+    ensures { result ≡ bound_multiplier_by problem.now search.now setters.now negated term }
 {
     let value = if negated { term.1.neg() } else { term.1 };
     let side = if is_positive(value) {
@@ -79,12 +79,15 @@ pub fn fill(
     requires columns { length setters.now ≡ length problem.now.spans }
     requires nodes { NameNodes (length search.now.nodes) setters.now }
     requires there { All (λ t. t.0 < length problem.now.spans) terms.now }
-    ensures { IfOk result (λ m. m ≡ all_placed (fillings_by problem.now search.now setters.now negated terms.now) (reverse mult.items)) }
+    ensures { IfOk result (λ m. m ≡ all_placed (bound_multipliers_by problem.now search.now setters.now negated terms.now) (reverse mult.items)) }
 {
     let mut items = mult;
     for done in 0..terms.len() {
         let term = terms[terms.len() - 1 - done].pair();
-        place(&mut items, filling(problem, search, setters, negated, term))?;
+        place(
+            &mut items,
+            bound_multiplier_by(problem, search, setters, negated, term),
+        )?;
     }
     items.reverse();
     Terms::make(alloc, items.as_slice())

@@ -1,7 +1,7 @@
 //! The certificate of a tree of five nodes.
 ghost use Rattle.std.specs.Prelude.{◌≡◌, IfOk, length, pos, negsuc, ◌∷◌, []};
 ghost use Rattle.fraction.specs.Rational.{whole};
-ghost use Rattle.problem.specs.Program.{Program};
+ghost use Rattle.problem.specs.Problem.{Problem as Described};
 ghost use Rattle.cert_merge.specs.Nodes.{ending_of};
 ghost use Rattle.cert_merge.specs.Search.{refute};
 ghost use Rattle.cert_merge.specs.Plain.{IsPlain};
@@ -49,7 +49,7 @@ fn by_turned_row(alloc: Global) -> Result<Ending, AllocError>
 
 /// Split on x at 0, and where x is at least 1 on y at 0.
 fn x_first(alloc: Global) -> Result<Search, AllocError>
-    ensures { IfOk result (λ s. (p : Program) → length p.rows ≡ 1 → length p.spans ≡ 2 → IsPlain p s) }
+    ensures { IfOk result (λ s. (p : Described) → length p.rows ≡ 1 → length p.spans ≡ 2 → IsPlain p s) }
 {
     let mut search = OpenSearch::start(alloc)?;
     search.push(Branch {

@@ -7,7 +7,7 @@ use Rattle.problem_box.specs.declared.span.Span.{Span}
 use Rattle.problem.specs.declared.row.Sense.{Sense}
 use Rattle.problem.specs.declared.row.Sense.TheVariants.{G, L, E}
 use Rattle.problem.specs.declared.row.Row.{Row}
-use Rattle.problem.specs.Program.{Program}
+use Rattle.problem.specs.Problem.{Problem}
 use Rattle.cert_rows.specs.declared.line.CertRow.{CertRow}
 use Rattle.cert_rows.specs.declared.line.Why.{Why}
 use Rattle.cert_rows.specs.declared.line.Why.TheVariants.{Asm, Lin, Rnd, Uns}
@@ -15,7 +15,7 @@ use Rattle.cert_rows.specs.declared.certificate.Goal.{Goal}
 use Rattle.cert_rows.specs.declared.certificate.Goal.TheVariants.{Infeas, Range}
 use Rattle.cert_rows.specs.declared.certificate.Cert.{Cert}
 use Rattle.cert_rows.specs.Validity.{IsValid}
-use Rattle.cert_rows.proofs.Decider.{is_valid, IsValid-decided}
+use Rattle.cert_rows.specs.Lemmas.Decider.{is_valid, IsValid-decided}
 
 abbrev n : ℕ → ℚ
 n k = whole (pos k)
@@ -39,7 +39,7 @@ abbrev y : List (ℕ × ℚ)
 y = (1, n 1) ∷ []
 
 -- one column with bounds and one row
-abbrev one : ℚ → ℚ → ℚ → ℤ → ℤ → Program
+abbrev one : ℚ → ℚ → ℚ → ℤ → ℤ → Problem
 one cost a rhs lo hi = record { names = codes "x" ∷ []; rows = bare G rhs ((0, a) ∷ []) ∷ []; objective = (0, cost) ∷ []; spans = span lo hi ∷ [] }
 
 abbrev one_cert : ℚ → ℚ → ℚ → ℤ → ℤ → Goal → List (List ℤ) → List (CertRow × Why) → Cert
@@ -55,7 +55,7 @@ one_cert cost a rhs lo hi claim points lines = record {
 }
 
 -- minimise 3x, x >= 1, x in 2..2
-abbrev p1 : Program
+abbrev p1 : Problem
 p1 = one (n 3) (n 1) (n 1) (pos 2) (pos 2)
 
 abbrev c1 : Goal → List (ℕ × ℚ) → Cert
@@ -85,7 +85,7 @@ pub row1_wrong : IsValid p1 (c1 (Range (n 6) (n 6)) ((0, n 3) ∷ [])) → ⊥
 row1_wrong = not_from_Decides (is_valid p1 (c1 (Range (n 6) (n 6)) ((0, n 3) ∷ []))) (IsValid-decided p1 (c1 (Range (n 6) (n 6)) ((0, n 3) ∷ []))) test1_low
 
 -- minimise x, 2x >= 11, x in 0..5
-abbrev p2 : Program
+abbrev p2 : Problem
 p2 = one (n 1) (n 2) (n 11) (pos 0) (pos 5)
 
 abbrev c2 : Cert
@@ -96,7 +96,7 @@ unfolding frac gcd gcd_within ◌+ℚ◌ ◌*ℚ◌ neg_ℚ floor ceil
 test2 = refl
 
 -- minimise x, 2x >= 3, x in 0..5
-abbrev p3 : Program
+abbrev p3 : Problem
 p3 = one (n 1) (n 2) (n 3) (pos 0) (pos 5)
 
 abbrev c3 : ℚ → Cert
@@ -116,7 +116,7 @@ test3_fraction = refl
 abbrev two : List (ℕ × ℚ)
 two = (0, n 2) ∷ (1, n 2) ∷ []
 
-abbrev pb : Program
+abbrev pb : Problem
 pb = record { names = codes "x" ∷ codes "y" ∷ []; rows = bare E (n 3) two ∷ []; objective = []; spans = span (pos 0) (pos 1) ∷ span (pos 0) (pos 1) ∷ [] }
 
 abbrev cb : List (CertRow × Why) → Cert

@@ -5,8 +5,8 @@ use Rattle.problem_box.specs.declared.span.Span.{Span}
 use Rattle.problem.specs.declared.row.Sense.{Sense}
 use Rattle.problem.specs.declared.row.Sense.TheVariants.{G, L, E}
 use Rattle.problem.specs.declared.row.Row.{Row}
-use Rattle.problem.specs.Linear.{SameCoefficients, coefficient, IsWhole}
-use Rattle.problem.specs.Program.{Program}
+use Rattle.problem.specs.Linear.{Multipliers, SameCoefficients, coefficient}
+use Rattle.problem.specs.Problem.{Problem}
 use Rattle.problem.specs.Feasible.{IsFeasible, objective_at}
 use Rattle.cert_rows.specs.declared.line.CertRow.{CertRow}
 use Rattle.cert_rows.specs.declared.line.Why.{Why}
@@ -14,14 +14,16 @@ use Rattle.cert_rows.specs.declared.line.Why.TheVariants.{Asm, Lin, Rnd, Uns}
 use Rattle.cert_rows.specs.declared.certificate.Goal.{Goal}
 use Rattle.cert_rows.specs.declared.certificate.Goal.TheVariants.{Infeas, Range}
 use Rattle.cert_rows.specs.declared.certificate.Cert.{Cert}
-use Rattle.cert_rows.specs.Lines.{Line, row_of, row_at, assumed_by}
+use Rattle.cert_rows.specs.Lines.{CertLine, row_of, row_at, assumed_by}
 use Rattle.cert_rows.specs.Combination.{combination, AllSigned}
 use Rattle.cert_rows.specs.Domination.{IsAbsurd, Dominates}
 use Rattle.cert_rows.specs.Assumptions.{assumes}
+use Rattle.problem.specs.Rows.{Rows}
+use Rattle.fraction.specs.Whole.{IsWhole}
 
 -- ---- one line, over the lines before it
 -- a combination of earlier lines for a G or an L row
-pub record IsCombination (ls : List Line) (s : Sense) (mult : List (ℕ × ℚ)) : Type 0 where
+pub record IsCombination (ls : List CertLine) (s : Sense) (mult : Multipliers) : Type 0 where
   pub earlier : All (λ m. m.0 < length ls) mult
   pub signs : AllSigned s ls mult
 
@@ -38,7 +40,7 @@ abbrev pub rounded : Row → Row
 rounded r = record r { rhs = rounded_rhs r.sense r.rhs }
 
 -- only an assumption assumes itself
-pub record IsAssumption (ls : List Line) (i : ℕ) : Type 0 where
+pub record IsAssumption (ls : List CertLine) (i : ℕ) : Type 0 where
   pub earlier : i < length ls
   pub itself : assumed_by ls i ≡ i ∷ []
 
@@ -51,11 +53,11 @@ pub record IsSplit (low high : Row) : Type 0 where
   pub whole_rhs : IsWhole low.rhs
   pub next_rhs : high.rhs ≡ low.rhs +ℚ whole (pos 1)
 
-pub record IsLinear (ls : List Line) (r : Row) (mult : List (ℕ × ℚ)) : Type 0 where
+pub record IsLinear (ls : List CertLine) (r : Row) (mult : Multipliers) : Type 0 where
   pub combined : IsCombination ls r.sense mult
   pub dominates : Dominates (combination r.sense ls mult) r
 
-pub record IsRounded (ls : List Line) (r : Row) (mult : List (ℕ × ℚ)) : Type 0 where
+pub record IsRounded (ls : List CertLine) (r : Row) (mult : Multipliers) : Type 0 where
   pub combined : IsCombination ls r.sense mult
   pub whole_terms : HasWholeCoefficients (combination r.sense ls mult)
   pub dominates : Dominates (rounded (combination r.sense ls mult)) r
@@ -66,7 +68,7 @@ IsInequality G = Unit {0}
 IsInequality L = Unit {0}
 IsInequality E = ⊥
 
-pub record IsUnsplit (ls : List Line) (r : Row) (i1 l1 i2 l2 : ℕ) : Type 0 where
+pub record IsUnsplit (ls : List CertLine) (r : Row) (i1 l1 i2 l2 : ℕ) : Type 0 where
   pub inequality : IsInequality r.sense
   pub first_earlier : i1 < length ls
   pub second_earlier : i2 < length ls
@@ -77,25 +79,25 @@ pub record IsUnsplit (ls : List Line) (r : Row) (i1 l1 i2 l2 : ℕ) : Type 0 whe
   pub split : IsSplit (row_at ls l1) (row_at ls l2)
 
 -- a line follows from those before it
-abbrev pub Follows : List Line → Row → Why → Type 0
+abbrev pub Follows : List CertLine → Row → Why → Type 0
 Follows ls r Asm = Unit {0}
 Follows ls r (Lin mult) = IsLinear ls r mult
 Follows ls r (Rnd mult) = IsRounded ls r mult
 Follows ls r (Uns i1 l1 i2 l2) = IsUnsplit ls r i1 l1 i2 l2
 
 -- ---- all lines
-abbrev pub line_of : List Line → CertRow × Why → Line
-line_of ls d = record { row = row_of d.0; assumes = assumes ls d.1 }
+abbrev pub derived_line_of : List CertLine → CertRow × Why → CertLine
+derived_line_of ls d = record { row = row_of d.0; assumes = assumes ls d.1 }
 
 -- the lines with the derived ones behind them
-abbrev pub with_derived : List Line → List (CertRow × Why) → List Line
+abbrev pub with_derived : List CertLine → List (CertRow × Why) → List CertLine
 with_derived ls [] = ls
-with_derived ls (d ∷ ds) = with_derived (ls ++ line_of ls d ∷ []) ds
+with_derived ls (d ∷ ds) = with_derived (ls ++ derived_line_of ls d ∷ []) ds
 
 -- each derived line follows from those before it
-abbrev pub AllFollow : List Line → List (CertRow × Why) → Type 0
+abbrev pub AllFollow : List CertLine → List (CertRow × Why) → Type 0
 AllFollow ls [] = Unit {0}
-AllFollow ls (d ∷ ds) = Follows ls (row_of d.0) d.1 × AllFollow (ls ++ line_of ls d ∷ []) ds
+AllFollow ls (d ∷ ds) = Follows ls (row_of d.0) d.1 × AllFollow (ls ++ derived_line_of ls d ∷ []) ds
 
 -- ---- the certificate
 -- `x_j >= lo`
@@ -107,16 +109,16 @@ abbrev pub upper_row : ℕ → Span → Row
 upper_row j s = record { sense = L; rhs = whole s.hi; terms = (j, whole (pos 1)) ∷ [] }
 
 -- both for each column from j on
-abbrev pub bound_rows : ℕ → List Span → List Row
+abbrev pub bound_rows : ℕ → List Span → Rows
 bound_rows j [] = []
 bound_rows j (s ∷ ss) = lower_row j s ∷ upper_row j s ∷ bound_rows (j + 1) ss
 
 -- the lines of CON, which assume nothing
-abbrev pub given_lines : List CertRow → List Line
+abbrev pub given_lines : List CertRow → List CertLine
 given_lines [] = []
 given_lines (r ∷ rs) = record { row = row_of r; assumes = [] } ∷ given_lines rs
 
-abbrev pub all_lines : Cert → List Line
+abbrev pub all_lines : Cert → List CertLine
 all_lines c = with_derived (given_lines c.part.rows) c.lines
 
 abbrev pub last_row : Cert → Row
@@ -126,15 +128,15 @@ abbrev pub last_assumed : Cert → List ℕ
 last_assumed c = assumed_by (all_lines c) (length (all_lines c) - 1)
 
 -- `objective >= lb`
-abbrev pub objective_row : Program → ℚ → Row
+abbrev pub objective_row : Problem → ℚ → Row
 objective_row p lb = record { sense = G; rhs = lb; terms = p.objective }
 
 -- the last line and a listed solution show the claim
-abbrev pub ShowsClaim : Program → Cert → Goal → Type 0
+abbrev pub ShowsClaim : Problem → Cert → Goal → Type 0
 ShowsClaim p c Infeas = IsAbsurd (last_row c)
 ShowsClaim p c (Range lb ub) = Dominates (last_row c) (objective_row p lb) × Any (λ x. objective_at p x ≤ℚ ub) c.points
 
-pub record IsValid (p : Program) (c : Cert) : Type 0 where
+pub record IsValid (p : Problem) (c : Cert) : Type 0 where
   pub names : c.part.names ≡ p.names
   pub objective : c.part.objective ≡ p.objective
   pub rows : map row_of c.part.rows ≡ p.rows ++ bound_rows 0 p.spans

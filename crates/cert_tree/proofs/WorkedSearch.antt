@@ -4,15 +4,18 @@ use Rattle.std.proofs.Common.{sym, ap, ◌∙◌, subst, inl, inr, arith}
 use Rattle.std.proofs.lemmas.Int.{ints}
 use Rattle.std.proofs.lemmas.List.Elements.{All-nil, All-cons}
 use Rattle.fraction.specs.Gcd.{gcd, gcd_within}
-use Rattle.fraction.specs.Rational.{ℚ, whole, frac, ceil, floor, neg_ℚ, ◌+ℚ◌, ◌*ℚ◌, ◌≤ℚ◌, frac-*ℚ, frac_same}
-use Rattle.fraction.specs.Order.{◌<ℚ◌, whole-≤ℚ, same_le, along, not_both}
+use Rattle.fraction.specs.Rational.{ℚ, whole, frac, ceil, floor, neg_ℚ, ◌+ℚ◌, ◌*ℚ◌, ◌≤ℚ◌}
+use Rattle.fraction.specs.Lemmas.Rational.{frac-*ℚ, frac_same}
+use Rattle.fraction.specs.Order.{◌<ℚ◌}
+use Rattle.fraction.specs.Lemmas.Order.{whole-≤ℚ, same_le, along, not_both}
 use Rattle.problem_box.specs.declared.span.Span.{Span}
 use Rattle.problem.specs.declared.row.Sense.{Sense}
 use Rattle.problem.specs.declared.row.Sense.TheVariants.{G, E}
 use Rattle.problem.specs.declared.row.Row.{Row}
-use Rattle.problem.specs.Linear.{IsWhole, coefficient, +ℚ-zero}
+use Rattle.problem.specs.Linear.{coefficient}
+use Rattle.fraction.specs.Lemmas.Ring.{+ℚ-zero}
 use Rattle.problem.specs.Rows.{Satisfies}
-use Rattle.problem.specs.Program.{Program}
+use Rattle.problem.specs.Problem.{Problem}
 use Rattle.problem.specs.Feasible.{IsFeasible, objective_at}
 use Rattle.problem.specs.Best.{IsBest, IsVoid}
 use Rattle.cert_rows.specs.Lines.{row_at}
@@ -22,14 +25,15 @@ use Rattle.cert_merge.specs.Closing.{AreBelow, price}
 use Rattle.cert_merge.specs.Search.{Cut, low, high, Branch, Ending, empty, refute, bound, split, Search, node_at}
 use Rattle.cert_merge.specs.Merged.{base_lines, merged}
 use Rattle.cert_tree.specs.Finished.{box_at, IsReached, HasEnded, left_branch, right_branch, rounded_up, IsFinished}
-use Rattle.cert_tree.proofs.Closed.{whole_coefficients}
-use Rattle.cert_tree.proofs.Finishing.{certificate_valid, certificate_answers}
+use Rattle.cert_tree.specs.Lemmas.Closed.{whole_coefficients}
+use Rattle.cert_tree.specs.Lemmas.Finishing.{certificate_valid, certificate_answers}
+use Rattle.fraction.specs.Whole.{IsWhole}
 
 abbrev n : ℕ → ℚ
 n k = whole (pos k)
 
 -- one column, with one row of the double of it
-abbrev doubled : List (ℕ × ℚ) → Sense → ℚ → ℤ → Program
+abbrev doubled : List (ℕ × ℚ) → Sense → ℚ → ℤ → Problem
 doubled objective sense rhs hi = record {
   names = codes "x" ∷ [];
   rows = record { sense = sense; rhs = rhs; terms = (0, n 2) ∷ [] } ∷ [];
@@ -59,7 +63,7 @@ reached_once cuts left right incumbent (suc (suc zero)) h k = record { branch = 
 reached_once cuts left right incumbent (suc (suc (suc i))) h k = absurd (omega (arith, k))
 
 -- its nodes have ended where its children have
-ended_once : (p : Program) (cuts : List Cut) (left right : Ending) (incumbent : Option (List ℤ)) → HasEnded p (split_once cuts left right incumbent) 1 left → HasEnded p (split_once cuts left right incumbent) 2 right
+ended_once : (p : Problem) (cuts : List Cut) (left right : Ending) (incumbent : Option (List ℤ)) → HasEnded p (split_once cuts left right incumbent) 1 left → HasEnded p (split_once cuts left right incumbent) 2 right
     → (i : ℕ) → i < 3 → HasEnded p (split_once cuts left right incumbent) i (node_at (split_once cuts left right incumbent) i).ending
 ended_once p cuts left right incumbent a b zero h = record { at_most = refl; at_least = refl }
 ended_once p cuts left right incumbent a b (suc zero) h = a
@@ -67,7 +71,7 @@ ended_once p cuts left right incumbent a b (suc (suc zero)) h = b
 ended_once p cuts left right incumbent a b (suc (suc (suc i))) h = absurd (omega (arith, h))
 
 -- ---- 2x = 1 over x in 0..0: the left child is refuted by the row, the right one is empty
-abbrev even : Program
+abbrev even : Problem
 even = doubled [] E (n 1) (pos 0)
 
 abbrev even_search : Search
@@ -97,7 +101,7 @@ even_finished = record {
   incumbent = tt;
 }
 
-over_zero : (p : Program) → 0 < length p.spans → (a : ℚ) → AreBelow (length p.spans) ((0, a) ∷ [])
+over_zero : (p : Problem) → 0 < length p.spans → (a : ℚ) → AreBelow (length p.spans) ((0, a) ∷ [])
 over_zero p h a = All-cons (λ (t : ℕ × ℚ). t.0 < length p.spans) (0, a) [] h (All-nil (λ (t : ℕ × ℚ). t.0 < length p.spans))
 
 rows_over : (objective : List (ℕ × ℚ)) (sense : Sense) (rhs : ℚ) (hi : ℤ) → All (λ r. AreBelow 1 r.terms) (doubled objective sense rhs hi).rows
@@ -112,7 +116,7 @@ even_void : IsVoid even
 even_void = certificate_answers even (rows_over [] E (n 1) (pos 0)) (All-nil (λ (t : ℕ × ℚ). t.0 < 1)) even_search even_finished
 
 -- ---- minimise x, 2x >= 1 over x in 0..1, with one cut: the left child is refuted by the cut, the right one is bounded
-abbrev least : Program
+abbrev least : Problem
 least = doubled x G (n 1) (pos 1)
 
 abbrev at_least_one : Cut

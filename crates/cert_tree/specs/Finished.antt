@@ -4,12 +4,13 @@ use Rattle.fraction.specs.Rational.{ℚ, whole, ceil, ◌≤ℚ◌}
 use Rattle.fraction.specs.Order.{◌<ℚ◌}
 use Rattle.problem_box.specs.declared.span.Span.{Span}
 use Rattle.problem.specs.declared.row.Sense.TheVariants.{G}
-use Rattle.problem.specs.Program.{Program}
+use Rattle.problem.specs.Problem.{Problem}
 use Rattle.problem.specs.Feasible.{IsFeasible, objective_at, HasWholeObjective}
 use Rattle.cert_rows.specs.Validity.{IsCombination, IsRounded}
 use Rattle.cert_merge.specs.Closing.{AreBelow, price}
 use Rattle.cert_merge.specs.Search.{Cut, Side, low, high, Branch, Ending, empty, refute, bound, split, Search, node_at, path_of, is_same_side}
 use Rattle.cert_merge.specs.Merged.{base_lines}
+use Rattle.problem.specs.Linear.{Point, Multipliers}
 
 -- ---- the box of a node
 -- the number that the deepest branch of a path gave to a bound of a column, else the root's
@@ -23,7 +24,7 @@ box_along path j [] = []
 box_along path j (r ∷ rs) = record { lo = deepest j low r.lo path; hi = deepest j high r.hi path } ∷ box_along path (j + 1) rs
 
 -- the box of node i
-abbrev pub box_at : Program → Search → ℕ → List Span
+abbrev pub box_at : Problem → Search → ℕ → List Span
 box_at p s i = box_along (path_of s i i) 0 p.spans
 
 -- ---- how nodes end
@@ -34,7 +35,7 @@ pub record IsCrossed (ss : List Span) (j : ℕ) : Type 0 where
   pub crossed : span.hi <ℤ span.lo
 
 -- a combination of rows, bounds and cuts that no point of the node's box satisfies
-pub record IsRefuted (p : Program) (s : Search) (i : ℕ) (mult : List (ℕ × ℚ)) : Type 0 where
+pub record IsRefuted (p : Problem) (s : Search) (i : ℕ) (mult : Multipliers) : Type 0 where
   pub combined : IsCombination (base_lines p s.cuts) G mult
   pub above : whole (pos 0) <ℚ price (base_lines p s.cuts) [] mult (box_at p s i)
 
@@ -44,8 +45,8 @@ rounded_up true v = whole (ceil v)
 rounded_up false v = v
 
 -- a combination that bounds the objective over the node's box from below, by the incumbent's value at least
-pub record IsBounded (p : Program) (s : Search) (i : ℕ) (mult : List (ℕ × ℚ)) (rounded : Bool) : Type 0 where
-  pub point : List ℤ
+pub record IsBounded (p : Problem) (s : Search) (i : ℕ) (mult : Multipliers) (rounded : Bool) : Type 0 where
+  pub point : Point
   pub found : s.incumbent ≡ Some point
   pub combined : IsCombination (base_lines p s.cuts) G mult
   pub may_round : rounded ≡ true → HasWholeObjective p
@@ -64,7 +65,7 @@ pub record IsSplitInto (s : Search) (i j : ℕ) (b : ℤ) (left right : ℕ) : T
   pub at_least : (node_at s right).branch ≡ Some (right_branch i j b)
 
 -- node i has this ending
-abbrev pub HasEnded : Program → Search → ℕ → Ending → Type 0
+abbrev pub HasEnded : Problem → Search → ℕ → Ending → Type 0
 HasEnded p s i (empty j) = IsCrossed (box_at p s i) j
 HasEnded p s i (refute mult) = IsRefuted p s i mult
 HasEnded p s i (bound mult rounded) = IsBounded p s i mult rounded
@@ -72,12 +73,12 @@ HasEnded p s i (split j b left right) = IsSplitInto s i j b left right
 
 -- ---- cuts
 -- the rounded combination of rows, bounds and earlier cuts, over columns of the program
-pub record IsCutBehind (p : Program) (earlier : List Cut) (c : Cut) : Type 0 where
+pub record IsCutBehind (p : Problem) (earlier : List Cut) (c : Cut) : Type 0 where
   pub over_columns : AreBelow (length p.spans) c.row.terms
   pub combined : IsRounded (base_lines p earlier) c.row c.mult
 
 -- each cut, behind these
-abbrev pub AreCutsBehind : Program → List Cut → List Cut → Type 0
+abbrev pub AreCutsBehind : Problem → List Cut → List Cut → Type 0
 AreCutsBehind p earlier [] = Unit {0}
 AreCutsBehind p earlier (c ∷ cs) = IsCutBehind p earlier c × AreCutsBehind p (earlier ++ c ∷ []) cs
 
@@ -95,12 +96,12 @@ pub record IsTree (s : Search) : Type 0 where
   pub reached : (i : ℕ) → 0 < i → i < length s.nodes → IsReached s i
 
 -- the incumbent, where there is one, is feasible
-abbrev pub IsIncumbent : Program → Option (List ℤ) → Type 0
+abbrev pub IsIncumbent : Problem → Option Point → Type 0
 IsIncumbent p None = Unit {0}
 IsIncumbent p (Some x) = IsFeasible p x
 
 -- all nodes of the tree have ended
-pub record IsFinished (p : Program) (s : Search) : Type 0 where
+pub record IsFinished (p : Problem) (s : Search) : Type 0 where
   pub cuts : AreCutsBehind p [] s.cuts
   pub tree : IsTree s
   pub ended : (i : ℕ) → i < length s.nodes → HasEnded p s i (node_at s i).ending

@@ -1,3 +1,4 @@
 pub mod Finished
 pub mod Continued
 pub mod Laws
+pub mod Lemmas

@@ -197,7 +197,7 @@ impl<'a, R: Files<File = File>> FileDisk<'a, R> {
 impl<'a, R: Files<File = File>> Disk for FileDisk<'a, R> {
     ghost use Rattle.std.specs.Prelude.{false, [], refl};
     ghost use Rattle.outside.specs.Images.{resting};
-    ghost use Rattle.outside.specs.SeenIsImage.{rests};
+    ghost use Rattle.outside.specs.Lemmas.SeenIsImage.{rests};
 
     ghost tells = { false };
 

@@ -1,11 +1,15 @@
 -- The steps of an addition, each with what it leaves.
 use Rattle.std.proofs.Common.{◌≡◌, ℕ, ◌<◌, ◌/◌, ◌*◌, ℤ, pos, to_z, of_z, ap, ◌∙◌, arith, Bool, true, false, Some, None, refl}
-use Rattle.std.specs.Prelude.{◌+ℤ◌, ◌*ℤ◌, if◌then◌else◌}
+use Rattle.std.specs.Prelude.{nat_abs, ◌+ℤ◌, ◌*ℤ◌, if◌then◌else◌}
 use Rattle.std.specs.Int.{w128}
+use Prim.Native.Nat.{◌∣◌}
 use Rattle.fraction.specs.Gcd.{gcd}
-use Rattle.fraction.specs.Rational.{ℚ, frac, +ℚ_over, quotient_positive}
+use Rattle.fraction.specs.Lemmas.Gcd.{gcd_is}
+use Rattle.fraction.proofs.Common.{shared_sum}
+use Rattle.fraction.specs.Rational.{ℚ, frac}
+use Rattle.fraction.specs.Lemmas.Rational.{+ℚ_over, quotient_positive}
 use Rattle.std.proofs.Math.Nat.{mul-pos}
-use Rattle.fraction.specs.Checked.{small, held, is_small, add_fits, add_checked}
+use Rattle.fraction.specs.Checked.{small_integer, small_natural, is_small, add_fits, add_checked}
 use Rattle.fraction.proofs.Casts.{back}
 
 pub none_guard : {A : Type 0} (b : Bool) (v : A) → None ≡ (if b then Some v else None) → b ≡ false
@@ -16,64 +20,76 @@ pub some_guard : {A : Type 0} (b : Bool) (v w : A) → Some w ≡ (if b then Som
 some_guard true v w e = (refl, cc)
 some_guard false v w e = cc
 
-pub small_of : (w z : ℤ) → Some w ≡ small z → (is_small z ≡ true) × (w ≡ z)
+pub small_of : (w z : ℤ) → Some w ≡ small_integer z → (is_small z ≡ true) × (w ≡ z)
 small_of w z e = some_guard (is_small z) z w e
 
 -- what was found small is so after a cast to bits and back
-pub back_small : (w z : ℤ) → Some w ≡ small z → to_z w128 (of_z w128 w) ≡ z
+pub back_small : (w z : ℤ) → Some w ≡ small_integer z → to_z w128 (of_z w128 w) ≡ z
 back_small w z e =
     let s = small_of w z e in
     ap (λ v. to_z w128 (of_z w128 v)) s.1 ∙ back z (grind (arith, s.0))
 
-module _ (x y : ℚ) (n m : ℤ) (g : ℕ) (en : n ≡ x.num) (em : m ≡ y.num) (eg : g ≡ gcd x.den y.den) where
-  first : n *ℤ pos (y.den / g) ≡ x.num *ℤ pos (y.den / gcd x.den y.den)
-  first = λ i. en i *ℤ pos (y.den / eg i)
+module _ (x y : ℚ) (n m : ℤ) (g u w : ℕ) (en : n ≡ x.num) (em : m ≡ y.num) (eg : g ≡ gcd x.den y.den) (eu : u ≡ y.den / g) (ew : w ≡ x.den / g) where
+  by : u ≡ y.den / gcd x.den y.den
+  by = eu ∙ ap (λ g. y.den / g) eg
 
-  second : m *ℤ pos (x.den / g) ≡ y.num *ℤ pos (x.den / gcd x.den y.den)
-  second = λ i. em i *ℤ pos (x.den / eg i)
+  other_by : w ≡ x.den / gcd x.den y.den
+  other_by = ew ∙ ap (λ g. x.den / g) eg
 
-  pub none_left : None ≡ small (n *ℤ pos (y.den / g)) → None ≡ add_checked x y
+  first : n *ℤ pos u ≡ x.num *ℤ pos (y.den / gcd x.den y.den)
+  first = λ i. en i *ℤ pos (by i)
+
+  second : m *ℤ pos w ≡ y.num *ℤ pos (x.den / gcd x.den y.den)
+  second = λ i. em i *ℤ pos (other_by i)
+
+  pub none_left : None ≡ small_integer (n *ℤ pos u) → None ≡ add_checked x y
   unfolding add_checked add_fits
   none_left e = let h = none_guard _ _ (rw first at e) in rw h
 
-  pub none_right : (l : ℤ) → Some l ≡ small (n *ℤ pos (y.den / g)) → None ≡ small (m *ℤ pos (x.den / g)) → None ≡ add_checked x y
+  pub none_right : (l : ℤ) → Some l ≡ small_integer (n *ℤ pos u) → None ≡ small_integer (m *ℤ pos w) → None ≡ add_checked x y
   unfolding add_checked add_fits
   none_right l d e = let k = (some_guard _ _ _ (rw first at d)).0 in let h = none_guard _ _ (rw second at e) in rw (k, h)
 
-  module _ (l r : ℤ) (hl : Some l ≡ small (n *ℤ pos (y.den / g))) (hr : Some r ≡ small (m *ℤ pos (x.den / g))) where
+  pub positive : 0 < x.den * u
+  positive = rw by (mul-pos x.lowest.0 (quotient_positive x.den y.den y.lowest.0))
+
+  pub divides : g ∣ x.den
+  divides = rw eg ((gcd_is x.den y.den).0)
+
+  module _ (l r : ℤ) (hl : Some l ≡ small_integer (n *ℤ pos u)) (hr : Some r ≡ small_integer (m *ℤ pos w)) where
     left_is : (is_small (x.num *ℤ pos (y.den / gcd x.den y.den)) ≡ true) × (to_z w128 (of_z w128 l) ≡ x.num *ℤ pos (y.den / gcd x.den y.den))
     left_is =
-        let e : Some l ≡ small (x.num *ℤ pos (y.den / gcd x.den y.den)) = rw first at hl in
+        let e : Some l ≡ small_integer (x.num *ℤ pos (y.den / gcd x.den y.den)) = rw first at hl in
         let z = x.num *ℤ pos (y.den / gcd x.den y.den) in ((small_of l z e).0, back_small l z e)
 
     right_is : (is_small (y.num *ℤ pos (x.den / gcd x.den y.den)) ≡ true) × (to_z w128 (of_z w128 r) ≡ y.num *ℤ pos (x.den / gcd x.den y.den))
     right_is =
-        let e : Some r ≡ small (y.num *ℤ pos (x.den / gcd x.den y.den)) = rw second at hr in
+        let e : Some r ≡ small_integer (y.num *ℤ pos (x.den / gcd x.den y.den)) = rw second at hr in
         let z = y.num *ℤ pos (x.den / gcd x.den y.den) in ((small_of r z e).0, back_small r z e)
 
     sum_is : to_z w128 (of_z w128 l) +ℤ to_z w128 (of_z w128 r) ≡ x.num *ℤ pos (y.den / gcd x.den y.den) +ℤ y.num *ℤ pos (x.den / gcd x.den y.den)
     sum_is = λ i. left_is.1 i +ℤ right_is.1 i
 
-    pub none_num : None ≡ small (to_z w128 (of_z w128 l) +ℤ to_z w128 (of_z w128 r)) → None ≡ add_checked x y
+    pub none_num : None ≡ small_integer (to_z w128 (of_z w128 l) +ℤ to_z w128 (of_z w128 r)) → None ≡ add_checked x y
     unfolding add_checked add_fits
     none_num e = let h = none_guard _ _ (rw sum_is at e) in rw (left_is.0, right_is.0, h)
 
-    module _ (s : ℤ) (hs : Some s ≡ small (to_z w128 (of_z w128 l) +ℤ to_z w128 (of_z w128 r))) where
+    module _ (s : ℤ) (hs : Some s ≡ small_integer (to_z w128 (of_z w128 l) +ℤ to_z w128 (of_z w128 r))) where
       total : (is_small (x.num *ℤ pos (y.den / gcd x.den y.den) +ℤ y.num *ℤ pos (x.den / gcd x.den y.den)) ≡ true)
           × (to_z w128 (of_z w128 s) ≡ x.num *ℤ pos (y.den / gcd x.den y.den) +ℤ y.num *ℤ pos (x.den / gcd x.den y.den))
       total =
           let z = x.num *ℤ pos (y.den / gcd x.den y.den) +ℤ y.num *ℤ pos (x.den / gcd x.den y.den) in
-          let e : Some s ≡ small z = rw sum_is at hs in ((small_of s z e).0, back_small s z e)
+          let e : Some s ≡ small_integer z = rw sum_is at hs in ((small_of s z e).0, back_small s z e)
 
-      pub none_den : None ≡ held (x.den * (y.den / g)) → None ≡ add_checked x y
+      pub none_den : None ≡ small_natural (x.den * u) → None ≡ add_checked x y
       unfolding add_checked add_fits
-      none_den e = let h = none_guard _ _ (rw eg at e) in rw (left_is.0, right_is.0, total.0, h)
+      none_den e = let h = none_guard _ _ (rw by at e) in rw (left_is.0, right_is.0, total.0, h)
 
-      pub some_sum : (d : ℕ) → Some d ≡ held (x.den * (y.den / g)) → Some (frac (to_z w128 (of_z w128 s)) d) ≡ add_checked x y
+      pub shared : gcd (nat_abs (to_z w128 (of_z w128 s))) g ≡ gcd (nat_abs (to_z w128 (of_z w128 s))) (x.den * u)
+      shared = rw (total.1, by, eg) (shared_sum x y)
+
+      pub some_sum : (d : ℕ) → Some d ≡ small_natural (x.den * u) → Some (frac (to_z w128 (of_z w128 s)) (x.den * u)) ≡ add_checked x y
       unfolding add_checked add_fits
       some_sum d e =
-          let h = some_guard _ _ _ (rw eg at e) in
-          rw (left_is.0, right_is.0, total.0, h.0) (ap Some (rw (total.1, h.1) (+ℚ_over x y)))
-
-pub den_positive : (b p g d : ℕ) → 0 < b → 0 < p → g ≡ gcd b p → Some d ≡ held (b * (p / g)) → 0 < d
-den_positive b p g d hb hp e h = rw ((some_guard _ _ _ h).1, e) (mul-pos hb (quotient_positive b p hp))
+          let h = some_guard _ _ _ (rw by at e) in
+          rw (left_is.0, right_is.0, total.0, h.0) (ap Some (rw (total.1, by) (+ℚ_over x y)))

@@ -4,24 +4,27 @@ use Rattle.std.specs.Prelude.{nat_abs, int_div}
 use Rattle.std.specs.Int.{w128}
 use Rattle.std.proofs.lemmas.Int.{to_z-of_z, fits_signed_from_abs}
 use Rattle.fraction.specs.Gcd.{gcd}
-use Rattle.fraction.specs.Rational.{signed_as, inv_lowest, IsLowest, lowest_after, frac, frac-reduced}
+use Rattle.fraction.specs.Rational.{signed_as, frac}
+use Rattle.fraction.specs.Lemmas.Rational.{inv_lowest, frac-reduced}
+use Rattle.fraction.specs.Lowest.{IsLowest}
+use Rattle.fraction.specs.Lemmas.Lowest.{lowest_after}
 
 -- a number that is small is itself after a cast to bits and back
 pub back : (z : ℤ) → nat_abs z < 2 ^ 127 → to_z w128 (of_z w128 z) ≡ z
 back z h = to_z-of_z w128 z (fits_signed_from_abs w128 z h)
 
-module _ (z y x q p : ℤ) (d a g : ℕ) (ey : y ≡ z) (ea : a ≡ nat_abs y) (eg : g ≡ gcd a d) (ex : x ≡ z) (eq : q ≡ int_div x (pos g)) (ep : p ≡ q) where
+module _ (z y x q p : ℤ) (d a g e : ℕ) (ey : y ≡ z) (ea : a ≡ nat_abs y) (eg : g ≡ gcd a d) (ex : x ≡ z) (eq : q ≡ int_div x (pos g)) (ep : p ≡ q) (ee : e ≡ d / g) where
   divisor : g ≡ gcd (nat_abs z) d
   divisor = eg ∙ ap (λ a. gcd a d) (ea ∙ ap nat_abs ey)
 
   num : p ≡ int_div z (pos (gcd (nat_abs z) d))
   num = ep ∙ eq ∙ (λ i. int_div (ex i) (pos (divisor i)))
 
-  pub reduced_lowest : 0 < d → IsLowest p (d / g)
-  reduced_lowest h = rw (num, divisor) (lowest_after z d h)
+  pub reduced_lowest : 0 < d → IsLowest p e
+  reduced_lowest h = rw (ee, num, divisor) (lowest_after z d h)
 
-  pub reduced_is : 0 < d → frac p (d / g) ≡ frac z d
-  reduced_is h = rw (num, divisor) (frac-reduced z d h)
+  pub reduced_is : 0 < d → frac p e ≡ frac z d
+  reduced_is h = rw (ee, num, divisor) (frac-reduced z d h)
 
 module _ (z y s t : ℤ) (d a : ℕ) (ey : y ≡ z) (es : s ≡ signed_as y d) (et : t ≡ s) (ea : a ≡ nat_abs y) where
   upper : t ≡ signed_as z d

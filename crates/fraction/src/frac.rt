@@ -1,13 +1,20 @@
 //! A fraction of 128 bits, and its operations.
 
-ghost use Rattle.std.specs.Prelude.{◌≡◌, ◌↔◌, ◌<◌, ◌^◌, ◌<ℤ◌, IsTrue, pos, nat_abs, neg_ℤ, ◌+ℤ◌, ◌*ℤ◌};
-ghost use Rattle.fraction.specs.Rational.{IsLowest, frac, neg_ℚ, whole, inv_ℚ, floor, ceil};
-ghost use Rattle.std.specs.Option.{option_map};
-ghost use Rattle.fraction.specs.Checked.{small, add_checked, sub_checked, mul_checked, div_checked, abs_ℚ, compare};
+ghost use Prim.Native.Nat.{◌∣◌};
+ghost use Rattle.fraction.specs.Gcd.{gcd};
+ghost use Rattle.std.specs.Int.{w64};
+ghost use Rattle.std.specs.Int.RustNames.{FitsSigned};
+ghost use Rattle.std.specs.Prelude.{◌≡◌, ◌↔◌, ◌<◌, ◌^◌, ◌*◌, ◌<ℤ◌, IsTrue, pos, nat_abs, neg_ℤ, ◌+ℤ◌, ◌*ℤ◌};
+ghost use Rattle.fraction.specs.Rational.{◌+ℚ◌, ◌*ℚ◌, frac, neg_ℚ, whole, inv_ℚ, floor, ceil};
+ghost use Rattle.fraction.specs.Lowest.{IsLowest};
+ghost use Rattle.fraction.specs.Fits.{FitsFraction};
+ghost use Rattle.std.specs.Option.{IfSome, option_map};
+ghost use Rattle.fraction.specs.Checked.{small_integer, add_checked, sub_checked, mul_checked, div_checked, abs_ℚ, compare};
 
-use crate::divisors::gcd;
+use crate::divisors::{gcd, short_gcd};
 use crate::numbers::{
-    floor_quotient, held_product, quotient, scaled, small_product, small_sum, with_sign,
+    floor_quotient, held_product, narrow_product, part, quotient, scaled, short_cross, short_part,
+    short_product, short_quotient, small_product, small_sum, with_sign,
 };
 use crate::products::compared;
 use std::cmp::Ordering;
@@ -61,13 +68,61 @@ fn reduced(num: i128, den: u128) -> Frac
     ensures { result ≡ frac num den }
 {
     let divisor = gcd(num.unsigned_abs(), den);
-    made(quotient(num, divisor), den / divisor)
+    made(quotient(num, divisor), part(den, divisor))
+}
+
+/// The fraction `num / (den * by)`, brought to lowest terms, where num and that denominator have in common what num and divisor have.
+#[inline(always)]
+fn reduced_sum(num: i128, den: u128, by: u128, divisor: u128) -> Frac
+    requires positive { 0 < den * by }
+    requires divisor_positive { 0 < divisor }
+    requires num_small { nat_abs num < 2 ^ 127 }
+    requires den_small { den * by < 2 ^ 127 }
+    requires divides { divisor ∣ den }
+    requires shared { gcd (nat_abs num) divisor ≡ gcd (nat_abs num) (den * by) }
+    ensures { result ≡ frac num (den * by) }
+{
+    let common = gcd(num.unsigned_abs(), divisor);
+    made(quotient(num, common), part(den, common) * by)
+}
+
+/// The sum of a/b and c/d, whose parts have 63 bits. It is always there.
+#[inline(always)]
+fn short_sum(a: i64, b: u64, c: i64, d: u64) -> Frac
+    requires first { IsLowest a b }
+    requires second { IsLowest c d }
+    requires b_small { b < 2 ^ 63 }
+    requires d_small { d < 2 ^ 63 }
+    ensures { result ≡ frac a b +ℚ frac c d }
+{
+    let divisor = short_gcd(b, d);
+    let by = short_part(d, divisor);
+    let num = short_cross(a, by, c, short_part(b, divisor));
+    reduced_sum(num, u128::from(b), u128::from(by), u128::from(divisor))
+}
+
+/// The product of a/b and c/d, whose parts have 63 bits. It is always there.
+#[inline(always)]
+fn short_mul(a: i64, b: u64, c: i64, d: u64) -> Frac
+    requires first { IsLowest a b }
+    requires second { IsLowest c d }
+    requires b_small { b < 2 ^ 63 }
+    requires d_small { d < 2 ^ 63 }
+    ensures { result ≡ frac a b *ℚ frac c d }
+{
+    let left = short_gcd(a.unsigned_abs(), d);
+    let right = short_gcd(c.unsigned_abs(), b);
+    let num = narrow_product(short_quotient(a, left), short_quotient(c, right));
+    made(
+        num,
+        short_product(short_part(b, right), short_part(d, left)),
+    )
 }
 
 /// The sum of two whole numbers.
 #[inline(always)]
 fn whole_sum(a: i128, b: i128) -> Option<Frac>
-    ensures { result ≡ option_map whole (small (a +ℤ b)) }
+    ensures { result ≡ option_map whole (small_integer (a +ℤ b)) }
 {
     Some(Frac::of(small_sum(a, b)?))
 }
@@ -75,7 +130,7 @@ fn whole_sum(a: i128, b: i128) -> Option<Frac>
 /// The product of two whole numbers.
 #[inline(always)]
 fn whole_product(a: i128, b: i128) -> Option<Frac>
-    ensures { result ≡ option_map whole (small (a *ℤ b)) }
+    ensures { result ≡ option_map whole (small_integer (a *ℤ b)) }
 {
     Some(Frac::of(small_product(a, b)?))
 }
@@ -91,6 +146,7 @@ impl Frac {
     }
 
     /// The numerator, whose sign is that of the number.
+    #[inline]
     pub fn numer(&self) -> i128
         ensures { result ≡ self.now.num }
     {
@@ -98,13 +154,23 @@ impl Frac {
     }
 
     /// The denominator, at least 1.
+    #[inline]
     pub fn denom(&self) -> u128
         ensures { result ≡ self.now.den }
     {
         self.den
     }
 
+    /// Both parts of each fraction have 127 bits. This computes nothing: its contract is for callers' proofs.
+    #[inline(always)]
+    pub fn limits_hold(&self)
+        ensures { FitsFraction self.now }
+    {
+        let _num = self.num;
+    }
+
     /// The number with the other sign. It is always there.
+    #[inline]
     pub fn neg(self) -> Frac
         ensures value { result ≡ neg_ℚ self }
         ensures numerator { result.num ≡ neg_ℤ self.num }
@@ -123,6 +189,7 @@ impl Frac {
     }
 
     /// The absolute value. It is always there.
+    #[inline]
     pub fn abs(self) -> Frac
         ensures value { result ≡ abs_ℚ self }
         ensures size { nat_abs result.num ≡ nat_abs self.num }
@@ -131,6 +198,7 @@ impl Frac {
     }
 
     /// The difference, as the sum with `other.neg()`. `None` exactly where that sum is.
+    #[inline]
     pub fn sub(self, other: Frac) -> Option<Frac>
         ensures { result ≡ sub_checked self other }
     {
@@ -138,6 +206,7 @@ impl Frac {
     }
 
     /// The reciprocal, with the sign on its numerator.
+    #[inline]
     fn recip(self) -> Frac
         requires { 0 < nat_abs self.num }
         ensures { result ≡ inv_ℚ self }
@@ -146,6 +215,7 @@ impl Frac {
     }
 
     /// The quotient, as the product with the reciprocal. `other` isn't 0. `None` exactly where that product is.
+    #[inline]
     pub fn div(self, other: Frac) -> Option<Frac>
         requires { 0 < nat_abs other.num }
         ensures { result ≡ div_checked self other }
@@ -154,24 +224,37 @@ impl Frac {
     }
 
     /// The greatest whole number that is at most this one.
+    #[inline]
     pub fn floor(self) -> i128
-        ensures { result ≡ floor self }
+        ensures value { result ≡ floor self }
+        ensures small { nat_abs result < 2 ^ 127 }
     {
         floor_quotient(self.num, self.den)
     }
 
     /// The least whole number that is at least this one.
+    #[inline]
     pub fn ceil(self) -> i128
-        ensures { result ≡ ceil self }
+        ensures value { result ≡ ceil self }
+        ensures small { nat_abs result < 2 ^ 127 }
     {
         -floor_quotient(-self.num, self.den)
     }
 
     /// Whether this is a whole number.
+    #[inline]
     pub fn is_whole(self) -> bool
         ensures { IsTrue result ↔ (self.den ≡ 1) }
     {
         self.den == 1
+    }
+
+    /// Whether both are whole numbers: denominators are at least 1, so that one comparison tells it.
+    #[inline(always)]
+    fn are_whole(self, other: Frac) -> bool
+        ensures { IsTrue result ↔ ((self.den ≡ 1) × (other.den ≡ 1)) }
+    {
+        self.den + other.den == 2
     }
 
     /// The sum of a/b and c/d, reduced. With g the greatest common divisor of b and d, it is `None` exactly where a(d/g), c(b/g), their
@@ -180,23 +263,57 @@ impl Frac {
     pub fn add(self, other: Frac) -> Option<Frac>
         ensures { result ≡ add_checked self other }
     {
-        if self.den == 1 && other.den == 1 {
+        if self.are_whole(other) {
             return whole_sum(self.num, other.num);
         }
-        self.add_over(other)
+        self.add_apart(other)
     }
 
-    /// The sum over the least common denominator.
+    /// As `add_over`, whose answer is kept in a place of its own, so that a sum of whole numbers needs none in memory.
+    #[inline(always)]
+    fn add_apart(self, other: Frac) -> Option<Frac>
+        ensures { result ≡ add_checked self other }
+    {
+        match self.add_over(other) {
+            Some(sum) => Some(sum),
+            None => None,
+        }
+    }
+
+    /// The parts, if both have 63 bits.
+    #[inline(always)]
+    fn short_parts(self) -> Option<(i64, u64)>
+        ensures { IfSome result (λ p. (p.0 ≡ self.num) × (p.1 ≡ self.den) × FitsSigned w64 p.0 × (p.1 < 2 ^ 63)) }
+    {
+        match (i64::try_from(self.num), i64::try_from(self.den)) {
+            (Ok(num), Ok(den)) => Some((num, den as u64)),
+            _ => None,
+        }
+    }
+
+    /// The sum over the least common denominator. Parts of 63 bits go the short way.
     #[inline(never)]
     fn add_over(self, other: Frac) -> Option<Frac>
         ensures { result ≡ add_checked self other }
     {
+        match (self.short_parts(), other.short_parts()) {
+            (Some((a, b)), Some((c, d))) => Some(short_sum(a, b, c, d)),
+            _ => self.add_wide(other),
+        }
+    }
+
+    /// The sum over the least common denominator, where parts may have more than 63 bits.
+    #[inline(always)]
+    fn add_wide(self, other: Frac) -> Option<Frac>
+        ensures { result ≡ add_checked self other }
+    {
         let divisor = gcd(self.den, other.den);
-        let left = scaled(self.num, other.den / divisor)?;
-        let right = scaled(other.num, self.den / divisor)?;
+        let by = part(other.den, divisor);
+        let left = scaled(self.num, by)?;
+        let right = scaled(other.num, part(self.den, divisor))?;
         let num = small_sum(left, right)?;
-        let den = held_product(self.den, other.den / divisor)?;
-        Some(reduced(num, den))
+        held_product(self.den, by)?;
+        Some(reduced_sum(num, self.den, by, divisor))
     }
 
     /// The product of a/b and c/d. Each numerator is reduced against the other's denominator first; it is `None` exactly where then the
@@ -205,21 +322,43 @@ impl Frac {
     pub fn mul(self, other: Frac) -> Option<Frac>
         ensures { result ≡ mul_checked self other }
     {
-        if self.den == 1 && other.den == 1 {
+        if self.are_whole(other) {
             return whole_product(self.num, other.num);
         }
-        self.mul_over(other)
+        self.mul_apart(other)
     }
 
-    /// The product, each numerator reduced against the other's denominator.
+    /// As `mul_over`, whose answer is kept in a place of its own.
+    #[inline(always)]
+    fn mul_apart(self, other: Frac) -> Option<Frac>
+        ensures { result ≡ mul_checked self other }
+    {
+        match self.mul_over(other) {
+            Some(product) => Some(product),
+            None => None,
+        }
+    }
+
+    /// The product, each numerator reduced against the other's denominator. Parts of 63 bits go the short way.
     #[inline(never)]
     fn mul_over(self, other: Frac) -> Option<Frac>
+        ensures { result ≡ mul_checked self other }
+    {
+        match (self.short_parts(), other.short_parts()) {
+            (Some((a, b)), Some((c, d))) => Some(short_mul(a, b, c, d)),
+            _ => self.mul_wide(other),
+        }
+    }
+
+    /// The product, each numerator reduced against the other's denominator, where parts may have more than 63 bits.
+    #[inline(never)]
+    fn mul_wide(self, other: Frac) -> Option<Frac>
         ensures { result ≡ mul_checked self other }
     {
         let left = gcd(self.num.unsigned_abs(), other.den);
         let right = gcd(other.num.unsigned_abs(), self.den);
         let num = small_product(quotient(self.num, left), quotient(other.num, right))?;
-        let den = held_product(self.den / right, other.den / left)?;
+        let den = held_product(part(self.den, right), part(other.den, left))?;
         Some(made(num, den))
     }
 

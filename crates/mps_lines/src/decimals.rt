@@ -30,7 +30,7 @@ struct Sum {
 }
 
 /// A power of ten up to 10^24.
-#[tactic(auto, using(crate::specs::Places::power_small))]
+#[tactic(auto, using(crate::proofs::Places::power_small))]
 fn power_of_ten(exponent: u128) -> u128
     requires { exponent < 25 }
     ensures value { result ≡ 10 ^ exponent }
@@ -40,7 +40,7 @@ fn power_of_ten(exponent: u128) -> u128
 }
 
 /// One more digit.
-#[tactic(auto, using(crate::specs::Places::digit_times))]
+#[tactic(auto, using(crate::proofs::Places::digit_times))]
 fn with_digit(sum: Sum, digit: u8, at: u128, unit: u128) -> Sum
     requires digit { is_digit digit ≡ true }
     requires unit_small { unit < 2 ^ 110 }

@@ -1,70 +1,16 @@
--- The problem from the reader's tables, and the checks of its limits.
-use Rattle.std.specs.Prelude.{◌≡◌, ℕ, ◌*◌, ◌^◌, ◌<◌, ◌≤◌, ◌%◌, Bool, true, false, ◌&&◌, ◌==◌, not, nat_le, nat_lt, List, ◌∷◌, Option, Some, None, All, pos, nat_abs, suc, []}
+-- The right side of a row, and the objective's terms, where they are written.
+use Rattle.std.specs.Prelude.{Option, Some, None, pos}
 use Rattle.std.specs.Option.{unwrap_or}
-use Rattle.std.proofs.Common.{ap, ◌∙◌, arith}
-use Rattle.std.proofs.lemmas.List.Elements.{All-nil, All-cons}
-use Rattle.std.proofs.lemmas.Bool.{eqb-true, and_parts}
-use Rattle.std.proofs.lemmas.Nat.Gcd.{dvd_of_mod-eq-zero}
 use Rattle.fraction.specs.Rational.{ℚ, whole}
-use Rattle.fraction.specs.Bounds.{Within, whole_parts}
-use Rattle.problem.specs.declared.row.Row.{Row}
-use Rattle.problem.specs.Modest.{IsModest}
-use Rattle.problem.specs.Rising.{RiseFrom, AreNonzero}
-use Rattle.problem.specs.Limited.{AreLimited}
-use Rattle.mps_reader.specs.Words.{named}
-use Rattle.mps_reader.specs.Meaning.{sense_of_row, is_zero}
 use Rattle.mps_reader.specs.declared.kinds.RowType.{RowType}
 use Rattle.mps_reader.specs.declared.kinds.RowType.TheVariants as row
-
--- ---- limits, as a test
-abbrev pub is_modest : ℚ → Bool
-is_modest q = nat_le q.den (10 ^ 15) && ((10 ^ 15 % q.den == 0) && nat_le (nat_abs q.num) (10 ^ 9 * q.den))
-
--- columns below n that rise from k on, with modest numbers that are not 0
-abbrev pub limited_from : ℕ → ℕ → List (ℕ × ℚ) → Bool
-limited_from n k [] = true
-limited_from n k (t ∷ ts) = nat_lt t.0 n && (nat_le k t.0 && (is_modest t.1 && (not (is_zero t.1) && limited_from n (suc t.0) ts)))
-
-pub modest_within : (q : ℚ) → is_modest q ≡ true → Within (10 ^ 15) (10 ^ 24) q
-modest_within q h =
-    let a = and_parts (nat_le q.den (10 ^ 15)) ((10 ^ 15 % q.den == 0) && nat_le (nat_abs q.num) (10 ^ 9 * q.den)) h in
-    let b = and_parts (10 ^ 15 % q.den == 0) (nat_le (nat_abs q.num) (10 ^ 9 * q.den)) a.1 in
-    let le : nat_le (nat_abs q.num) (10 ^ 9 * q.den) ≡ true = b.1 in
-    let l : nat_abs q.num ≤ 10 ^ 9 * q.den = grind arith in
-    record { divides = dvd_of_mod-eq-zero q.den (eqb-true _ 0 b.0); size = omega (arith, l) }
-
-pub limited_is : (n k : ℕ) (ts : List (ℕ × ℚ)) → limited_from n k ts ≡ true
-    → (All (λ t. t.0 < n) ts) × RiseFrom k ts × AreNonzero ts × All (λ t. IsModest t.1) ts
-limited_is n k [] h = (All-nil (λ (t : ℕ × ℚ). t.0 < n), tt, All-nil (λ (t : ℕ × ℚ). t.1 ≡ whole (pos 0) → ⊥), All-nil (λ (t : ℕ × ℚ). IsModest t.1))
-limited_is n k (t ∷ ts) h =
-    let a = and_parts (nat_lt t.0 n) _ h in
-    let b = and_parts (nat_le k t.0) _ a.1 in
-    let c = and_parts (is_modest t.1) _ b.1 in
-    let d = and_parts (not (is_zero t.1)) _ c.1 in
-    let r = limited_is n (suc t.0) ts d.1 in
-    let l : t.0 < n = grind (arith, a.0) in
-    let m : k ≤ t.0 = grind (arith, b.0) in
-    (All-cons (λ (t : ℕ × ℚ). t.0 < n) t ts l r.0, (m, r.1), All-cons (λ (t : ℕ × ℚ). t.1 ≡ whole (pos 0) → ⊥) t ts (nonzero t.1 d.0) r.2, All-cons (λ (t : ℕ × ℚ). IsModest t.1) t ts (modest_within t.1 c.0) r.3)
-  where
-    nonzero : (q : ℚ) → not (is_zero q) ≡ true → q ≡ whole (pos 0) → ⊥
-    nonzero q h e = let z : not (nat_abs q.num == 0) ≡ false = ap (λ (x : ℚ). not (nat_abs x.num == 0)) e ∙ ap (λ n. not (nat_abs n == 0)) (whole_parts (pos 0)).0 in cc
-
-pub are_limited : (n : ℕ) (ts : List (ℕ × ℚ)) → limited_from n 0 ts ≡ true → AreLimited n ts
-are_limited n ts h = let r = limited_is n 0 ts h in record { below = r.0; rising = r.1; nonzero = r.2; modest = r.3 }
-
--- ---- rows
-abbrev pub side_in : List (List ℕ × ℚ) → List ℕ → ℚ
-side_in sides name = unwrap_or (named sides name) (whole (pos 0))
+use Rattle.problem.specs.Linear.{Terms}
 
 -- the right side by a number that is written or not
 abbrev pub side_of : Option ℚ → ℚ
 side_of o = unwrap_or o (whole (pos 0))
 
-abbrev pub row_with : RowType → ℚ → List (ℕ × ℚ) → List Row
-row_with row.N b ts = []
-row_with type b ts = record { sense = sense_of_row type; rhs = b; terms = ts } ∷ []
-
 -- the objective's terms, where an N row gives them
-abbrev pub objective_with : RowType → List (ℕ × ℚ) → Option (List (ℕ × ℚ))
+abbrev pub objective_with : RowType → Terms → Option Terms
 objective_with row.N ts = Some ts
 objective_with type ts = None

@@ -4,8 +4,8 @@ use Rattle.mps_lines.specs.Lines.{Line, lines_of, raw_lines}
 use Rattle.mps_reader.specs.Words.{section_of}
 use Rattle.mps_reader.specs.Sections.{Sections, none_yet, with_line, first_field}
 use Rattle.mps_reader.specs.Faults.{line_fault}
-use Rattle.problem.specs.Program.{Program}
-use Rattle.mps_reader.specs.Meaning.{problem_of, end_fault}
+use Rattle.problem.specs.Problem.{Problem}
+use Rattle.mps_reader.specs.Meaning.{problem_of, end_fault, unless_fault}
 use Rattle.mps_reader.specs.declared.kinds.Kind.{Kind}
 use Rattle.mps_reader.specs.declared.kinds.Kind.TheVariants as kind
 use Rattle.mps_reader.specs.declared.kinds.Section.{Section}
@@ -27,24 +27,25 @@ abbrev pub sections_from : ℕ → Sections → List Line → Result Sections (�
 sections_from last s [] = Err (last, kind.NoEnd)
 sections_from last s (line ∷ lines) = after_line (line_fault s line) line (sections_from last (with_line s line) lines) s
 
-abbrev pub problem_or_fault : Option ℕ → Sections → Option (ℕ × Kind) → Result Program (ℕ × Kind)
-problem_or_fault upper s (Some fault) = Err fault
-problem_or_fault upper s None = Ok (problem_of upper s)
+-- the sections of a text up to ENDATA, or its first fault
+abbrev pub sections_in : List ℕ → Result Sections (ℕ × Kind)
+sections_in text = sections_from (length (raw_lines text)) none_yet (lines_of text)
 
-abbrev pub finish : Option ℕ → Result Sections (ℕ × Kind) → Result Program (ℕ × Kind)
-finish upper (Ok s) = problem_or_fault upper s (end_fault upper s)
+-- the problem of the sections at ENDATA, or the fault at the end
+abbrev pub finish : Option ℕ → Result Sections (ℕ × Kind) → Result Problem (ℕ × Kind)
+finish upper (Ok s) = unless_fault (end_fault upper s) (problem_of upper s)
 finish upper (Err fault) = Err fault
 
 abbrev pub text_limit : ℕ
 text_limit = 4194304
 
 -- the problem that a text reads as, or its first fault
-unfoldable pub reading : List ℕ → Option ℕ → Result Program (ℕ × Kind)
+unfoldable pub reading : List ℕ → Option ℕ → Result Problem (ℕ × Kind)
 reading text upper =
     if nat_lt text_limit (length text) then Err (0, kind.TooMany)
-    else finish upper (sections_from (length (raw_lines text)) none_yet (lines_of text))
+    else finish upper (sections_in text)
 
-abbrev pub Reads : List ℕ → Option ℕ → Program → Type 0
+abbrev pub Reads : List ℕ → Option ℕ → Problem → Type 0
 Reads text upper p = reading text upper ≡ Ok p
 
 abbrev pub IsRefused : List ℕ → Option ℕ → ℕ → Kind → Type 0

@@ -1,5 +1,7 @@
 -- The lines of a text by their sections.
 use Rattle.std.specs.Prelude.{ℕ, Bool, true, false, if◌then◌else◌, List, ◌∷◌, ◌++◌, Option, Some, None, drop, codes, Result, Ok, Err, pos, []}
+use Rattle.std.proofs.Common.{get_or}
+use Rattle.std.specs.Option.{option_or, unwrap_or}
 use Rattle.std.specs.Str.{bytes_eq}
 use Rattle.fraction.specs.Rational.{ℚ, whole}
 use Rattle.mps_lines.specs.Decimals.{decimal}
@@ -27,16 +29,19 @@ pub record Sections : Type 0 where
 abbrev pub none_yet : Sections
 none_yet = record { words = []; senses = []; rows_at = 0; rows = []; columns = []; rhs = []; ranges = []; bounds = [] }
 
-abbrev pub with_data_in : List Section → Sections → Line → Sections
-with_data_in [] s line = s
-with_data_in (section.Name ∷ words) s line = s
-with_data_in (section.ObjSense ∷ words) s line = record s { senses = line.fields ++ s.senses }
-with_data_in (section.Rows ∷ words) s line = record s { rows = line ∷ s.rows }
-with_data_in (section.Columns ∷ words) s line = record s { columns = line ∷ s.columns }
-with_data_in (section.Rhs ∷ words) s line = record s { rhs = line ∷ s.rhs }
-with_data_in (section.Ranges ∷ words) s line = record s { ranges = line ∷ s.ranges }
-with_data_in (section.Bounds ∷ words) s line = record s { bounds = line ∷ s.bounds }
-with_data_in (section.EndData ∷ words) s line = s
+-- the section that the lines stand in
+abbrev pub last_word : List Section → Option Section
+last_word [] = None
+last_word (word ∷ words) = Some word
+
+abbrev pub with_data_in : Option Section → Sections → Line → Sections
+with_data_in (Some section.ObjSense) s line = record s { senses = line.fields ++ s.senses }
+with_data_in (Some section.Rows) s line = record s { rows = line ∷ s.rows }
+with_data_in (Some section.Columns) s line = record s { columns = line ∷ s.columns }
+with_data_in (Some section.Rhs) s line = record s { rhs = line ∷ s.rhs }
+with_data_in (Some section.Ranges) s line = record s { ranges = line ∷ s.ranges }
+with_data_in (Some section.Bounds) s line = record s { bounds = line ∷ s.bounds }
+with_data_in _ s line = s
 
 abbrev pub with_word : Option Section → Sections → Line → Sections
 with_word None s line = s
@@ -48,28 +53,34 @@ abbrev pub data_line : ℕ → List (List ℕ) → Line
 data_line number fields = record { number = number; is_data = true; fields = fields }
 
 abbrev pub first_field : List (List ℕ) → List ℕ
-first_field [] = []
-first_field (field ∷ fields) = field
+first_field fields = get_or fields 0 []
 
 -- the lines so far and one more
 abbrev pub with_line : Sections → Line → Sections
-with_line s line = if line.is_data then with_data_in s.words s line else with_word (section_of (first_field line.fields)) s line
+with_line s line = if line.is_data then with_data_in (last_word s.words) s line else with_word (section_of (first_field line.fields)) s line
 
 -- ROWS: names with their types, in order
-abbrev pub row_typed : List ℕ → Option RowType → List (List ℕ × RowType)
+abbrev pub DeclaredRows : Type 0
+DeclaredRows = List (List ℕ × RowType)
+
+abbrev pub row_typed : List ℕ → Option RowType → DeclaredRows
 row_typed name None = []
 row_typed name (Some type) = (name, type) ∷ []
 
-abbrev pub row_entry : List (List ℕ) → List (List ℕ × RowType)
+abbrev pub row_entry : List (List ℕ) → DeclaredRows
 row_entry (type ∷ name ∷ []) = row_typed name (row_type_of type)
 row_entry _ = []
 
-abbrev pub rows_of : List Line → List (List ℕ × RowType)
+abbrev pub rows_of : List Line → DeclaredRows
 rows_of [] = []
 rows_of (line ∷ earlier) = rows_of earlier ++ row_entry line.fields
 
+-- rows with the fields of their values
+abbrev pub RowValues : Type 0
+RowValues = List (List ℕ × List ℕ)
+
 -- a row and a value, or two rows with their values
-abbrev pub pairs_of : List (List ℕ) → Option (List (List ℕ × List ℕ))
+abbrev pub pairs_of : List (List ℕ) → Option RowValues
 pairs_of (row ∷ value ∷ []) = Some ((row, value) ∷ [])
 pairs_of (row ∷ value ∷ row2 ∷ value2 ∷ []) = Some ((row, value) ∷ (row2, value2) ∷ [])
 pairs_of _ = None
@@ -80,13 +91,9 @@ marker (name ∷ word ∷ which ∷ []) = if bytes_eq word (codes "'MARKER'") th
 marker _ = None
 
 -- whether the last marker begins whole columns
-abbrev pub marked_by : Option Bool → Bool → Bool
-marked_by None before = before
-marked_by (Some which) before = which
-
-abbrev pub marked : List Line → Bool
-marked [] = false
-marked (line ∷ earlier) = marked_by (marker line.fields) (marked earlier)
+abbrev pub is_behind_intorg : List Line → Bool
+is_behind_intorg [] = false
+is_behind_intorg (line ∷ earlier) = unwrap_or (marker line.fields) (is_behind_intorg earlier)
 
 -- a row of a column, with its line and whether a marker makes it whole there
 pub record Entry : Type 0 where
@@ -99,20 +106,20 @@ pub record Entry : Type 0 where
 abbrev pub entry : ℕ → Bool → List ℕ → List ℕ × List ℕ → Entry
 entry line is_marked column pair = record { column = column; row = pair.0; value = pair.1; line = line; is_marked = is_marked }
 
-abbrev pub with_pairs : (List ℕ × List ℕ → Entry) → Option (List (List ℕ × List ℕ)) → List Entry → List Entry
+abbrev pub with_pairs : (List ℕ × List ℕ → Entry) → Option RowValues → List Entry → List Entry
 with_pairs make None entries = entries
 with_pairs make (Some []) entries = entries
 with_pairs make (Some (pair ∷ pairs)) entries = with_pairs make (Some pairs) (make pair ∷ entries)
 
-abbrev pub with_column_line : Line → Bool → Option Bool → List (List ℕ) → List Entry → List Entry
-with_column_line line is_marked (Some which) fields entries = entries
-with_column_line line is_marked None [] entries = entries
-with_column_line line is_marked None (column ∷ rest) entries = with_pairs (entry line.number is_marked column) (pairs_of rest) entries
+abbrev pub with_column_line : ℕ → Bool → Option Bool → List (List ℕ) → List Entry → List Entry
+with_column_line number is_marked (Some which) fields entries = entries
+with_column_line number is_marked None [] entries = entries
+with_column_line number is_marked None (column ∷ rest) entries = with_pairs (entry number is_marked column) (pairs_of rest) entries
 
 -- the entries of COLUMNS, the last one first
 abbrev pub entries_of : List Line → List Entry
 entries_of [] = []
-entries_of (line ∷ earlier) = with_column_line line (marked earlier) (marker line.fields) line.fields (entries_of earlier)
+entries_of (line ∷ earlier) = with_column_line line.number (is_behind_intorg earlier) (marker line.fields) line.fields (entries_of earlier)
 
 -- the column of the last entry
 abbrev pub last_of : List Entry → Option (List ℕ)
@@ -123,11 +130,15 @@ abbrev pub is_same : Option (List ℕ) → List ℕ → Bool
 is_same None column = false
 is_same (Some last) column = bytes_eq column last
 
+-- names with where their columns begin, in order
+abbrev pub DeclaredColumns : Type 0
+DeclaredColumns = List (List ℕ × Column)
+
 -- the columns in order: an entry that doesn't stand with one of its column begins one
-abbrev pub with_column : Bool → List (List ℕ × Column) → Entry → List (List ℕ × Column)
+abbrev pub with_column : Bool → DeclaredColumns → Entry → DeclaredColumns
 with_column same columns e = if same then columns else columns ++ (e.column, record { line = e.line; is_marked = e.is_marked }) ∷ []
 
-abbrev pub columns_of : List Entry → List (List ℕ × Column)
+abbrev pub columns_of : List Entry → DeclaredColumns
 columns_of [] = []
 columns_of (e ∷ earlier) = with_column (is_same (last_of earlier) e.column) (columns_of earlier) e
 
@@ -147,27 +158,26 @@ run_of [] = []
 run_of (e ∷ earlier) = with_run (is_same (last_of earlier) e.column) (run_of earlier) e
 
 -- RHS and RANGES: a set's name or none, and the rows with their values
-abbrev pub sides : List (List ℕ) → Option (Option (List ℕ) × List (List ℕ × List ℕ))
+abbrev pub sides : List (List ℕ) → Option (Option (List ℕ) × RowValues)
 sides (row ∷ value ∷ []) = Some (None, (row, value) ∷ [])
 sides (group ∷ row ∷ value ∷ []) = Some (Some group, (row, value) ∷ [])
 sides (row ∷ value ∷ row2 ∷ value2 ∷ []) = Some (None, (row, value) ∷ (row2, value2) ∷ [])
 sides (group ∷ row ∷ value ∷ row2 ∷ value2 ∷ []) = Some (Some group, (row, value) ∷ (row2, value2) ∷ [])
 sides _ = None
 
-abbrev pub with_sides : Option (Option (List ℕ) × List (List ℕ × List ℕ)) → List (List ℕ × List ℕ) → List (List ℕ × List ℕ)
+abbrev pub with_sides : Option (Option (List ℕ) × RowValues) → RowValues → RowValues
 with_sides None before = before
 with_sides (Some s) before = before ++ s.1
 
 -- the rows with their values, in order
-abbrev pub sides_of : List Line → List (List ℕ × List ℕ)
+abbrev pub sides_of : List Line → RowValues
 sides_of [] = []
 sides_of (line ∷ earlier) = with_sides (sides line.fields) (sides_of earlier)
 
 -- a set's name, where one was written
-abbrev pub set_of_sides : Option (Option (List ℕ) × List (List ℕ × List ℕ)) → Option (List ℕ) → Option (List ℕ)
+abbrev pub set_of_sides : Option (Option (List ℕ) × RowValues) → Option (List ℕ) → Option (List ℕ)
 set_of_sides None before = before
-set_of_sides (Some (None, pairs)) before = before
-set_of_sides (Some (Some group, pairs)) before = Some group
+set_of_sides (Some s) before = option_or s.0 before
 
 abbrev pub side_set : List Line → Option (List ℕ)
 side_set [] = None
@@ -181,45 +191,41 @@ pub record Bound : Type 0 where
   pub value : List ℕ
 
 abbrev pub has_value : BoundType → Bool
-has_value bound.Up = true
-has_value bound.Lo = true
-has_value bound.Fx = true
-has_value bound.Li = true
-has_value bound.Ui = true
-has_value _ = false
+has_value bound.Fr = false
+has_value bound.Mi = false
+has_value bound.Pl = false
+has_value bound.Bv = false
+has_value _ = true
 
-abbrev pub valued : BoundType → List (List ℕ) → Option Bound
-valued type (column ∷ value ∷ []) = Some (record { type = type; group = None; column = column; value = value })
-valued type (group ∷ column ∷ value ∷ []) = Some (record { type = type; group = Some group; column = column; value = value })
-valued type _ = None
+abbrev pub bound_with_value : BoundType → List (List ℕ) → Option Bound
+bound_with_value type (column ∷ value ∷ []) = Some (record { type = type; group = None; column = column; value = value })
+bound_with_value type (group ∷ column ∷ value ∷ []) = Some (record { type = type; group = Some group; column = column; value = value })
+bound_with_value type _ = None
 
-abbrev pub valueless : BoundType → List (List ℕ) → Option Bound
-valueless type (column ∷ []) = Some (record { type = type; group = None; column = column; value = [] })
-valueless type (group ∷ column ∷ []) = Some (record { type = type; group = Some group; column = column; value = [] })
-valueless type (group ∷ column ∷ value ∷ []) = Some (record { type = type; group = Some group; column = column; value = [] })
-valueless type _ = None
+abbrev pub bound_without_value : BoundType → List (List ℕ) → Option Bound
+bound_without_value type (column ∷ []) = Some (record { type = type; group = None; column = column; value = [] })
+bound_without_value type (group ∷ column ∷ []) = Some (record { type = type; group = Some group; column = column; value = [] })
+bound_without_value type (group ∷ column ∷ value ∷ []) = Some (record { type = type; group = Some group; column = column; value = [] })
+bound_without_value type _ = None
 
 abbrev pub typed_bound : Option BoundType → List (List ℕ) → Option Bound
 typed_bound None rest = None
-typed_bound (Some type) rest = if has_value type then valued type rest else valueless type rest
+typed_bound (Some type) rest = if has_value type then bound_with_value type rest else bound_without_value type rest
 
 abbrev pub bound_at : List (List ℕ) → Option Bound
 bound_at [] = None
 bound_at (type ∷ rest) = typed_bound (bound_type_of type) rest
 
-abbrev pub onto : Option Bound → List Bound → List Bound
-onto None bounds = bounds
-onto (Some b) bounds = b ∷ bounds
+abbrev pub with_bound : Option Bound → List Bound → List Bound
+with_bound None bounds = bounds
+with_bound (Some b) bounds = b ∷ bounds
 
 -- the lines of BOUNDS, the last one first
 abbrev pub bounds_of : List Line → List Bound
 bounds_of [] = []
-bounds_of (line ∷ earlier) = onto (bound_at line.fields) (bounds_of earlier)
+bounds_of (line ∷ earlier) = with_bound (bound_at line.fields) (bounds_of earlier)
 
-abbrev pub set_by : Option (List ℕ) → Option (List ℕ) → Option (List ℕ)
-set_by None before = before
-set_by (Some group) before = Some group
-
+-- the name of the set, where one was written
 abbrev pub bound_set : List Bound → Option (List ℕ)
 bound_set [] = None
-bound_set (b ∷ earlier) = set_by b.group (bound_set earlier)
+bound_set (b ∷ earlier) = option_or b.group (bound_set earlier)

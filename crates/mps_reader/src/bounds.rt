@@ -1,17 +1,17 @@
 //! Lines of BOUNDS.
 
 ghost use Rattle.std.specs.Prelude.{◌≡◌, ℕ, ◌∷◌, OnOk, IfErr, IfOk, List, None, Some, if◌then◌else◌};
-ghost use Rattle.std.specs.Option.{option_map};
+ghost use Rattle.std.specs.Option.{option_map, option_or};
 ghost use Rattle.std.specs.Str.{bytes_eq};
 ghost use Rattle.mps_reader.specs.BoundLines.{with_limits};
-ghost use Rattle.mps_reader.specs.BoundTables.{HasBounds, set_fault, summary_in, written};
-ghost use Rattle.mps_reader.specs.Faults.{bound_line_fault, differs};
-ghost use Rattle.mps_reader.specs.Sections.{Bound, Entry, bound_at, bound_set, columns_of, onto, set_by, valued, valueless};
-ghost use Rattle.mps_reader.specs.Tables.{Stops, table, text_of, texts};
-ghost use Rattle.mps_reader.specs.Words.{named};
+ghost use Rattle.mps_reader.specs.BoundTables.{HasBounds, summary_in, bound_of};
+ghost use Rattle.mps_reader.specs.Faults.{bound_fault, bound_line_fault, differs};
+ghost use Rattle.mps_reader.specs.Sections.{Bound, Entry, bound_at, bound_set, columns_of, with_bound, bound_with_value, bound_without_value};
+ghost use Rattle.mps_reader.specs.Tables.{Stops, table, bytes_of, texts};
+ghost use Rattle.mps_reader.specs.Words.{value_under};
 
 use crate::kinds::{BoundType, Column, Kind, Stop};
-use crate::limits::{Limits, has_value, no_limits, with_line};
+use crate::limits::{ColumnBounds, has_value, no_limits, with_line};
 use crate::names::has;
 use crate::sides::differs;
 use crate::words::bound_type_of;
@@ -31,14 +31,14 @@ pub struct Written<'a> {
 /// What the lines so far say of their columns, and the set's name.
 #[derive(Drop)]
 pub struct Bounds<'a, B: BuildHasher + Drop> {
-    pub limits: IndexMap<&'a [u8], Limits, B>,
+    pub limits: IndexMap<&'a [u8], ColumnBounds, B>,
     pub group: Option<&'a [u8]>,
 }
 
 /// What follows the type of a line whose value counts.
-#[tactic(auto, using(crate::specs::BoundTables::valued_none))]
-fn valued<'a>(kind: BoundType, rest: &[&'a [u8]]) -> Option<Written<'a>>
-    ensures { option_map written result ≡ valued kind (texts rest.now) }
+#[tactic(auto, using(crate::proofs::BoundTables::bound_with_value_none))]
+fn bound_with_value<'a>(kind: BoundType, rest: &[&'a [u8]]) -> Option<Written<'a>>
+    ensures { option_map bound_of result ≡ bound_with_value kind (texts rest.now) }
 {
     match rest {
         [column, value] => Some(Written {
@@ -58,9 +58,9 @@ fn valued<'a>(kind: BoundType, rest: &[&'a [u8]]) -> Option<Written<'a>>
 }
 
 /// What follows the type of a line whose value is passed over.
-#[tactic(auto, using(crate::specs::BoundTables::valueless_none))]
-fn valueless<'a>(kind: BoundType, rest: &[&'a [u8]]) -> Option<Written<'a>>
-    ensures { option_map written result ≡ valueless kind (texts rest.now) }
+#[tactic(auto, using(crate::proofs::BoundTables::bound_without_value_none))]
+fn bound_without_value<'a>(kind: BoundType, rest: &[&'a [u8]]) -> Option<Written<'a>>
+    ensures { option_map bound_of result ≡ bound_without_value kind (texts rest.now) }
 {
     match rest {
         [column] => Some(Written {
@@ -81,21 +81,21 @@ fn valueless<'a>(kind: BoundType, rest: &[&'a [u8]]) -> Option<Written<'a>>
 
 /// What a line says, or nothing where its type or the count of its fields is wrong.
 fn bound_at<'a>(fields: &[&'a [u8]]) -> Option<Written<'a>>
-    ensures { option_map written result ≡ bound_at (texts fields.now) }
+    ensures { option_map bound_of result ≡ bound_at (texts fields.now) }
 {
     let [word, rest @ ..] = fields else {
         return None;
     };
     match bound_type_of(word) {
-        Some(kind) if has_value(kind) => valued(kind, rest),
-        Some(kind) => valueless(kind, rest),
+        Some(kind) if has_value(kind) => bound_with_value(kind, rest),
+        Some(kind) => bound_without_value(kind, rest),
         None => None,
     }
 }
 
 /// The set's name after a line, where one is written.
 fn later_set<'a>(before: Option<&'a [u8]>, group: Option<&'a [u8]>) -> Option<&'a [u8]>
-    ensures { text_of result ≡ set_by (text_of group.entry) (text_of before.entry) }
+    ensures { bytes_of result ≡ option_or (bytes_of group.entry) (bytes_of before.entry) }
 {
     match group {
         Some(_) => group,
@@ -105,8 +105,8 @@ fn later_set<'a>(before: Option<&'a [u8]>, group: Option<&'a [u8]>) -> Option<&'
 
 impl<'a, B: BuildHasher + Drop> Bounds<'a, B> {
     /// What the lines so far say of a column.
-    #[tactic(auto, using(crate::specs::Tables::named_table))]
-    pub fn limits_of(&self, name: &'a [u8]) -> Limits
+    #[tactic(auto, using(crate::proofs::TableLemmas::value_under_table))]
+    pub fn limits_of(&self, name: &'a [u8]) -> ColumnBounds
         ensures { result ≡ summary_in (table self.now.limits.entries) name.now }
     {
         match self.limits.get(name).copied() {
@@ -117,7 +117,7 @@ impl<'a, B: BuildHasher + Drop> Bounds<'a, B> {
 
     /// Whether another set was named.
     fn has_other_set(&self, group: Option<&[u8]>) -> bool
-        ensures { result ≡ differs (text_of self.now.group) (text_of group.entry) }
+        ensures { result ≡ differs (bytes_of self.now.group) (bytes_of group.entry) }
     {
         match group {
             Some(group) => differs(self.group, group),
@@ -130,10 +130,10 @@ impl<'a, B: BuildHasher + Drop> Bounds<'a, B> {
         &self,
         columns: &IndexMap<&'a [u8], Column, B>,
         line: &Written<'a>,
-    ) -> Result<Limits, Stop>
-        ensures ok { IfOk result (λ new. (set_fault (table columns.now.entries) (text_of self.now.group) (written line.now) ≡ None)
+    ) -> Result<ColumnBounds, Stop>
+        ensures ok { IfOk result (λ new. (bound_fault (table columns.now.entries) (bytes_of self.now.group) (bound_of line.now) ≡ None)
             × (new ≡ with_limits line.now.kind line.now.value.now (summary_in (table self.now.limits.entries) line.now.column.now))) }
-        ensures err { IfErr result (λ stop. Stops stop (set_fault (table columns.now.entries) (text_of self.now.group) (written line.now))) }
+        ensures err { IfErr result (λ stop. Stops stop (bound_fault (table columns.now.entries) (bytes_of self.now.group) (bound_of line.now))) }
     {
         if self.has_other_set(line.group) {
             return Err(Stop::Fault(Kind::ManySets));
@@ -145,10 +145,10 @@ impl<'a, B: BuildHasher + Drop> Bounds<'a, B> {
     }
 
     /// Keeps the limits of a column and the set's name, where one is written. The one error is want of memory.
-    fn keep(&mut self, line: &Written<'a>, limits: Limits) -> Result<(), AllocError>
-        ensures limits { (name : List ℕ) → OnOk result (named (table self.new.limits.entries) name
-            ≡ (if bytes_eq line.now.column.now name then Some limits else named (table self.old.limits.entries) name)) }
-        ensures group { OnOk result (text_of self.new.group ≡ set_by (text_of line.now.group) (text_of self.old.group)) }
+    fn keep(&mut self, line: &Written<'a>, limits: ColumnBounds) -> Result<(), AllocError>
+        ensures limits { (name : List ℕ) → OnOk result (value_under (table self.new.limits.entries) name
+            ≡ (if bytes_eq line.now.column.now name then Some limits else value_under (table self.old.limits.entries) name)) }
+        ensures group { OnOk result (bytes_of self.new.group ≡ option_or (bytes_of line.now.group) (bytes_of self.old.group)) }
     {
         match self.limits.insert(line.column, limits) {
             Ok(_) => {
@@ -166,9 +166,9 @@ impl<'a, B: BuildHasher + Drop> Bounds<'a, B> {
         line: &Written<'a>,
     ) -> Result<(), Stop>
         ensures ok { (bounds : List Bound) → HasBounds self.old bounds → OnOk result (
-            (set_fault (table columns.now.entries) (bound_set bounds) (written line.now) ≡ None) × HasBounds self.new (written line.now ∷ bounds)) }
+            (bound_fault (table columns.now.entries) (bound_set bounds) (bound_of line.now) ≡ None) × HasBounds self.new (bound_of line.now ∷ bounds)) }
         ensures err { (bounds : List Bound) → HasBounds self.old bounds → IfErr result (λ stop.
-            Stops stop (set_fault (table columns.now.entries) (bound_set bounds) (written line.now))) }
+            Stops stop (bound_fault (table columns.now.entries) (bound_set bounds) (bound_of line.now))) }
     {
         match self.judged(columns, line) {
             Ok(limits) => match self.keep(line, limits) {
@@ -186,7 +186,7 @@ impl<'a, B: BuildHasher + Drop> Bounds<'a, B> {
         fields: &[&'a [u8]],
     ) -> Result<(), Stop>
         ensures ok { (entries : List Entry) (bounds : List Bound) → table columns.now.entries ≡ columns_of entries → HasBounds self.old bounds → OnOk result (
-            (bound_line_fault entries bounds (bound_at (texts fields.now)) ≡ None) × HasBounds self.new (onto (bound_at (texts fields.now)) bounds)) }
+            (bound_line_fault entries bounds (bound_at (texts fields.now)) ≡ None) × HasBounds self.new (with_bound (bound_at (texts fields.now)) bounds)) }
         ensures err { (entries : List Entry) (bounds : List Bound) → table columns.now.entries ≡ columns_of entries → HasBounds self.old bounds → IfErr result (λ stop.
             Stops stop (bound_line_fault entries bounds (bound_at (texts fields.now)))) }
     {

@@ -3,7 +3,8 @@
 ghost use Rattle.std.specs.Prelude.{◌≡◌, ◌++◌, None, OnOk, get_or};
 ghost use Rattle.std.specs.Option.{option_or};
 ghost use Rattle.problem.specs.Rising.{AreRising, AreNonzero};
-ghost use Rattle.mps_reader.specs.Building.{side_of, row_with, objective_with};
+ghost use Rattle.mps_reader.specs.Building.{side_of, objective_with};
+ghost use Rattle.mps_reader.specs.Meaning.{rows_from};
 
 use crate::kinds::RowType;
 use crate::side_table::SideTable;
@@ -23,7 +24,7 @@ impl Parts {
     pub fn take(&mut self, kind: RowType, rhs: Frac, terms: Terms) -> Result<(), AllocError>
         requires rising { AreRising terms }
         requires nonzero { AreNonzero terms }
-        ensures rows { OnOk result (self.new.rows.items ≡ self.old.rows.items ++ row_with kind rhs terms) }
+        ensures rows { OnOk result (self.new.rows.items ≡ self.old.rows.items ++ rows_from kind rhs None terms) }
         ensures objective { OnOk result (self.new.objective ≡ option_or self.old.objective (objective_with kind terms)) }
     {
         match kind {

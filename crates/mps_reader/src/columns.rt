@@ -2,13 +2,13 @@
 
 ghost use Rattle.std.specs.Prelude.{◌≡◌, ℕ, ◌∷◌, ◌<◌, if◌then◌else◌, false, OnOk, IfErr, IfOk, IfSome, None, Some, List, is_some, length};
 ghost use denote.Ref.{Bor};
-ghost use Rattle.mps_reader.specs.Words.{marker_of, named};
-ghost use Rattle.mps_reader.specs.Sections.{is_same, last_of, columns_of, run_of, with_column, Entry, marker, marked, entries_of, data_line, pairs_of, with_pairs, entry};
-ghost use Rattle.mps_reader.specs.Faults.{entry_fault, is_repeated, pairs_fault, column_fault, ◌<|>◌};
+ghost use Rattle.mps_reader.specs.Words.{marker_of, value_under};
+ghost use Rattle.mps_reader.specs.Sections.{is_same, last_of, columns_of, run_of, with_column, Entry, marker, is_behind_intorg, entries_of, data_line, pairs_of, with_pairs, entry};
+ghost use Rattle.mps_reader.specs.Faults.{entry_fault, is_repeated, names_fault, pairs_fault, column_fault, ◌<|>◌};
 ghost use Rattle.mps_lines.specs.Lines.{Line};
-ghost use Rattle.mps_reader.specs.RowsSoFar.{IsRowAt, IsNew, names_fault};
+ghost use Rattle.mps_reader.specs.RowsSoFar.{IsRowAt, IsNew};
 ghost use Rattle.mps_reader.specs.State.{HasEntries};
-ghost use Rattle.mps_reader.specs.Tables.{texts, table, Stops, text_of, seen};
+ghost use Rattle.mps_reader.specs.Tables.{texts, table, Stops, bytes_of, entry_of};
 
 use crate::kinds::{Column, Kind, RowType, Stop};
 use crate::names::{add, has};
@@ -19,7 +19,7 @@ use std::alloc::AllocError;
 use std::hash::BuildHasher;
 
 /// How many columns there may be.
-const LIMIT: usize = 1000;
+const MOST_COLUMNS: usize = 1000;
 
 /// One row of a column, with its value as it is spelled.
 #[derive(Clone, Copy)]
@@ -65,7 +65,7 @@ fn marker(fields: &[&[u8]]) -> Option<bool>
 
 /// Whether a column is the last one.
 fn is_same(last: Option<&[u8]>, column: &[u8]) -> bool
-    ensures { result ≡ is_same (text_of last.entry) column.now }
+    ensures { result ≡ is_same (bytes_of last.entry) column.now }
 {
     match last {
         Some(last) => column == last,
@@ -78,7 +78,7 @@ impl<'a, B: BuildHasher + Drop> Columns<'a, B> {
     fn index_of(&self, rows: &IndexMap<&'a [u8], RowType, B>, name: &'a [u8]) -> Option<usize>
         ensures row { IfSome result (λ i. IsRowAt rows.now.entries name.now i) }
         ensures within { IfSome result (λ i. i < length self.now.rows) }
-        ensures known { (entries : List Entry) → HasEntries self.now (table rows.now.entries) entries → is_some result ≡ is_some (named (table rows.now.entries) name.now) }
+        ensures known { (entries : List Entry) → HasEntries self.now (table rows.now.entries) entries → is_some result ≡ is_some (value_under (table rows.now.entries) name.now) }
     {
         let index = rows.get_index_of(name)?;
         // Never so in a reader's tables, where each row of ROWS has its terms here.
@@ -91,9 +91,9 @@ impl<'a, B: BuildHasher + Drop> Columns<'a, B> {
     /// Whether the last column names an entry's row already, or the entry's column stands before the last one.
     fn is_repeated(&self, same: bool, index: usize, e: &Cell<'a>) -> bool
         requires { index < length self.now.rows }
-        ensures new { same ≡ false → result ≡ is_some (named (table self.now.columns.entries) e.now.column.now) }
+        ensures new { same ≡ false → result ≡ is_some (value_under (table self.now.columns.entries) e.now.column.now) }
         ensures repeated { (es : List (Bor (List ℕ) × RowType)) (entries : List Entry) → HasEntries self.now (table es) entries → IsRowAt es e.now.row.now index
-            → same ≡ is_same (last_of entries) e.now.column.now → result ≡ is_repeated (columns_of entries) (run_of entries) (is_same (last_of entries) e.now.column.now) (seen e.now) }
+            → same ≡ is_same (last_of entries) e.now.column.now → result ≡ is_repeated (columns_of entries) (run_of entries) (is_same (last_of entries) e.now.column.now) (entry_of e.now) }
     {
         if same {
             self.rows.is_named_by(index, self.place)
@@ -113,9 +113,9 @@ impl<'a, B: BuildHasher + Drop> Columns<'a, B> {
         ensures row { IfOk result (λ i. IsRowAt rows.now.entries e.now.row.now i) }
         ensures new { IfOk result (λ i. IsNew same (table self.now.columns.entries) e.now.column.now) }
         ensures ok { (entries : List Entry) → HasEntries self.now (table rows.now.entries) entries → same ≡ is_same (last_of entries) e.now.column.now
-            → IfOk result (λ i. names_fault (table rows.now.entries) entries (seen e.now) ≡ None) }
+            → IfOk result (λ i. names_fault (table rows.now.entries) entries (entry_of e.now) ≡ None) }
         ensures err { (entries : List Entry) → HasEntries self.now (table rows.now.entries) entries → same ≡ is_same (last_of entries) e.now.column.now
-            → IfErr result (λ k. names_fault (table rows.now.entries) entries (seen e.now) ≡ Some k) }
+            → IfErr result (λ k. names_fault (table rows.now.entries) entries (entry_of e.now) ≡ Some k) }
     {
         let Some(index) = self.index_of(rows, e.row) else {
             return Err(Kind::UnknownRow);
@@ -123,7 +123,7 @@ impl<'a, B: BuildHasher + Drop> Columns<'a, B> {
         if self.is_repeated(same, index, e) {
             return Err(Kind::Duplicate);
         }
-        if !same && self.columns.len() >= LIMIT {
+        if !same && self.columns.len() >= MOST_COLUMNS {
             return Err(Kind::TooMany);
         }
         Ok(index)
@@ -132,8 +132,8 @@ impl<'a, B: BuildHasher + Drop> Columns<'a, B> {
     /// Makes an entry's column the last one. The one error is want of memory.
     fn stand_at(&mut self, same: bool, e: &Cell<'a>) -> Result<(), AllocError>
         requires { IsNew same (table self.old.columns.entries) e.now.column.now }
-        ensures columns { OnOk result (table self.new.columns.entries ≡ with_column same (table self.old.columns.entries) (seen e.now)) }
-        ensures last { OnOk result (text_of self.new.last ≡ (if same then text_of self.old.last else Some e.now.column.now)) }
+        ensures columns { OnOk result (table self.new.columns.entries ≡ with_column same (table self.old.columns.entries) (entry_of e.now)) }
+        ensures last { OnOk result (bytes_of self.new.last ≡ (if same then bytes_of self.old.last else Some e.now.column.now)) }
         ensures place { OnOk result (self.new.place ≡ (if same then self.old.place else length (table self.old.columns.entries))) }
         ensures rows { OnOk result (self.new.rows ≡ self.old.rows) }
     {
@@ -154,9 +154,9 @@ impl<'a, B: BuildHasher + Drop> Columns<'a, B> {
     /// Takes an entry, or says why not.
     fn take(&mut self, rows: &IndexMap<&'a [u8], RowType, B>, e: &Cell<'a>) -> Result<(), Stop>
         ensures ok { (entries : List Entry) → HasEntries self.old (table rows.now.entries) entries → OnOk result (
-            (entry_fault (table rows.now.entries) entries (seen e.now) ≡ None) × HasEntries self.new (table rows.now.entries) (seen e.now ∷ entries)) }
+            (entry_fault (table rows.now.entries) entries (entry_of e.now) ≡ None) × HasEntries self.new (table rows.now.entries) (entry_of e.now ∷ entries)) }
         ensures err { (entries : List Entry) → HasEntries self.old (table rows.now.entries) entries → IfErr result (λ stop.
-            Stops stop (entry_fault (table rows.now.entries) entries (seen e.now))) }
+            Stops stop (entry_fault (table rows.now.entries) entries (entry_of e.now))) }
     {
         let same = is_same(self.last, e.column);
         let index = match self.row_of(rows, same, e) {
@@ -185,10 +185,10 @@ impl<'a, B: BuildHasher + Drop> Columns<'a, B> {
         second: &Cell<'a>,
     ) -> Result<(), Stop>
         ensures ok { (entries : List Entry) → HasEntries self.old (table rows.now.entries) entries → OnOk result (
-            ((entry_fault (table rows.now.entries) entries (seen first.now) <|> entry_fault (table rows.now.entries) (seen first.now ∷ entries) (seen second.now) <|> None) ≡ None)
-            × HasEntries self.new (table rows.now.entries) (seen second.now ∷ seen first.now ∷ entries)) }
+            ((entry_fault (table rows.now.entries) entries (entry_of first.now) <|> entry_fault (table rows.now.entries) (entry_of first.now ∷ entries) (entry_of second.now) <|> None) ≡ None)
+            × HasEntries self.new (table rows.now.entries) (entry_of second.now ∷ entry_of first.now ∷ entries)) }
         ensures err { (entries : List Entry) → HasEntries self.old (table rows.now.entries) entries → IfErr result (λ stop.
-            Stops stop (entry_fault (table rows.now.entries) entries (seen first.now) <|> entry_fault (table rows.now.entries) (seen first.now ∷ entries) (seen second.now) <|> None)) }
+            Stops stop (entry_fault (table rows.now.entries) entries (entry_of first.now) <|> entry_fault (table rows.now.entries) (entry_of first.now ∷ entries) (entry_of second.now) <|> None)) }
     {
         match self.take(rows, first) {
             Ok(()) => self.take(rows, second),
@@ -251,12 +251,12 @@ impl<'a, B: BuildHasher + Drop> Columns<'a, B> {
         number: u64,
         fields: &[&'a [u8]],
     ) -> Result<(), Stop>
-        ensures ok { (earlier : List Line) → HasEntries self.old (table rows.now.entries) (entries_of earlier) → is_marked.old ≡ marked earlier → OnOk result (
-            (column_fault (table rows.now.entries) earlier (data_line number (texts fields.now)) (marker (texts fields.now)) (texts fields.now) ≡ None)
+        ensures ok { (earlier : List Line) → HasEntries self.old (table rows.now.entries) (entries_of earlier) → is_marked.old ≡ is_behind_intorg earlier → OnOk result (
+            (column_fault (table rows.now.entries) earlier number (marker (texts fields.now)) (texts fields.now) ≡ None)
             × HasEntries self.new (table rows.now.entries) (entries_of (data_line number (texts fields.now) ∷ earlier))
-            × (is_marked.new ≡ marked (data_line number (texts fields.now) ∷ earlier))) }
-        ensures err { (earlier : List Line) → HasEntries self.old (table rows.now.entries) (entries_of earlier) → is_marked.old ≡ marked earlier → IfErr result (λ stop.
-            Stops stop (column_fault (table rows.now.entries) earlier (data_line number (texts fields.now)) (marker (texts fields.now)) (texts fields.now))) }
+            × (is_marked.new ≡ is_behind_intorg (data_line number (texts fields.now) ∷ earlier))) }
+        ensures err { (earlier : List Line) → HasEntries self.old (table rows.now.entries) (entries_of earlier) → is_marked.old ≡ is_behind_intorg earlier → IfErr result (λ stop.
+            Stops stop (column_fault (table rows.now.entries) earlier number (marker (texts fields.now)) (texts fields.now))) }
     {
         if let Some(begins) = marker(fields) {
             *is_marked = begins;

@@ -2,13 +2,11 @@
 
 ghost use Rattle.std.specs.Prelude.{◌≡◌, ℕ, Bool, List, []};
 ghost use Rattle.mps_reader.specs.BoundTables.{HasBounds};
-ghost use Rattle.mps_reader.specs.Faults.{counted};
 ghost use Rattle.mps_reader.specs.Ordered.{HasOrder};
-ghost use Rattle.mps_reader.specs.Sectioned.{HoldsSections};
-ghost use Rattle.mps_reader.specs.Sections.{none_yet};
+ghost use Rattle.mps_reader.specs.Sectioned.{CountsRows, HoldsSections};
+ghost use Rattle.mps_reader.specs.Sections.{DeclaredRows, none_yet};
 ghost use Rattle.mps_reader.specs.SideLines.{HasSideLines};
 ghost use Rattle.mps_reader.specs.State.{HasEntries};
-ghost use Rattle.mps_reader.specs.Tables.{table};
 
 use crate::bounds::Bounds;
 use crate::columns::Columns;
@@ -25,7 +23,7 @@ use std::hash::BuildHasher;
 
 /// No sides.
 fn no_sides<'a>(alloc: Global) -> Sides<'a>
-    ensures { (ranged : Bool) (rows : List (List ℕ × RowType)) → HasSideLines ranged rows result [] }
+    ensures { (ranged : Bool) (rows : DeclaredRows) → HasSideLines ranged rows result [] }
 {
     Sides {
         numbers: SideTable::new(alloc),
@@ -75,7 +73,7 @@ pub fn empty_tables<'a, 'k, B: BuildHasher + Drop>(
     keys: &'k B,
 ) -> Tables<'a, Lent<'k, B>>
     ensures tables { HoldsSections result none_yet }
-    ensures count { result.count ≡ counted (table result.rows.entries) }
+    ensures count { CountsRows result }
 {
     Tables {
         order: no_order(),

@@ -1,13 +1,14 @@
 //! The spans of the columns, and the faults that are judged at the end.
 
 ghost use Rattle.std.specs.Prelude.{◌≡◌, ◌<◌, IfOk, IfErr, None, Ok, Some, length, slice_get};
-ghost use Rattle.mps_reader.specs.Ended.{IsEndFault, ends_of, limits_fault, limits_span};
-ghost use Rattle.mps_reader.specs.Meaning.{or_lower, or_upper};
+ghost use Rattle.mps_reader.specs.BoundTables.{spans_or_fault};
+ghost use Rattle.mps_reader.specs.Followed.{IsFaultOf};
+ghost use Rattle.mps_reader.specs.Meaning.{column_end_fault, or_lower, or_upper, span};
 ghost use Rattle.mps_reader.specs.Tables.{table};
 
 use crate::bounds::Bounds;
 use crate::kinds::{Column, Kind};
-use crate::limits::Limits;
+use crate::limits::ColumnBounds;
 use crate::reading::ReadFault;
 use indexmap::IndexMap;
 use problem_box::Span;
@@ -41,10 +42,10 @@ fn or_lower(upper: Option<u32>, bound: Option<i64>) -> Option<i64>
 }
 
 /// The span of a column, or its fault at the end.
-fn span_or_fault(upper: Option<u32>, is_marked: bool, limits: Limits) -> Result<Span, Kind>
-    ensures fine { IfOk result (λ s. limits_fault upper is_marked limits ≡ None) }
-    ensures span { IfOk result (λ s. s ≡ limits_span upper limits) }
-    ensures fault { IfErr result (λ k. limits_fault upper is_marked limits ≡ Some k) }
+fn span_or_fault(upper: Option<u32>, is_marked: bool, limits: ColumnBounds) -> Result<Span, Kind>
+    ensures fine { IfOk result (λ s. column_end_fault upper is_marked limits ≡ None) }
+    ensures span { IfOk result (λ s. s ≡ span upper limits) }
+    ensures fault { IfErr result (λ k. column_end_fault upper is_marked limits ≡ Some k) }
 {
     if !is_marked && !limits.is_whole {
         return Err(Kind::Continuous);
@@ -80,8 +81,8 @@ pub fn spans_or_fault<'a, B: BuildHasher + Drop>(
     columns: &IndexMap<&'a [u8], Column, B>,
     bounds: &Bounds<'a, B>,
 ) -> Result<Vec<Span>, ReadFault>
-    ensures spans { IfOk result (λ v. ends_of upper (table bounds.now.limits.entries) (table columns.now.entries) ≡ Ok v.items) }
-    ensures fault { IfErr result (λ f. IsEndFault f (ends_of upper (table bounds.now.limits.entries) (table columns.now.entries))) }
+    ensures spans { IfOk result (λ v. spans_or_fault upper (table bounds.now.limits.entries) (table columns.now.entries) ≡ Ok v.items) }
+    ensures fault { IfErr result (λ f. IsFaultOf f (spans_or_fault upper (table bounds.now.limits.entries) (table columns.now.entries))) }
 {
     let mut spans = Vec::new(alloc);
     for index in 0..columns.len() {

@@ -2,8 +2,8 @@
 
 ghost use Rattle.std.specs.Prelude.{◌≡◌, ℕ, ◌≤◌, ◌^◌, false, true, IfOk, IfErr, None, nat_abs, if◌then◌else◌};
 ghost use Rattle.fraction.specs.Rational.{ceil, floor};
-ghost use Rattle.mps_reader.specs.BoundLines.{no_limits, type_fault, with_limits, with_setting};
-ghost use Rattle.mps_reader.specs.Faults.{opens};
+ghost use Rattle.mps_reader.specs.BoundLines.{no_limits, with_limits, with_setting};
+ghost use Rattle.mps_reader.specs.Faults.{opens, type_fault};
 ghost use Rattle.mps_reader.specs.Sections.{has_value};
 ghost use Rattle.mps_reader.specs.Tables.{Stops};
 
@@ -15,7 +15,7 @@ use mps_lines::{Value, value_of};
 /// The bounds of a column by the lines so far: none is no bound. A line of type BV, LI or UI makes it whole; the upper bound is
 /// negative where UP or UI set it to a value below 0.
 #[derive(Clone, Copy)]
-pub struct Limits {
+pub struct ColumnBounds {
     pub upper: Option<i64>,
     pub lower: Option<i64>,
     pub is_whole: bool,
@@ -24,10 +24,10 @@ pub struct Limits {
 }
 
 /// The bounds of a column before its first line: the lower one is 0.
-pub fn no_limits() -> Limits
+pub fn no_limits() -> ColumnBounds
     ensures { result ≡ no_limits }
 {
-    Limits {
+    ColumnBounds {
         upper: None,
         lower: Some(0),
         is_whole: false,
@@ -59,12 +59,12 @@ fn opens(kind: BoundType, negative: bool) -> bool
 
 /// The limits after a line of this type with an upper and a lower value, which is negative or not.
 fn with_setting(
-    limits: Limits,
+    limits: ColumnBounds,
     kind: BoundType,
     upper: Option<i64>,
     lower: Option<i64>,
     negative: bool,
-) -> Limits
+) -> ColumnBounds
     ensures { result ≡ with_setting kind upper lower negative limits }
 {
     let mut new = limits;
@@ -106,10 +106,10 @@ fn with_setting(
 }
 
 /// The limits after a line that sets both bounds.
-fn with_both(limits: Limits, upper: Option<i64>, lower: Option<i64>) -> Limits
+fn with_both(limits: ColumnBounds, upper: Option<i64>, lower: Option<i64>) -> ColumnBounds
     ensures { result ≡ record { upper = upper; lower = lower; is_whole = limits.is_whole; is_upper_negative = false; has_lower_line = true } }
 {
-    Limits {
+    ColumnBounds {
         upper,
         lower,
         is_whole: limits.is_whole,
@@ -135,7 +135,7 @@ fn ceil_of(number: Frac) -> i64
 }
 
 /// The limits after a line of this type, whose value is that of a field, or why the value is refused.
-pub fn with_line(limits: Limits, kind: BoundType, field: &[u8]) -> Result<Limits, Stop>
+pub fn with_line(limits: ColumnBounds, kind: BoundType, field: &[u8]) -> Result<ColumnBounds, Stop>
     ensures ok { IfOk result (λ new. (new ≡ with_limits kind field.now limits) × (type_fault kind field.now ≡ None)) }
     ensures err { IfErr result (λ stop. Stops stop (type_fault kind field.now)) }
 {

@@ -1,7 +1,7 @@
 //! Tables of names, in the order in which they came.
 
 ghost use Rattle.std.specs.Prelude.{◌≡◌, ◌++◌, ◌∷◌, [], IfOk, OnErr, not, true, is_some};
-ghost use Rattle.mps_reader.specs.Words.{named};
+ghost use Rattle.mps_reader.specs.Words.{value_under};
 ghost use Rattle.mps_reader.specs.Tables.{table};
 
 use indexmap::IndexMap;
@@ -13,7 +13,7 @@ pub fn has<'a, V: Drop, B: BuildHasher + Drop>(
     names: &IndexMap<&'a [u8], V, B>,
     name: &'a [u8],
 ) -> bool
-    ensures { result ≡ is_some (named (table names.now.entries) name.now) }
+    ensures { result ≡ is_some (value_under (table names.now.entries) name.now) }
 {
     names.contains_key(name)
 }
@@ -24,7 +24,7 @@ pub fn add<'a, V: Drop, B: BuildHasher + Drop>(
     name: &'a [u8],
     value: V,
 ) -> Result<bool, AllocError>
-    ensures new { IfOk result (λ is_new. is_new ≡ not (is_some (named (table names.old.entries) name.now))) }
+    ensures new { IfOk result (λ is_new. is_new ≡ not (is_some (value_under (table names.old.entries) name.now))) }
     ensures added { IfOk result (λ is_new. is_new ≡ true → table names.new.entries ≡ table names.old.entries ++ (name.now, value) ∷ []) }
     ensures err { OnErr result (table names.new.entries ≡ table names.old.entries) }
 {

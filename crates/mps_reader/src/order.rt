@@ -1,11 +1,10 @@
 //! The order of the sections.
 
 ghost use Rattle.std.specs.Prelude.{◌≡◌, ◌==◌, ◌&&◌, ◌||◌, Some, not, drop, length};
-ghost use Rattle.mps_reader.specs.Faults.{rest_fault, sense_fault, word_fault};
-ghost use Rattle.mps_reader.specs.Ordered.{HasOrder, follows, order_after, stage_at};
+ghost use Rattle.mps_reader.specs.Faults.{limits_fields, may_follow, rest_fault, sense_fault, stage, stage_of, word_fault};
+ghost use Rattle.mps_reader.specs.Ordered.{HasOrder, order_after};
 ghost use Rattle.mps_reader.specs.Sections.{Sections};
 ghost use Rattle.mps_reader.specs.Tables.{texts};
-ghost use Rattle.mps_reader.specs.Words.{sense_of};
 
 use crate::kinds::{Kind, Section};
 
@@ -20,8 +19,8 @@ pub struct Order {
 }
 
 /// How far the sections have come: 0 nothing, 1 NAME, 2 OBJSENSE, 3 ROWS, 4 COLUMNS or a later one, 5 ENDATA.
-fn stage_at(last: Option<Section>) -> u8
-    ensures { result ≡ stage_at last }
+fn stage_of(last: Option<Section>) -> u8
+    ensures { result ≡ stage_of last }
 {
     match last {
         None => 0,
@@ -33,11 +32,19 @@ fn stage_at(last: Option<Section>) -> u8
     }
 }
 
+/// Whether the fields of a section's data lines have limits: from ROWS on, up to ENDATA.
+pub fn limits_fields(last: Option<Section>) -> bool
+    ensures { result ≡ limits_fields last }
+{
+    let stage = stage_of(last);
+    stage == 3 || stage == 4
+}
+
 /// Whether a section may come now.
 fn follows(order: Order, word: Section) -> bool
-    ensures { result ≡ follows order word }
+    ensures { (s : Sections) → HasOrder order s → result ≡ may_follow s.words word }
 {
-    let stage = stage_at(order.last);
+    let stage = stage_of(order.last);
     match word {
         Section::Name => stage == 0,
         Section::ObjSense => stage <= 1,
@@ -50,34 +57,23 @@ fn follows(order: Order, word: Section) -> bool
     }
 }
 
-/// Whether a word of OBJSENSE is a maximum.
-fn sense_of(word: &[u8]) -> Option<bool>
-    ensures { result ≡ sense_of word.now }
-{
-    if word == b"MIN".as_slice() {
-        return Some(false);
-    }
-    if word == b"MINIMIZE".as_slice() {
-        return Some(false);
-    }
-    if word == b"MAX".as_slice() {
-        return Some(true);
-    }
-    if word == b"MAXIMIZE".as_slice() {
-        return Some(true);
-    }
-    None
-}
-
 /// What is wrong with a word of OBJSENSE.
 pub fn sense_fault(word: &[u8]) -> Option<Kind>
     ensures { result ≡ sense_fault word.now }
 {
-    match sense_of(word) {
-        Some(false) => None,
-        Some(true) => Some(Kind::Maximise),
-        None => Some(Kind::BadSection),
+    if word == b"MIN".as_slice() {
+        return None;
     }
+    if word == b"MINIMIZE".as_slice() {
+        return None;
+    }
+    if word == b"MAX".as_slice() {
+        return Some(Kind::Maximise);
+    }
+    if word == b"MAXIMIZE".as_slice() {
+        return Some(Kind::Maximise);
+    }
+    Some(Kind::BadSection)
 }
 
 /// What is wrong with the fields behind the section word.
@@ -110,9 +106,9 @@ fn rest_of<'f, 'a>(fields: &'f [&'a [u8]]) -> &'f [&'a [u8]]
 
 /// Whether a section may not come now, or OBJSENSE has no word yet.
 fn is_out_of_order(order: Order, word: Section) -> bool
-    ensures { result ≡ (not (follows order word) || ((stage_at order.last == 2) && not order.has_sense)) }
+    ensures { (s : Sections) → HasOrder order s → result ≡ (not (may_follow s.words word) || ((stage s.words == 2) && (length s.senses == 0))) }
 {
-    !follows(order, word) || (stage_at(order.last) == 2 && !order.has_sense)
+    !follows(order, word) || (stage_of(order.last) == 2 && !order.has_sense)
 }
 
 /// What is wrong with a line of this section after the order so far.

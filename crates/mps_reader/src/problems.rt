@@ -1,8 +1,9 @@
 //! The problem of the reader's tables at ENDATA.
 
-ghost use Rattle.std.specs.Prelude.{◌≡◌, IfOk, IfErr, Ok};
-ghost use Rattle.mps_reader.specs.Finished.{HasKept, IsRefusal, said};
-ghost use Rattle.mps_reader.specs.Followed.{HasData};
+ghost use Rattle.std.specs.Prelude.{◌≡◌, ℕ, List, IfOk, IfErr, Ok};
+ghost use Rattle.mps_reader.specs.Finished.{IsModestUpper};
+ghost use Rattle.mps_reader.specs.Followed.{HasData, HasSectionsOf, IsFaultOf};
+ghost use Rattle.mps_reader.specs.Reading.{finish};
 ghost use Rattle.mps_reader.specs.Sections.{Sections};
 
 use crate::building::Parts;
@@ -24,9 +25,10 @@ pub fn problem_of<'a, B: BuildHasher + Drop>(
     tables: Tables<'a, B>,
     upper: Option<u32>,
 ) -> Result<Problem, ReadFault>
-    requires { HasKept tables upper }
-    ensures ok { (s : Sections) → HasData tables.entry s → IfOk result (λ p. said upper s ≡ Ok p) }
-    ensures err { (s : Sections) → HasData tables.entry s → IfErr result (λ f. IsRefusal f (said upper s)) }
+    requires sections { (text : List ℕ) × HasSectionsOf text tables }
+    requires upper { IsModestUpper upper }
+    ensures ok { (s : Sections) → HasData tables.entry s → IfOk result (λ p. finish upper (Ok s) ≡ Ok p) }
+    ensures err { (s : Sections) → HasData tables.entry s → IfErr result (λ f. IsFaultOf f (finish upper (Ok s))) }
 {
     let Columns {
         columns,

@@ -7,7 +7,7 @@ ghost use Rattle.fraction.specs.Rational.{◌+ℚ◌, neg_ℚ};
 ghost use Rattle.problem.specs.Rising.{AreNonzero, AreRising};
 ghost use Rattle.mps_reader.specs.Building.{objective_with, side_of};
 ghost use Rattle.mps_reader.specs.Meaning.{range_of, ranged_rows, rows_from};
-ghost use Rattle.mps_reader.specs.RangedRows.{IsHeld};
+ghost use Rattle.mps_reader.specs.RangedRows.{IsTextNumber};
 ghost use Rattle.mps_reader.specs.RowState.{kept_terms};
 ghost use Rattle.mps_reader.specs.RowsMade.{made_objective, made_rows};
 ghost use Rattle.mps_reader.specs.Tables.{table};
@@ -24,10 +24,10 @@ use std::alloc::{AllocError, Global};
 use std::hash::BuildHasher;
 
 /// The sum of two numbers of a text.
-#[tactic(auto, using(crate::specs::RangedRows::sum_is))]
+#[tactic(auto, using(crate::proofs::RangedRows::sum_is))]
 fn sum(left: Frac, right: Frac) -> Frac
-    requires left { IsHeld left }
-    requires right { IsHeld right }
+    requires left { IsTextNumber left }
+    requires right { IsTextNumber right }
     ensures { result ≡ left +ℚ right }
 {
     left.add(right).unwrap()
@@ -35,38 +35,37 @@ fn sum(left: Frac, right: Frac) -> Frac
 
 /// The size of a range.
 fn size_of(range: Frac) -> Frac
-    requires { IsHeld range }
+    requires { IsTextNumber range }
     ensures value { result ≡ abs_ℚ range }
-    ensures held { IsHeld result }
+    ensures held { IsTextNumber result }
 {
     range.abs()
 }
 
 /// The number with the other sign.
 fn negated(number: Frac) -> Frac
-    requires { IsHeld number }
+    requires { IsTextNumber number }
     ensures value { result ≡ neg_ℚ number }
-    ensures held { IsHeld result }
+    ensures held { IsTextNumber result }
 {
     number.neg()
 }
 
 /// The least and the greatest value of a ranged row.
 fn range_of(kind: RowType, rhs: Frac, range: Frac) -> (Frac, Frac)
-    requires rhs { IsHeld rhs }
-    requires range { IsHeld range }
+    requires rhs { IsTextNumber rhs }
+    requires range { IsTextNumber range }
     ensures { result ≡ range_of kind rhs range }
 {
-    let size = size_of(range);
     match kind {
         RowType::N => (rhs, rhs),
-        RowType::G => (rhs, sum(rhs, size)),
-        RowType::L => (sum(rhs, negated(size)), rhs),
+        RowType::G => (rhs, sum(rhs, size_of(range))),
+        RowType::L => (sum(rhs, negated(size_of(range))), rhs),
         RowType::E => {
             if range.numer() < 0 {
-                (sum(rhs, negated(size)), rhs)
+                (sum(rhs, range), rhs)
             } else {
-                (rhs, sum(rhs, size))
+                (rhs, sum(rhs, range))
             }
         }
     }
@@ -101,8 +100,8 @@ fn take_row(
 ) -> Result<(), AllocError>
     requires rising { AreRising terms }
     requires nonzero { AreNonzero terms }
-    requires rhs { IsHeld rhs }
-    requires range { IfSome range (λ q. IsHeld q) }
+    requires rhs { IsTextNumber rhs }
+    requires range { IfSome range (λ q. IsTextNumber q) }
     ensures rows { OnOk result (parts.new.rows.items ≡ parts.old.rows.items ++ rows_from kind rhs range terms) }
     ensures objective { OnOk result (parts.new.objective ≡ option_or parts.old.objective (objective_with kind terms)) }
 {
@@ -139,8 +138,8 @@ pub fn ranged_parts<'a, B: BuildHasher + Drop>(
     requires count { length terms ≡ length rows.now.entries }
     requires rising { All (λ t. AreRising (kept_terms t)) terms }
     requires nonzero { All (λ t. AreNonzero (kept_terms t)) terms }
-    requires sides { (i : ℕ) → IsHeld (side_of (get_or sides.now i None)) }
-    requires ranges { (i : ℕ) → IfSome (get_or ranges.now i None) (λ q. IsHeld q) }
+    requires sides { (i : ℕ) → IsTextNumber (side_of (get_or sides.now i None)) }
+    requires ranges { (i : ℕ) → IfSome (get_or ranges.now i None) (λ q. IsTextNumber q) }
     ensures rows { IfOk result (λ p. p.rows.items ≡ made_rows sides.now ranges.now 0 (table rows.now.entries) terms) }
     ensures objective { IfOk result (λ p. p.objective ≡ made_objective (table rows.now.entries) terms) }
 {

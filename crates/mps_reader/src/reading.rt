@@ -1,11 +1,10 @@
 //! The lines of a text up to ENDATA.
 
 ghost use Rattle.std.specs.Prelude.{◌≡◌, ◌≤◌, IfOk, IfErr, length};
-ghost use Rattle.mps_reader.specs.Faults.{counted};
-ghost use Rattle.mps_reader.specs.Followed.{HasSectionsOf, IsFaultIn, fault_at, found_in};
-ghost use Rattle.mps_reader.specs.Sectioned.{HoldsSections};
+ghost use Rattle.mps_reader.specs.Followed.{HasSectionsOf, IsFaultOf, fault_at};
+ghost use Rattle.mps_reader.specs.Reading.{sections_in, text_limit};
+ghost use Rattle.mps_reader.specs.Sectioned.{CountsRows, HoldsSections};
 ghost use Rattle.mps_reader.specs.Sections.{none_yet};
-ghost use Rattle.mps_reader.specs.Tables.{table};
 
 use crate::kinds::{Kind, Stop};
 use crate::lines::line_count;
@@ -40,11 +39,11 @@ pub fn read_sections<'a, B: BuildHasher + Drop>(
     empty: Tables<'a, B>,
     text: &'a [u8],
 ) -> Result<Tables<'a, B>, ReadFault>
-    requires size { length text.now ≤ 4194304 }
+    requires size { length text.now ≤ text_limit }
     requires empty { HoldsSections empty none_yet }
-    requires count { empty.count ≡ counted (table empty.rows.entries) }
+    requires count { CountsRows empty }
     ensures read { IfOk result (λ st. HasSectionsOf text.now st) }
-    ensures refused { IfErr result (λ fault. IsFaultIn fault (found_in text.now)) }
+    ensures refused { IfErr result (λ fault. IsFaultOf fault (sections_in text.now)) }
 {
     let mut tables = empty;
     let mut lines = Lines::of(text);

@@ -1,7 +1,7 @@
 //! What the columns so far say of each row.
 
 ghost use Rattle.std.specs.Prelude.{◌≡◌, ℕ, ◌++◌, ◌∷◌, ◌<◌, [], OnOk, IfSome, None, Some, get_or, length, set, slice_get, true};
-ghost use Rattle.mps_reader.specs.RowState.{is_place, kept_terms, new_row, unkept, with_number};
+ghost use Rattle.mps_reader.specs.RowState.{is_place, kept_terms, new_row, bare_row, with_number};
 ghost use Rattle.mps_reader.specs.RowTable.{state_at};
 ghost use Rattle.mps_reader.specs.declared.row_terms.TermRow.{TermRow};
 
@@ -43,9 +43,9 @@ impl Model for RowTable {
 
     ghost coded = { coded_list code_RowState };
 
-    ghost use Rattle.mps_reader.specs.RowTable.{states};
+    ghost use Rattle.mps_reader.specs.RowTable.{row_states};
 
-    ghost view = { λ t. states t.kept.items t.entries.items };
+    ghost view = { λ t. row_states t.kept.items t.entries.items };
 }
 
 /// The place of the column that named the row at an index last, by its entry.
@@ -134,7 +134,7 @@ impl RowTable {
     /// Whether the column at a place named the row at an index last.
     pub fn is_named_by(&self, index: usize, place: u16) -> bool
         requires { index < length self.now }
-        ensures { result ≡ is_place (get_or self.now index unkept).named_by place }
+        ensures { result ≡ is_place (get_or self.now index bare_row).named_by place }
     {
         match last_place(&self.kept, index, self.entries[index]) {
             Some(last) => last == place,
@@ -145,7 +145,7 @@ impl RowTable {
     /// Takes the number of the column at a place for the row at an index. The one error is want of memory.
     pub fn take(&mut self, index: usize, place: u16, number: Frac) -> Result<(), AllocError>
         requires { index < length self.old }
-        ensures { OnOk result (self.new ≡ set self.old index (with_number place number (get_or self.old index unkept))) }
+        ensures { OnOk result (self.new ≡ set self.old index (with_number place number (get_or self.old index bare_row))) }
     {
         match spot_of(&self.kept, index, self.entries[index]) {
             Some(spot) => self.kept[spot].take(place, number),
@@ -159,8 +159,8 @@ impl RowTable {
     /// Takes the terms of the row at an index out of the table.
     pub fn take_terms(&mut self, index: usize) -> Terms
         requires { index < length self.old }
-        ensures terms { result ≡ kept_terms (get_or self.old index unkept) }
-        ensures rows { self.new ≡ set self.old index unkept }
+        ensures terms { result ≡ kept_terms (get_or self.old index bare_row) }
+        ensures rows { self.new ≡ set self.old index bare_row }
     {
         let none = Terms::new(*self.entries.allocator());
         let spot = spot_of(&self.kept, index, self.entries[index]);

@@ -14,7 +14,7 @@ use indexmap::IndexMap;
 use std::hash::BuildHasher;
 
 /// How many rows there may be.
-const LIMIT: usize = 1000;
+pub const MOST_ROWS: usize = 1000;
 
 /// The type that a word names.
 pub fn row_type_of(word: &[u8]) -> Option<RowType>
@@ -78,7 +78,7 @@ pub fn row_line<'a, B: BuildHasher + Drop>(
         Err(_) => return Err(Stop::Memory),
     }
     if is_counted(kind) {
-        if *count >= LIMIT {
+        if *count >= MOST_ROWS {
             return Err(Stop::Fault(Kind::TooMany));
         }
         *count += 1;

@@ -9,7 +9,7 @@ use std::marker::Model;
 
 /// What the section says of a row. A text may have many rows, so this takes four bytes.
 #[derive(Clone, Copy)]
-enum Side {
+enum SideEntry {
     /// It doesn't name the row.
     Missing,
     /// The number 0.
@@ -18,7 +18,7 @@ enum Side {
     At(u16),
 }
 
-const _: () = prove!(size_of::<Side>() == 4);
+const _: () = prove!(size_of::<SideEntry>() == 4);
 
 /// A number that isn't 0, with the index of its row.
 #[derive(Clone, Copy)]
@@ -32,7 +32,7 @@ struct RowNumber {
 /// Numbers that are 0 take no room of their own. What is said of a row leads to its number where that one says so by the row's index.
 #[derive(Drop)]
 pub struct SideTable {
-    sides: Vec<Side>,
+    sides: Vec<SideEntry>,
     numbers: Vec<RowNumber>,
 }
 
@@ -52,13 +52,13 @@ impl Model for SideTable {
 }
 
 /// The number of the row at an index, by what the section says of it.
-fn number_of(numbers: &[RowNumber], index: usize, side: Side) -> Option<Frac>
+fn number_of(numbers: &[RowNumber], index: usize, side: SideEntry) -> Option<Frac>
     ensures { result ≡ number_of numbers.now index side }
 {
     match side {
-        Side::Missing => None,
-        Side::Zero => Some(Frac::of(0)),
-        Side::At(spot) => match numbers.get(spot as usize) {
+        SideEntry::Missing => None,
+        SideEntry::Zero => Some(Frac::of(0)),
+        SideEntry::At(spot) => match numbers.get(spot as usize) {
             Some(own) if own.row as usize == index => Some(own.number),
             _ => Some(Frac::of(0)),
         },
@@ -66,12 +66,12 @@ fn number_of(numbers: &[RowNumber], index: usize, side: Side) -> Option<Frac>
 }
 
 /// Makes room for what is said of the row at an index, and says nothing of the rows before it.
-fn pad(sides: &mut Vec<Side>, index: u32) -> Result<(), AllocError>
-    ensures same { OnOk result ((j : ℕ) → get_or sides.new.items j Side.Missing ≡ get_or sides.old.items j Side.Missing) }
+fn pad(sides: &mut Vec<SideEntry>, index: u32) -> Result<(), AllocError>
+    ensures same { OnOk result ((j : ℕ) → get_or sides.new.items j SideEntry.Missing ≡ get_or sides.old.items j SideEntry.Missing) }
     ensures within { OnOk result (index < length sides.new.items) }
 {
     while sides.len() <= index as usize {
-        sides.push(Side::Missing)?;
+        sides.push(SideEntry::Missing)?;
     }
     Ok(())
 }
@@ -106,11 +106,11 @@ impl SideTable {
         };
         pad(&mut self.sides, row)?;
         if same(number, Frac::of(0)) {
-            self.sides[index] = Side::Zero;
+            self.sides[index] = SideEntry::Zero;
             return Ok(());
         }
         self.numbers.push(RowNumber { row, number })?;
-        self.sides[index] = Side::At(spot);
+        self.sides[index] = SideEntry::At(spot);
         Ok(())
     }
 }

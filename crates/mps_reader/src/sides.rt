@@ -3,24 +3,20 @@
 ghost use Rattle.std.specs.Prelude.{◌≡◌, ◌≢◌, ℕ, ◌<◌, ◌++◌, ◌∷◌, ◌==◌, ◌&&◌, ◌||◌, [], OnOk, IfOk, IfErr, IfSome, List, None, Some, true, false, if◌then◌else◌, length, nat_le, ◌+◌, pos};
 ghost use Rattle.std.specs.Option.{option_map};
 ghost use Rattle.fraction.specs.Rational.{whole};
-ghost use Rattle.mps_lines.specs.Lines.{Line};
-ghost use Rattle.mps_reader.specs.Faults.{counted, differs, is_counted, side_line_fault, sides_fault};
+ghost use Rattle.mps_reader.specs.Faults.{counted, differs, is_counted, most_rows, side_fault, when};
 ghost use Rattle.mps_reader.specs.RowsSoFar.{IsRowAt};
-ghost use Rattle.mps_reader.specs.Sections.{pairs_of, set_of_sides, side_set, sides, sides_of, with_sides};
-ghost use Rattle.mps_reader.specs.SideLines.{HasSides, HasSideLines, named_fault, number_for, side_fault, some_pairs, some_sides_fault};
-ghost use Rattle.mps_reader.specs.Tables.{Stops, table, text_of, texts};
-ghost use Rattle.mps_reader.specs.Words.{named};
+ghost use Rattle.mps_reader.specs.Sections.{RowValues, pairs_of};
+ghost use Rattle.mps_reader.specs.SideLines.{HasSides, TakesFields, TakesRows, number_for};
+ghost use Rattle.mps_reader.specs.Tables.{Stops, table, bytes_of, texts};
+ghost use Rattle.mps_reader.specs.Words.{value_under};
 
 use crate::kinds::{Kind, RowType, Stop};
 use crate::numbers::side_number;
-use crate::rows::is_counted;
+use crate::rows::{MOST_ROWS, is_counted};
 use crate::side_table::SideTable;
 use fraction::Frac;
 use indexmap::IndexMap;
 use std::hash::BuildHasher;
-
-/// How many rows there may be.
-const LIMIT: u128 = 1000;
 
 /// The numbers of the rows so far, the set's name, and how many of these rows count where they are ranges.
 #[derive(Drop)]
@@ -32,7 +28,7 @@ pub struct Sides<'a> {
 
 /// Whether a set's name differs from the one before.
 pub fn differs(before: Option<&[u8]>, group: &[u8]) -> bool
-    ensures { result ≡ differs (text_of before.entry) (Some group.now) }
+    ensures { result ≡ differs (bytes_of before.entry) (Some group.now) }
 {
     match before {
         Some(before) => before != group,
@@ -49,13 +45,13 @@ struct Given {
 }
 
 /// The index and the type of a row, where ROWS names it.
-#[tactic(auto, using(crate::specs::Tables::named_table))]
+#[tactic(auto, using(crate::proofs::TableLemmas::value_under_table))]
 fn row_in<'a, B: BuildHasher + Drop>(
     rows: &IndexMap<&'a [u8], RowType, B>,
     name: &'a [u8],
 ) -> Option<(usize, RowType)>
     ensures row { IfSome result (λ r. IsRowAt rows.now.entries name.now r.0) }
-    ensures kind { option_map (λ r. r.1) result ≡ named (table rows.now.entries) name.now }
+    ensures kind { option_map (λ r. r.1) result ≡ value_under (table rows.now.entries) name.now }
 {
     let index = rows.get_index_of(name)?;
     Some((index, rows[index]))
@@ -91,10 +87,10 @@ fn are_pairs(fields: &[&[u8]]) -> bool
 impl<'a> Sides<'a> {
     /// Whether there is no room for one more row where it counts, after so many rows and the ranged ones.
     fn is_full(&self, count: usize, counts: bool) -> bool
-        ensures full { result ≡ (counts && nat_le 1000 (count + self.now.ranged)) }
-        ensures few { result ≡ false → counts ≡ true → self.now.ranged < 1000 }
+        ensures full { result ≡ (counts && nat_le most_rows (count + self.now.ranged)) }
+        ensures few { result ≡ false → counts ≡ true → self.now.ranged < most_rows }
     {
-        counts && count as u128 + self.ranged as u128 >= LIMIT
+        counts && count as u128 + self.ranged as u128 >= MOST_ROWS as u128
     }
 
     /// A row's index and type with its number, or why it isn't taken.
@@ -108,12 +104,12 @@ impl<'a> Sides<'a> {
     ) -> Result<Given, Stop>
         requires { count ≡ counted (table rows.now.entries) }
         ensures row { IfOk result (λ g. IsRowAt rows.now.entries row.now g.index) }
-        ensures kind { IfOk result (λ g. named (table rows.now.entries) row.now ≡ Some g.kind) }
+        ensures kind { IfOk result (λ g. value_under (table rows.now.entries) row.now ≡ Some g.kind) }
         ensures number { IfOk result (λ g. g.number ≡ number_for g.kind value.now) }
-        ensures few { IfOk result (λ g. (are_ranges && is_counted g.kind) ≡ true → self.now.ranged < 1000) }
-        ensures ok { (before : List (List ℕ × List ℕ)) → HasSides are_ranges (table rows.now.entries) self.now before → IfOk result (λ g.
+        ensures few { IfOk result (λ g. (are_ranges && is_counted g.kind) ≡ true → self.now.ranged < most_rows) }
+        ensures ok { (before : RowValues) → HasSides are_ranges (table rows.now.entries) self.now before → IfOk result (λ g.
             side_fault are_ranges (table rows.now.entries) before (row.now, value.now) ≡ None) }
-        ensures err { (before : List (List ℕ × List ℕ)) → HasSides are_ranges (table rows.now.entries) self.now before → IfErr result (λ stop.
+        ensures err { (before : RowValues) → HasSides are_ranges (table rows.now.entries) self.now before → IfErr result (λ stop.
             Stops stop (side_fault are_ranges (table rows.now.entries) before (row.now, value.now))) }
     {
         let Some((index, kind)) = row_in(rows, row) else {
@@ -145,12 +141,8 @@ impl<'a> Sides<'a> {
         value: &'a [u8],
     ) -> Result<(), Stop>
         requires { count ≡ counted (table rows.now.entries) }
-        ensures ok { (before : List (List ℕ × List ℕ)) → HasSides are_ranges (table rows.now.entries) self.old before → OnOk result (
-            (side_fault are_ranges (table rows.now.entries) before (row.now, value.now) ≡ None)
-            × HasSides are_ranges (table rows.now.entries) self.new (before ++ (row.now, value.now) ∷ [])) }
-        ensures group { OnOk result (text_of self.new.group ≡ text_of self.old.group) }
-        ensures err { (before : List (List ℕ × List ℕ)) → HasSides are_ranges (table rows.now.entries) self.old before → IfErr result (λ stop.
-            Stops stop (side_fault are_ranges (table rows.now.entries) before (row.now, value.now))) }
+        ensures rows { TakesRows are_ranges (table rows.now.entries) None (Some ((row.now, value.now) ∷ [])) self.old self.new result }
+        ensures group { OnOk result (bytes_of self.new.group ≡ bytes_of self.old.group) }
     {
         let given = match self.judged(rows, count, are_ranges, row, value) {
             Ok(given) => given,
@@ -165,45 +157,23 @@ impl<'a> Sides<'a> {
         Ok(())
     }
 
-    /// Takes one row with its value, or says why not.
-    fn take_one<B: BuildHasher + Drop>(
-        &mut self,
-        rows: &IndexMap<&'a [u8], RowType, B>,
-        count: usize,
-        are_ranges: bool,
-        row: &'a [u8],
-        value: &'a [u8],
-    ) -> Result<(), Stop>
-        requires { count ≡ counted (table rows.now.entries) }
-        ensures ok { (before : List (List ℕ × List ℕ)) → HasSides are_ranges (table rows.now.entries) self.old before → OnOk result (
-            (sides_fault are_ranges (table rows.now.entries) before ((row.now, value.now) ∷ []) ≡ None)
-            × HasSides are_ranges (table rows.now.entries) self.new (before ++ (row.now, value.now) ∷ [])) }
-        ensures group { OnOk result (text_of self.new.group ≡ text_of self.old.group) }
-        ensures err { (before : List (List ℕ × List ℕ)) → HasSides are_ranges (table rows.now.entries) self.old before → IfErr result (λ stop.
-            Stops stop (sides_fault are_ranges (table rows.now.entries) before ((row.now, value.now) ∷ []))) }
-    {
-        self.take(rows, count, are_ranges, row, value)
-    }
-
     /// Takes two rows with their values, or says why not.
     fn take_two<B: BuildHasher + Drop>(
         &mut self,
         rows: &IndexMap<&'a [u8], RowType, B>,
         count: usize,
         are_ranges: bool,
-        first: (&'a [u8], &'a [u8]),
-        second: (&'a [u8], &'a [u8]),
+        row: &'a [u8],
+        value: &'a [u8],
+        second_row: &'a [u8],
+        second_value: &'a [u8],
     ) -> Result<(), Stop>
         requires { count ≡ counted (table rows.now.entries) }
-        ensures ok { (before : List (List ℕ × List ℕ)) → HasSides are_ranges (table rows.now.entries) self.old before → OnOk result (
-            (sides_fault are_ranges (table rows.now.entries) before ((first.entry.0.now, first.entry.1.now) ∷ (second.entry.0.now, second.entry.1.now) ∷ []) ≡ None)
-            × HasSides are_ranges (table rows.now.entries) self.new (before ++ (first.entry.0.now, first.entry.1.now) ∷ (second.entry.0.now, second.entry.1.now) ∷ [])) }
-        ensures group { OnOk result (text_of self.new.group ≡ text_of self.old.group) }
-        ensures err { (before : List (List ℕ × List ℕ)) → HasSides are_ranges (table rows.now.entries) self.old before → IfErr result (λ stop.
-            Stops stop (sides_fault are_ranges (table rows.now.entries) before ((first.entry.0.now, first.entry.1.now) ∷ (second.entry.0.now, second.entry.1.now) ∷ []))) }
+        ensures rows { TakesRows are_ranges (table rows.now.entries) None (Some ((row.now, value.now) ∷ (second_row.now, second_value.now) ∷ [])) self.old self.new result }
+        ensures group { OnOk result (bytes_of self.new.group ≡ bytes_of self.old.group) }
     {
-        match self.take(rows, count, are_ranges, first.0, first.1) {
-            Ok(()) => self.take(rows, count, are_ranges, second.0, second.1),
+        match self.take(rows, count, are_ranges, row, value) {
+            Ok(()) => self.take(rows, count, are_ranges, second_row, second_value),
             Err(stop) => Err(stop),
         }
     }
@@ -217,21 +187,19 @@ impl<'a> Sides<'a> {
         pairs: &[&'a [u8]],
     ) -> Result<(), Stop>
         requires { count ≡ counted (table rows.now.entries) }
-        ensures ok { (before : List (List ℕ × List ℕ)) → HasSides are_ranges (table rows.now.entries) self.old before → OnOk result (
-            (some_sides_fault are_ranges (table rows.now.entries) before (pairs_of (texts pairs.now)) ≡ None)
-            × HasSides are_ranges (table rows.now.entries) self.new (before ++ some_pairs (pairs_of (texts pairs.now)))) }
-        ensures group { OnOk result (text_of self.new.group ≡ text_of self.old.group) }
-        ensures err { (before : List (List ℕ × List ℕ)) → HasSides are_ranges (table rows.now.entries) self.old before → IfErr result (λ stop.
-            Stops stop (some_sides_fault are_ranges (table rows.now.entries) before (pairs_of (texts pairs.now)))) }
+        ensures rows { TakesRows are_ranges (table rows.now.entries) None (pairs_of (texts pairs.now)) self.old self.new result }
+        ensures group { OnOk result (bytes_of self.new.group ≡ bytes_of self.old.group) }
     {
         match pairs {
-            [row, value] => self.take_one(rows, count, are_ranges, row, value),
+            [row, value] => self.take(rows, count, are_ranges, row, value),
             [row, value, second_row, second_value] => self.take_two(
                 rows,
                 count,
                 are_ranges,
-                (row, value),
-                (second_row, second_value),
+                row,
+                value,
+                second_row,
+                second_value,
             ),
             _ => Err(Stop::Fault(Kind::BadFields)),
         }
@@ -247,12 +215,8 @@ impl<'a> Sides<'a> {
         pairs: &[&'a [u8]],
     ) -> Result<(), Stop>
         requires { count ≡ counted (table rows.now.entries) }
-        ensures ok { (before : List (List ℕ × List ℕ)) → HasSides are_ranges (table rows.now.entries) self.old before → OnOk result (
-            (named_fault are_ranges (table rows.now.entries) before (text_of self.old.group) group.now (pairs_of (texts pairs.now)) ≡ None)
-            × HasSides are_ranges (table rows.now.entries) self.new (before ++ some_pairs (pairs_of (texts pairs.now)))) }
-        ensures group { OnOk result (text_of self.new.group ≡ Some group.now) }
-        ensures err { (before : List (List ℕ × List ℕ)) → HasSides are_ranges (table rows.now.entries) self.old before → IfErr result (λ stop.
-            Stops stop (named_fault are_ranges (table rows.now.entries) before (text_of self.old.group) group.now (pairs_of (texts pairs.now)))) }
+        ensures rows { TakesRows are_ranges (table rows.now.entries) (when (differs (bytes_of self.old.group) (Some group.now)) Kind.ManySets) (pairs_of (texts pairs.now)) self.old self.new result }
+        ensures group { OnOk result (bytes_of self.new.group ≡ Some group.now) }
     {
         if differs(self.group, group) {
             return Err(Stop::Fault(Kind::ManySets));
@@ -277,12 +241,7 @@ impl<'a> Sides<'a> {
         requires count { count ≡ counted (table rows.now.entries) }
         requires three { length fields.now ≢ 3 }
         requires five { length fields.now ≢ 5 }
-        ensures ok { (earlier : List Line) → HasSideLines are_ranges (table rows.now.entries) self.old earlier → OnOk result (
-            (side_line_fault are_ranges (table rows.now.entries) earlier (sides (texts fields.now)) ≡ None)
-            × HasSides are_ranges (table rows.now.entries) self.new (with_sides (sides (texts fields.now)) (sides_of earlier))
-            × (text_of self.new.group ≡ set_of_sides (sides (texts fields.now)) (side_set earlier))) }
-        ensures err { (earlier : List Line) → HasSideLines are_ranges (table rows.now.entries) self.old earlier → IfErr result (λ stop.
-            Stops stop (side_line_fault are_ranges (table rows.now.entries) earlier (sides (texts fields.now)))) }
+        ensures { TakesFields are_ranges (table rows.now.entries) (texts fields.now) self.old self.new result }
     {
         self.take_pairs(rows, count, are_ranges, fields)
     }
@@ -296,12 +255,7 @@ impl<'a> Sides<'a> {
         fields: &[&'a [u8]],
     ) -> Result<(), Stop>
         requires { count ≡ counted (table rows.now.entries) }
-        ensures ok { (earlier : List Line) → HasSideLines are_ranges (table rows.now.entries) self.old earlier → OnOk result (
-            (side_line_fault are_ranges (table rows.now.entries) earlier (sides (texts fields.now)) ≡ None)
-            × HasSides are_ranges (table rows.now.entries) self.new (with_sides (sides (texts fields.now)) (sides_of earlier))
-            × (text_of self.new.group ≡ set_of_sides (sides (texts fields.now)) (side_set earlier))) }
-        ensures err { (earlier : List Line) → HasSideLines are_ranges (table rows.now.entries) self.old earlier → IfErr result (λ stop.
-            Stops stop (side_line_fault are_ranges (table rows.now.entries) earlier (sides (texts fields.now)))) }
+        ensures { TakesFields are_ranges (table rows.now.entries) (texts fields.now) self.old self.new result }
     {
         match fields {
             [group, pairs @ ..] => {

@@ -1,17 +1,17 @@
 //! One line after those before it.
 
-ghost use Rattle.std.specs.Prelude.{◌≡◌, OnOk, IfErr, IfOk, true, false, Some, None};
+ghost use Rattle.std.specs.Prelude.{◌≡◌, ◌&&◌, not, OnOk, true, false, Some};
+ghost use Rattle.std.specs.List.{list_all};
 ghost use Rattle.mps_lines.specs.Left.{seen};
-ghost use Rattle.mps_reader.specs.Faults.{counted, line_fault};
-ghost use Rattle.mps_reader.specs.Reading.{ends, is_end};
-ghost use Rattle.mps_reader.specs.Sectioned.{HoldsSections, more_of, with_section};
-ghost use Rattle.mps_reader.specs.Sections.{Sections, first_field, with_line};
-ghost use Rattle.mps_reader.specs.Tables.{Stops, table};
+ghost use Rattle.mps_reader.specs.Faults.{is_field, limits_fields};
+ghost use Rattle.mps_reader.specs.Reading.{is_end};
+ghost use Rattle.mps_reader.specs.Sectioned.{CountsRows, Steps, TakesLine, more_of, with_section};
+ghost use Rattle.mps_reader.specs.Sections.{first_field};
 ghost use Rattle.mps_reader.specs.Words.{section_of};
 
 use crate::fields::are_fields;
 use crate::kinds::{Kind, Section, Stop};
-use crate::order::{order_after, sense_fault, word_fault};
+use crate::order::{limits_fields, order_after, sense_fault, word_fault};
 use crate::rows::row_line;
 use crate::tables::Tables;
 use crate::words::{first_field, section_of};
@@ -23,12 +23,9 @@ fn sense_line<'a, B: BuildHasher + Drop>(
     tables: &mut Tables<'a, B>,
     line: &Line<'a>,
 ) -> Result<(), Stop>
-    requires { tables.old.count ≡ counted (table tables.old.rows.entries) }
-    ensures ok { (s : Sections) → HoldsSections tables.old s → line.now.is_data ≡ true → tables.old.order.last ≡ Some Section.ObjSense → OnOk result (
-        (line_fault s (seen line.now) ≡ None) × HoldsSections tables.new (with_line s (seen line.now))) }
-    ensures err { (s : Sections) → HoldsSections tables.old s → line.now.is_data ≡ true → tables.old.order.last ≡ Some Section.ObjSense → IfErr result (λ stop.
-        Stops stop (line_fault s (seen line.now))) }
-    ensures count { OnOk result (tables.new.count ≡ counted (table tables.new.rows.entries)) }
+    requires { CountsRows tables.old }
+    ensures line { TakesLine (Some Section.ObjSense) tables.old tables.new (seen line.now) result }
+    ensures count { OnOk result (CountsRows tables.new) }
 {
     let fields = line.fields.as_slice();
     if fields.len() != 1 || tables.order.has_sense {
@@ -48,17 +45,11 @@ fn rows_line<'a, B: BuildHasher + Drop>(
     tables: &mut Tables<'a, B>,
     line: &Line<'a>,
 ) -> Result<(), Stop>
-    requires { tables.old.count ≡ counted (table tables.old.rows.entries) }
-    ensures ok { (s : Sections) → HoldsSections tables.old s → line.now.is_data ≡ true → tables.old.order.last ≡ Some Section.Rows → OnOk result (
-        (line_fault s (seen line.now) ≡ None) × HoldsSections tables.new (with_line s (seen line.now))) }
-    ensures err { (s : Sections) → HoldsSections tables.old s → line.now.is_data ≡ true → tables.old.order.last ≡ Some Section.Rows → IfErr result (λ stop.
-        Stops stop (line_fault s (seen line.now))) }
-    ensures count { OnOk result (tables.new.count ≡ counted (table tables.new.rows.entries)) }
+    requires { CountsRows tables.old }
+    ensures line { TakesLine (Some Section.Rows) tables.old tables.new (seen line.now) result }
+    ensures count { OnOk result (CountsRows tables.new) }
 {
     let fields = line.fields.as_slice();
-    if !are_fields(fields) {
-        return Err(Stop::Fault(Kind::BadFields));
-    }
     let keeps = match row_line(&mut tables.rows, &mut tables.count, fields) {
         Ok(keeps) => keeps,
         Err(stop) => return Err(stop),
@@ -74,17 +65,11 @@ fn columns_line<'a, B: BuildHasher + Drop>(
     tables: &mut Tables<'a, B>,
     line: &Line<'a>,
 ) -> Result<(), Stop>
-    requires { tables.old.count ≡ counted (table tables.old.rows.entries) }
-    ensures ok { (s : Sections) → HoldsSections tables.old s → line.now.is_data ≡ true → tables.old.order.last ≡ Some Section.Columns → OnOk result (
-        (line_fault s (seen line.now) ≡ None) × HoldsSections tables.new (with_line s (seen line.now))) }
-    ensures err { (s : Sections) → HoldsSections tables.old s → line.now.is_data ≡ true → tables.old.order.last ≡ Some Section.Columns → IfErr result (λ stop.
-        Stops stop (line_fault s (seen line.now))) }
-    ensures count { OnOk result (tables.new.count ≡ counted (table tables.new.rows.entries)) }
+    requires { CountsRows tables.old }
+    ensures line { TakesLine (Some Section.Columns) tables.old tables.new (seen line.now) result }
+    ensures count { OnOk result (CountsRows tables.new) }
 {
     let fields = line.fields.as_slice();
-    if !are_fields(fields) {
-        return Err(Stop::Fault(Kind::BadFields));
-    }
     tables
         .columns
         .take_line(&tables.rows, &mut tables.is_marked, line.number, fields)
@@ -95,17 +80,11 @@ fn rhs_line<'a, B: BuildHasher + Drop>(
     tables: &mut Tables<'a, B>,
     line: &Line<'a>,
 ) -> Result<(), Stop>
-    requires { tables.old.count ≡ counted (table tables.old.rows.entries) }
-    ensures ok { (s : Sections) → HoldsSections tables.old s → line.now.is_data ≡ true → tables.old.order.last ≡ Some Section.Rhs → OnOk result (
-        (line_fault s (seen line.now) ≡ None) × HoldsSections tables.new (with_line s (seen line.now))) }
-    ensures err { (s : Sections) → HoldsSections tables.old s → line.now.is_data ≡ true → tables.old.order.last ≡ Some Section.Rhs → IfErr result (λ stop.
-        Stops stop (line_fault s (seen line.now))) }
-    ensures count { OnOk result (tables.new.count ≡ counted (table tables.new.rows.entries)) }
+    requires { CountsRows tables.old }
+    ensures line { TakesLine (Some Section.Rhs) tables.old tables.new (seen line.now) result }
+    ensures count { OnOk result (CountsRows tables.new) }
 {
     let fields = line.fields.as_slice();
-    if !are_fields(fields) {
-        return Err(Stop::Fault(Kind::BadFields));
-    }
     tables
         .rhs
         .take_line(&tables.rows, tables.count, false, fields)
@@ -116,17 +95,11 @@ fn ranges_line<'a, B: BuildHasher + Drop>(
     tables: &mut Tables<'a, B>,
     line: &Line<'a>,
 ) -> Result<(), Stop>
-    requires { tables.old.count ≡ counted (table tables.old.rows.entries) }
-    ensures ok { (s : Sections) → HoldsSections tables.old s → line.now.is_data ≡ true → tables.old.order.last ≡ Some Section.Ranges → OnOk result (
-        (line_fault s (seen line.now) ≡ None) × HoldsSections tables.new (with_line s (seen line.now))) }
-    ensures err { (s : Sections) → HoldsSections tables.old s → line.now.is_data ≡ true → tables.old.order.last ≡ Some Section.Ranges → IfErr result (λ stop.
-        Stops stop (line_fault s (seen line.now))) }
-    ensures count { OnOk result (tables.new.count ≡ counted (table tables.new.rows.entries)) }
+    requires { CountsRows tables.old }
+    ensures line { TakesLine (Some Section.Ranges) tables.old tables.new (seen line.now) result }
+    ensures count { OnOk result (CountsRows tables.new) }
 {
     let fields = line.fields.as_slice();
-    if !are_fields(fields) {
-        return Err(Stop::Fault(Kind::BadFields));
-    }
     tables
         .ranges
         .take_line(&tables.rows, tables.count, true, fields)
@@ -137,30 +110,22 @@ fn bounds_line<'a, B: BuildHasher + Drop>(
     tables: &mut Tables<'a, B>,
     line: &Line<'a>,
 ) -> Result<(), Stop>
-    requires { tables.old.count ≡ counted (table tables.old.rows.entries) }
-    ensures ok { (s : Sections) → HoldsSections tables.old s → line.now.is_data ≡ true → tables.old.order.last ≡ Some Section.Bounds → OnOk result (
-        (line_fault s (seen line.now) ≡ None) × HoldsSections tables.new (with_line s (seen line.now))) }
-    ensures err { (s : Sections) → HoldsSections tables.old s → line.now.is_data ≡ true → tables.old.order.last ≡ Some Section.Bounds → IfErr result (λ stop.
-        Stops stop (line_fault s (seen line.now))) }
-    ensures count { OnOk result (tables.new.count ≡ counted (table tables.new.rows.entries)) }
+    requires { CountsRows tables.old }
+    ensures line { TakesLine (Some Section.Bounds) tables.old tables.new (seen line.now) result }
+    ensures count { OnOk result (CountsRows tables.new) }
 {
     let fields = line.fields.as_slice();
-    if !are_fields(fields) {
-        return Err(Stop::Fault(Kind::BadFields));
-    }
     tables.bounds.take_line(&tables.columns.columns, fields)
 }
 
-/// Takes a data line, or says why not.
-fn data_line<'a, B: BuildHasher + Drop>(
+/// Takes a data line with fields within the limits, or says why not.
+fn section_line<'a, B: BuildHasher + Drop>(
     tables: &mut Tables<'a, B>,
     line: &Line<'a>,
 ) -> Result<(), Stop>
-    requires { tables.old.count ≡ counted (table tables.old.rows.entries) }
-    ensures ok { (s : Sections) → HoldsSections tables.old s → line.now.is_data ≡ true → OnOk result (
-        (line_fault s (seen line.now) ≡ None) × HoldsSections tables.new (with_line s (seen line.now))) }
-    ensures err { (s : Sections) → HoldsSections tables.old s → line.now.is_data ≡ true → IfErr result (λ stop. Stops stop (line_fault s (seen line.now))) }
-    ensures count { OnOk result (tables.new.count ≡ counted (table tables.new.rows.entries)) }
+    requires { CountsRows tables.old }
+    ensures line { TakesLine tables.old.order.last tables.old tables.new (seen line.now) result }
+    ensures count { OnOk result (CountsRows tables.new) }
 {
     match tables.order.last {
         Some(Section::ObjSense) => sense_line(tables, line),
@@ -170,6 +135,31 @@ fn data_line<'a, B: BuildHasher + Drop>(
         Some(Section::Ranges) => ranges_line(tables, line),
         Some(Section::Bounds) => bounds_line(tables, line),
         Some(Section::Name | Section::EndData) | None => Err(Stop::Fault(Kind::BadSection)),
+    }
+}
+
+/// Whether a data line has a field beyond the limits, in a section where fields have them.
+fn has_bad_field<'a>(last: Option<Section>, line: &Line<'a>) -> bool
+    ensures { result ≡ (limits_fields last && not (list_all is_field (seen line.now).fields)) }
+{
+    limits_fields(last) && !are_fields(line.fields.as_slice())
+}
+
+/// Takes a data line, or says why not.
+fn data_line<'a, B: BuildHasher + Drop>(
+    tables: &mut Tables<'a, B>,
+    line: &Line<'a>,
+) -> Result<bool, Stop>
+    requires { CountsRows tables.old }
+    ensures line { line.now.is_data ≡ true → Steps tables.old tables.new (seen line.now) result }
+    ensures count { OnOk result (CountsRows tables.new) }
+{
+    if has_bad_field(tables.order.last, line) {
+        return Err(Stop::Fault(Kind::BadFields));
+    }
+    match section_line(tables, line) {
+        Ok(()) => Ok(false),
+        Err(stop) => Err(stop),
     }
 }
 
@@ -190,12 +180,9 @@ fn known_line<'a, B: BuildHasher + Drop>(
     word: Section,
     line: &Line<'a>,
 ) -> Result<bool, Stop>
-    requires { tables.old.count ≡ counted (table tables.old.rows.entries) }
-    ensures ok { (s : Sections) → HoldsSections tables.old s → line.now.is_data ≡ false → section_of (first_field (seen line.now).fields) ≡ Some word → IfOk result (λ last.
-        (line_fault s (seen line.now) ≡ None) × (last ≡ ends (seen line.now)) × HoldsSections tables.new (with_line s (seen line.now))) }
-    ensures err { (s : Sections) → HoldsSections tables.old s → line.now.is_data ≡ false → section_of (first_field (seen line.now).fields) ≡ Some word → IfErr result (λ stop.
-        Stops stop (line_fault s (seen line.now))) }
-    ensures count { OnOk result (tables.new.count ≡ counted (table tables.new.rows.entries)) }
+    requires { CountsRows tables.old }
+    ensures line { line.now.is_data ≡ false → section_of (first_field (seen line.now).fields) ≡ Some word → Steps tables.old tables.new (seen line.now) result }
+    ensures count { OnOk result (CountsRows tables.new) }
 {
     match word_fault(tables.order, word, line.fields.as_slice()) {
         Some(kind) => Err(Stop::Fault(kind)),
@@ -211,11 +198,9 @@ fn word_line<'a, B: BuildHasher + Drop>(
     tables: &mut Tables<'a, B>,
     line: &Line<'a>,
 ) -> Result<bool, Stop>
-    requires { tables.old.count ≡ counted (table tables.old.rows.entries) }
-    ensures ok { (s : Sections) → HoldsSections tables.old s → line.now.is_data ≡ false → IfOk result (λ last. (line_fault s (seen line.now) ≡ None)
-        × (last ≡ ends (seen line.now)) × HoldsSections tables.new (with_line s (seen line.now))) }
-    ensures err { (s : Sections) → HoldsSections tables.old s → line.now.is_data ≡ false → IfErr result (λ stop. Stops stop (line_fault s (seen line.now))) }
-    ensures count { OnOk result (tables.new.count ≡ counted (table tables.new.rows.entries)) }
+    requires { CountsRows tables.old }
+    ensures line { line.now.is_data ≡ false → Steps tables.old tables.new (seen line.now) result }
+    ensures count { OnOk result (CountsRows tables.new) }
 {
     match section_of(first_field(line.fields.as_slice())) {
         Some(word) => known_line(tables, word, line),
@@ -238,17 +223,13 @@ pub fn step<'a, B: BuildHasher + Drop>(
     tables: &mut Tables<'a, B>,
     line: &Line<'a>,
 ) -> Result<bool, Stop>
-    requires { tables.old.count ≡ counted (table tables.old.rows.entries) }
-    ensures ok { (s : Sections) → HoldsSections tables.old s → IfOk result (λ last. (line_fault s (seen line.now) ≡ None)
-        × (last ≡ ends (seen line.now)) × HoldsSections tables.new (with_line s (seen line.now))) }
-    ensures err { (s : Sections) → HoldsSections tables.old s → IfErr result (λ stop. Stops stop (line_fault s (seen line.now))) }
-    ensures count { OnOk result (tables.new.count ≡ counted (table tables.new.rows.entries)) }
+    requires { CountsRows tables.old }
+    ensures line { Steps tables.old tables.new (seen line.now) result }
+    ensures count { OnOk result (CountsRows tables.new) }
 {
-    if !line.is_data {
-        return word_line(tables, line);
-    }
-    match data_line(tables, line) {
-        Ok(()) => Ok(false),
-        Err(stop) => Err(stop),
+    if line.is_data {
+        data_line(tables, line)
+    } else {
+        word_line(tables, line)
     }
 }

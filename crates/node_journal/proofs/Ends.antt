@@ -8,12 +8,12 @@ use Rattle.std.proofs.lemmas.List.{take_more}
 use Rattle.std.specs.List.{list_all}
 use Rattle.outside.specs.Images.{resting}
 use Rattle.outside.specs.declared.moment.Moment.{Moment}
-use Rattle.node_journal.specs.Records.{Holds, mark, is_open, records}
-use Rattle.node_journal.specs.Frames.{framed, file_of, end_of, tail_of, is_small}
-use Rattle.node_journal.specs.Framing.{records_closed, framed_longer}
+use Rattle.node_journal.specs.Records.{Holds, mark, is_gate_open, records}
+use Rattle.node_journal.specs.Frames.{frames_of, file_of, end_of, tail_of, has_small_length}
+use Rattle.node_journal.proofs.Framing.{records_closed, framed_longer}
 use Rattle.node_journal.specs.Gate.{IsBefore, IsBeforeOrWith}
 use Rattle.node_journal.specs.Index.{EndsAt, ReadsTo}
-use Rattle.node_journal.specs.Repairs.{IsFrontAndOne}
+use Rattle.node_journal.specs.Repairs.{IsPrefixAndOne}
 use Rattle.node_journal.specs.Appends.{IsWithOrWithout}
 
 and_shut : (a b : Bool) → b ≡ false → (a && b) ≡ false
@@ -25,11 +25,11 @@ shut_and true b h = cc
 shut_and false b h = refl
 
 -- a gate that is not 1 is closed
-pub gate_shut : (gate : ℕ) (rest : List ℕ) → nat_eq gate 1 ≡ false → is_open (gate ∷ rest) ≡ false
+pub gate_shut : (gate : ℕ) (rest : List ℕ) → nat_eq gate 1 ≡ false → is_gate_open (gate ∷ rest) ≡ false
 gate_shut gate rest h = and_shut (nat_lt 1 (length (gate ∷ rest))) (nat_eq gate 1) h
 
 -- and so is the last byte
-pub last_shut : (rest : List ℕ) → length rest ≤ 1 → is_open rest ≡ false
+pub last_shut : (rest : List ℕ) → length rest ≤ 1 → is_gate_open rest ≡ false
 last_shut rest le = shut_and (nat_lt 1 (length rest)) (nat_eq (get_or rest 0 0) 1) (truth (length rest) le)
   where
     truth : (k : ℕ) → k ≤ 1 → nat_lt 1 k ≡ false
@@ -38,15 +38,15 @@ last_shut rest le = shut_and (nat_lt 1 (length rest)) (nat_eq (get_or rest 0 0) 
 pub short_records : (c : List ℕ) → length c ≤ 9 → records c ≡ Holds []
 short_records c le = grind (arith, nat_tests, le)
 
-pub front_records : (ps : List (List ℕ)) (front rest c : List ℕ) → list_all is_small ps ≡ true → front ≡ mark ++ framed ps → is_open rest ≡ false → c ≡ front ++ rest → records c ≡ Holds ps
-front_records ps front rest c small is shut e = ap records (e ∙ ap (λ (l : List ℕ). l ++ rest) is) ∙ records_closed ps rest small shut
+pub prefix_records : (ps : List (List ℕ)) (prefix rest c : List ℕ) → list_all has_small_length ps ≡ true → prefix ≡ mark ++ frames_of ps → is_gate_open rest ≡ false → c ≡ prefix ++ rest → records c ≡ Holds ps
+prefix_records ps prefix rest c small is shut e = ap records (e ∙ ap (λ (l : List ℕ). l ++ rest) is) ∙ records_closed ps rest small shut
 
-module _ (ps : List (List ℕ)) (file : List ℕ) (end : ℕ) (small : list_all is_small ps ≡ true) (ends : EndsAt file ps end) where
+module _ (ps : List (List ℕ)) (file : List ℕ) (end : ℕ) (small : list_all has_small_length ps ≡ true) (ends : EndsAt file ps end) where
   pub end_records : records file ≡ Holds ps
-  end_records = front_records ps (take end file) (drop end file) file small ends.front ends.closed (sym (take-append-drop end file))
+  end_records = prefix_records ps (take end file) (drop end file) file small ends.prefix ends.closed (sym (take-append-drop end file))
 
   pub cut_records : end + 1 < length file → (c : List ℕ) → IsBefore (take (end + 1) file) c → records c ≡ Holds ps
-  cut_records more c is = front_records ps (take end file) (gate ∷ is.0) c small ends.front (gate_shut gate is.0 not_one) parts
+  cut_records more c is = prefix_records ps (take end file) (gate ∷ is.0) c small ends.prefix (gate_shut gate is.0 not_one) parts
     where
       gate : ℕ
       gate = get_or file end 0
@@ -63,8 +63,8 @@ module _ (ps : List (List ℕ)) (file : List ℕ) (end : ℕ) (small : list_all 
       parts : c ≡ take end file ++ gate ∷ is.0
       parts = is.1 ∙ ap (λ (l : List ℕ). l ++ is.0) (take_more file end 0 (omega (arith, more))) ∙ append_assoc (take end file) (gate ∷ []) is.0
 
-  pub one_records : (front c : List ℕ) → front ≡ take end file → IsFrontAndOne front c → records c ≡ Holds ps
-  one_records front c same is = front_records ps front is.0 c small (same ∙ ends.front) (last_shut is.0 is.2) is.1
+  pub one_records : (prefix c : List ℕ) → prefix ≡ take end file → IsPrefixAndOne prefix c → records c ≡ Holds ps
+  one_records prefix c same is = prefix_records ps prefix is.0 c small (same ∙ ends.prefix) (last_shut is.0 is.2) is.1
 
 few : (qs : List (List ℕ)) → 5 * length qs ≤ 1 → qs ≡ []
 few [] le = refl
@@ -74,39 +74,39 @@ few (q ∷ qs) le = absurd (omega (arith, le))
 pub nil_of : (file : List ℕ) (ps : List (List ℕ)) → ReadsTo file ps → length file ≤ 9 → ps ≡ []
 nil_of file ps reads short = ⊎_elim (λ none. none.1) (λ ends. few ps (omega (arith, ends.within, short, framed_longer ps))) reads
 
-pub reads_records : (file : List ℕ) (ps : List (List ℕ)) → list_all is_small ps ≡ true → ReadsTo file ps → records file ≡ Holds ps
+pub reads_records : (file : List ℕ) (ps : List (List ℕ)) → list_all has_small_length ps ≡ true → ReadsTo file ps → records file ≡ Holds ps
 reads_records file ps small reads = ⊎_elim (λ none. short_records file none.0 ∙ ap Holds (sym none.1)) (λ ends. end_records ps file (end_of ps) small ends) reads
 
 pub short_holds : (ps : List (List ℕ)) → ps ≡ [] → (c : List ℕ) → length c ≤ 9 → records c ≡ Holds ps
 short_holds ps none c le = short_records c le ∙ ap Holds (sym none)
 
 -- what is in front of the end after a cut behind it
-pub front_after : (ps : List (List ℕ)) (file : List ℕ) (n : Moment) (e : ℕ) → EndsAt file ps (end_of ps) → e ≡ end_of ps → n ≡ resting (take (end_of ps + 1) file) → take e n.seen ≡ take (end_of ps) file
-front_after ps file n e ends at is = ap (λ (k : ℕ). take k n.seen) at ∙ ap (λ (m : Moment). take (end_of ps) m.seen) is ∙ both (end_of ps) file
+pub prefix_after : (ps : List (List ℕ)) (file : List ℕ) (n : Moment) (e : ℕ) → EndsAt file ps (end_of ps) → e ≡ end_of ps → n ≡ resting (take (end_of ps + 1) file) → take e n.seen ≡ take (end_of ps) file
+prefix_after ps file n e ends at is = ap (λ (k : ℕ). take k n.seen) at ∙ ap (λ (m : Moment). take (end_of ps) m.seen) is ∙ both (end_of ps) file
   where
     both : (k : ℕ) (l : List ℕ) → take k (take (k + 1) l) ≡ take k l
     both k l = grind (arith, common_steps)
 
 -- the bytes of a file of payloads, and anything behind its closed gate
-pub before_records : (ps : List (List ℕ)) (file c : List ℕ) → list_all is_small ps ≡ true → file ≡ file_of ps → IsBefore file c → records c ≡ Holds ps
-before_records ps file c small whole b = front_records ps (mark ++ framed ps) (0 ∷ b.0) c small refl (gate_shut 0 b.0 refl) (b.1 ∙ ap (λ (l : List ℕ). l ++ b.0) whole ∙ append_assoc (mark ++ framed ps) (0 ∷ []) b.0)
+pub before_records : (ps : List (List ℕ)) (file c : List ℕ) → list_all has_small_length ps ≡ true → file ≡ file_of ps → IsBefore file c → records c ≡ Holds ps
+before_records ps file c small whole b = prefix_records ps (mark ++ frames_of ps) (0 ∷ b.0) c small refl (gate_shut 0 b.0 refl) (b.1 ∙ ap (λ (l : List ℕ). l ++ b.0) whole ∙ append_assoc (mark ++ frames_of ps) (0 ∷ []) b.0)
 
 -- the bytes that a crash leaves while a payload is added
-pub adding : (ps : List (List ℕ)) (p file c : List ℕ) (end : ℕ) → list_all is_small (ps ++ p ∷ []) ≡ true → list_all is_small ps ≡ true → file ≡ file_of ps → take end file ≡ mark ++ framed ps
-    → (mark ++ framed ps) ++ 1 ∷ tail_of p ≡ file_of (ps ++ p ∷ []) → IsBeforeOrWith file end (tail_of p) c → IsWithOrWithout ps p c
-adding ps p file c end more small whole front new is = ⊎_elim without with is
+pub adding : (ps : List (List ℕ)) (p file c : List ℕ) (end : ℕ) → list_all has_small_length (ps ++ p ∷ []) ≡ true → list_all has_small_length ps ≡ true → file ≡ file_of ps → take end file ≡ mark ++ frames_of ps
+    → (mark ++ frames_of ps) ++ 1 ∷ tail_of p ≡ file_of (ps ++ p ∷ []) → IsBeforeOrWith file end (tail_of p) c → IsWithOrWithout ps p c
+adding ps p file c end more small whole prefix new is = ⊎_elim without with is
   where
     without : IsBefore file c → IsWithOrWithout ps p c
     without b = inl (before_records ps file c small whole b)
 
-    same : (gate : ℕ) → c ≡ take end file ++ gate ∷ tail_of p → c ≡ (mark ++ framed ps) ++ gate ∷ tail_of p
-    same gate e = e ∙ ap (λ (l : List ℕ). l ++ gate ∷ tail_of p) front
+    same : (gate : ℕ) → c ≡ take end file ++ gate ∷ tail_of p → c ≡ (mark ++ frames_of ps) ++ gate ∷ tail_of p
+    same gate e = e ∙ ap (λ (l : List ℕ). l ++ gate ∷ tail_of p) prefix
 
     other : (g : ℕ) → (g ≡ 1 → ⊥) → nat_eq g 1 ≡ false
     other g ne = grind (arith, nat_tests)
 
     with : (gate : ℕ) × (c ≡ take end file ++ gate ∷ tail_of p) → IsWithOrWithout ps p c
     with g = elim (cases_eq g.0 1) [
-      | inl e ↦ inr (ap records (same g.0 g.1 ∙ ap (λ (k : ℕ). (mark ++ framed ps) ++ k ∷ tail_of p) e ∙ new) ∙ records_closed (ps ++ p ∷ []) (0 ∷ []) more (last_shut (0 ∷ []) (omega arith)))
-      | inr ne ↦ inl (front_records ps (mark ++ framed ps) (g.0 ∷ tail_of p) c small refl (gate_shut g.0 (tail_of p) (other g.0 ne)) (same g.0 g.1))
+      | inl e ↦ inr (ap records (same g.0 g.1 ∙ ap (λ (k : ℕ). (mark ++ frames_of ps) ++ k ∷ tail_of p) e ∙ new) ∙ records_closed (ps ++ p ∷ []) (0 ∷ []) more (last_shut (0 ∷ []) (omega arith)))
+      | inr ne ↦ inl (prefix_records ps (mark ++ frames_of ps) (g.0 ∷ tail_of p) c small refl (gate_shut g.0 (tail_of p) (other g.0 ne)) (same g.0 g.1))
     ]

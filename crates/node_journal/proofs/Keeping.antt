@@ -5,50 +5,50 @@ use Rattle.std.proofs.lemmas.List.{append-nil, take_all}
 use Rattle.std.proofs.lemmas.Option.{none-some}
 use Rattle.std.specs.List.{list_all}
 use Rattle.outside.specs.Images.{IsImage, LeavesOnly, Stands, resting}
-use Rattle.outside.specs.Passing.{weaker}
-use Rattle.outside.specs.SeenIsImage.{rests}
+use Rattle.outside.specs.Lemmas.Passing.{weaker}
+use Rattle.outside.specs.Lemmas.SeenIsImage.{rests}
 use Rattle.outside.specs.declared.moment.Moment.{Moment}
 use Rattle.node_journal.specs.Appends.{IsWithOrWithout}
-use Rattle.node_journal.specs.Frames.{file_of, is_small}
-use Rattle.node_journal.specs.History.{EachFrom, SomeFrom, BeginsWith, IsFrontOf, Keeps, IsKept}
-use Rattle.node_journal.specs.HistoryLaws.{front_more, longer, fronts_grow, history_grows, fronts_begin, history_begins, kept_stands, some_weaker}
+use Rattle.node_journal.specs.Frames.{file_of, has_small_length}
+use Rattle.node_journal.specs.History.{EachFrom, SomeFrom, BeginsWith, IsPrefixOf, Keeps, KeepsHistory}
+use Rattle.node_journal.proofs.HistoryLaws.{prefix_more, longer, prefixes_grow, history_grows, prefixes_begin, history_begins, kept_stands, some_weaker}
 use Rattle.node_journal.specs.Records.{Records, Holds, records}
 use Rattle.node_journal.proofs.Ends.{before_records}
 use Rattle.node_journal.proofs.Torn.{rested}
 
-module _ (from : ℕ) (past : List Moment) (now : Moment) (file : List ℕ) (ps : List (List ℕ)) (p : List ℕ) (small : list_all is_small ps ≡ true)
-    (whole : file ≡ file_of ps) (rest : now ≡ resting file) (kept : IsKept from past now ps None) where
+module _ (from : ℕ) (past : List Moment) (now : Moment) (file : List ℕ) (ps : List (List ℕ)) (p : List ℕ) (small : list_all has_small_length ps ≡ true)
+    (whole : file ≡ file_of ps) (rest : now ≡ resting file) (kept : KeepsHistory from past now ps None) where
   here : (c : List ℕ) × IsImage now c × (records c ≡ Holds ps)
   here = (file, subst (λ m. IsImage m file) (sym rest) (rests file), before_records ps file file small whole ([], sym (append-nil file)))
 
   -- the call was made
   module _ (past' : List Moment) (now' : Moment) (run : LeavesOnly past now past' now' (IsWithOrWithout ps p)) (without : SomeFrom (length past) past' (λ c. records c ≡ Holds ps)) where
-    pub since : EachFrom from (past' ++ now' ∷ []) (λ c. IsFrontOf (ps ++ p ∷ []) (records c))
-    since = fronts_grow from past now past' now' ps p kept.history (kept.fronts refl) kept.begun run without here
+    pub since : EachFrom from (past' ++ now' ∷ []) (λ c. IsPrefixOf (ps ++ p ∷ []) (records c))
+    since = prefixes_grow from past now past' now' ps p kept.history (kept.prefixes refl) kept.begun run without here
 
     still : from ≤ length past'
     still = omega (arith, kept.begun, longer past now past' now' (IsWithOrWithout ps p) run)
 
-    pub kept_added : (ps' : List (List ℕ)) (fault : Option ℕ) → ps' ≡ ps ++ p ∷ [] → IsKept from past' now' ps' fault
+    pub kept_added : (ps' : List (List ℕ)) (fault : Option ℕ) → ps' ≡ ps ++ p ∷ [] → KeepsHistory from past' now' ps' fault
     kept_added ps' fault added = record {
       begun = still;
-      history = history_grows from past now past' now' ps p kept.history (kept.fronts refl) kept.begun run without here;
-      fronts = λ sound. subst (λ (l : List (List ℕ)). EachFrom from (past' ++ now' ∷ []) (λ c. IsFrontOf l (records c))) (sym added) since;
+      history = history_grows from past now past' now' ps p kept.history (kept.prefixes refl) kept.begun run without here;
+      prefixes = λ sound. subst (λ (l : List (List ℕ)). EachFrom from (past' ++ now' ∷ []) (λ c. IsPrefixOf l (records c))) (sym added) since;
     }
 
-    pub kept_failed : (ps' : List (List ℕ)) (n : ℕ) → IsKept from past' now' ps' (Some n)
+    pub kept_failed : (ps' : List (List ℕ)) (n : ℕ) → KeepsHistory from past' now' ps' (Some n)
     kept_failed ps' n = record {
       begun = still;
-      history = history_grows from past now past' now' ps p kept.history (kept.fronts refl) kept.begun run without here;
-      fronts = λ sound. absurd (none-some n (sym sound));
+      history = history_grows from past now past' now' ps p kept.history (kept.prefixes refl) kept.begun run without here;
+      prefixes = λ sound. absurd (none-some n (sym sound));
     }
 
   -- it was not
-  pub since_none : (past' : List Moment) (now' : Moment) → Stands past now past' now' → EachFrom from (past' ++ now' ∷ []) (λ c. IsFrontOf (ps ++ p ∷ []) (records c))
-  since_none past' now' stands i m c ge at is = front_more ps (p ∷ []) (records c) ((kept_stands from past now past' now' ps None kept stands).fronts refl i m c ge at is)
+  pub since_none : (past' : List Moment) (now' : Moment) → Stands past now past' now' → EachFrom from (past' ++ now' ∷ []) (λ c. IsPrefixOf (ps ++ p ∷ []) (records c))
+  since_none past' now' stands i m c ge at is = prefix_more ps (p ∷ []) (records c) ((kept_stands from past now past' now' ps None kept stands).prefixes refl i m c ge at is)
 
 -- A journal at rest keeps all of its payloads.
-pub all_held : (now : Moment) (file : List ℕ) (ps : List (List ℕ)) → list_all is_small ps ≡ true → file ≡ file_of ps → now ≡ resting file → Keeps ps now
+pub all_held : (now : Moment) (file : List ℕ) (ps : List (List ℕ)) → list_all has_small_length ps ≡ true → file ≡ file_of ps → now ≡ resting file → Keeps ps now
 all_held now file ps small whole rest c is = subst (λ r. BeginsWith ps r) (sym (before_records ps file c small whole ([], same ∙ sym (append-nil file)))) (ap Holds (take_all (length ps) ps (omega arith)))
   where
     same : c ≡ file
@@ -56,11 +56,11 @@ all_held now file ps small whole rest c is = subst (λ r. BeginsWith ps r) (sym 
 
 -- the journal was opened
 pub kept_opened : (from : ℕ) (past : List Moment) (now : Moment) (past' : List Moment) (now' : Moment) (ps : List (List ℕ)) (r : Records) → r ≡ Holds ps → from ≡ length past
-    → LeavesOnly past now past' now' (λ c. records c ≡ r) → SomeFrom (length past) past' (λ c. records c ≡ r) → IsKept from past' now' ps None
-kept_opened from past now past' now' ps r holds at run some = subst (λ (k : ℕ). IsKept k past' now' ps None) (sym at) (record {
+    → LeavesOnly past now past' now' (λ c. records c ≡ r) → SomeFrom (length past) past' (λ c. records c ≡ r) → KeepsHistory from past' now' ps None
+kept_opened from past now past' now' ps r holds at run some = subst (λ (k : ℕ). KeepsHistory k past' now' ps None) (sym at) (record {
   begun = longer past now past' now' (λ c. records c ≡ Holds ps) each;
   history = history_begins past now past' now' ps each one;
-  fronts = λ sound. fronts_begin past now past' now' ps each one;
+  prefixes = λ sound. prefixes_begin past now past' now' ps each one;
 })
   where
     each : LeavesOnly past now past' now' (λ c. records c ≡ Holds ps)

@@ -9,3 +9,6 @@ pub mod Steps
 pub mod Torn
 pub mod Whole
 pub mod Written
+pub mod Framing
+pub mod HistoryLaws
+pub mod Resting

@@ -1,60 +1,111 @@
 -- The calls of a repair, one after another, over what a disk tells.
-use Rattle.std.specs.Prelude.{◌≡◌, ℕ, ◌+◌, ◌≤◌, List, [], ◌∷◌, ◌++◌, length, take, drop, refl}
+use Rattle.std.specs.Prelude.{◌≡◌, ℕ, ◌+◌, ◌≤◌, true, List, [], ◌∷◌, ◌++◌, length, take, drop, refl}
 use Rattle.std.proofs.Common.{arith, ap, subst, sym, ◌∙◌, inl, length-drop, take-append-drop}
 use Rattle.std.proofs.lemmas.List.{append-nil, drop_all}
-use Rattle.outside.specs.Images.{IsImage, LeavesOnly, Goes, Fails, written, shortened, resting, synced, overwritten}
-use Rattle.outside.specs.Passing.{started, goes_on, fails_on}
+use Rattle.std.specs.List.{list_all}
+use Rattle.outside.specs.Images.{IsImage, AtRest, LeavesOnly, Goes, Fails, moment_after_write, moment_after_cut, resting, moment_after_sync, overwritten}
+use Rattle.outside.specs.Lemmas.Passing.{started, goes_on, fails_on, weaker, joined}
 use Rattle.outside.specs.declared.moment.Moment.{Moment}
 use Rattle.node_journal.specs.Gate.{IsBefore}
-use Rattle.node_journal.specs.Records.{mark}
-use Rattle.node_journal.specs.Repairs.{IsFrontAndOne}
-use Rattle.node_journal.proofs.Torn.{rested, same_front, outside_one}
+use Rattle.node_journal.specs.Records.{mark, records, Holds}
+use Rattle.node_journal.specs.Frames.{has_small_length, end_of}
+use Rattle.node_journal.specs.Index.{ReadsTo, EndsAt}
+use Rattle.node_journal.specs.History.{SomeFrom, Anything}
+use Rattle.node_journal.specs.Repairs.{IsPrefixAndOne}
+use Rattle.node_journal.proofs.Ends.{reads_records, nil_of, short_holds, one_records, prefix_after}
+use Rattle.node_journal.proofs.HistoryLaws.{some_none, some_goes, some_fails, some_joined, can_seen}
+use Rattle.node_journal.proofs.Rested.{sync_fails, sync_goes}
+use Rattle.node_journal.proofs.Torn.{rested, same_prefix, outside_one}
 
--- one call and a sync, where a crash leaves bytes that have P before, in between and after
-module _ (P : List ℕ → Type 0) (p : List Moment) (n done : Moment) (before : (c : List ℕ) → IsImage n c → P c) (between : (c : List ℕ) → IsImage done c → P c) (after : P done.seen) where
-  pub first_fails : (p1 : List Moment) (n1 : Moment) → Fails p n p1 n1 done → LeavesOnly p n p1 n1 P
-  first_fails p1 n1 f = fails_on p p p1 n n n1 done P (started p n P before) f before between
+-- a crash before a call, in its midst, and at rest after it leaves bytes that have P
+pub record IsStepOver (P : List ℕ → Type 0) (n done : Moment) : Type 0 where
+  pub before : (c : List ℕ) → IsImage n c → P c
+  pub between : (c : List ℕ) → IsImage done c → P c
+  pub after : P done.seen
 
-  resting_after : (c : List ℕ) → IsImage (synced done) c → P c
-  resting_after c is = subst P (sym (rested done.seen c is)) after
+-- one such call and a sync
+pub first_fails : {P : List ℕ → Type 0} {p : List Moment} {n done : Moment} {p1 : List Moment} {n1 : Moment} → IsStepOver P n done → Fails p n p1 n1 done → LeavesOnly p n p1 n1 P
+first_fails {P = P} {p = p} {n = n} {done = done} {p1 = p1} {n1 = n1} h f = fails_on p p p1 n n n1 done P (started p n P h.before) f h.before h.between
 
-  module _ (p1 : List Moment) (n1 : Moment) (g1 : Goes p n p1 n1 done) where
-    so_far : LeavesOnly p n p1 n1 P
-    so_far = goes_on p p p1 n n n1 done P (started p n P before) g1 between
+module _ {P : List ℕ → Type 0} {p : List Moment} {n done : Moment} {p1 : List Moment} {n1 : Moment} (h : IsStepOver P n done) (g1 : Goes p n p1 n1 done) where
+  so_far : LeavesOnly p n p1 n1 P
+  so_far = goes_on p p p1 n n n1 done P (started p n P h.before) g1 h.between
 
-    here : (c : List ℕ) → IsImage n1 c → P c
-    here c is = between c (subst (λ m. IsImage m c) g1.came is)
+  here : (c : List ℕ) → IsImage n1 c → P c
+  here c is = h.between c (subst (λ m. IsImage m c) g1.came is)
 
-    there : (c : List ℕ) → IsImage (synced n1) c → P c
-    there c is = resting_after c (subst (λ m. IsImage (synced m) c) g1.came is)
+  there : (c : List ℕ) → IsImage (moment_after_sync n1) c → P c
+  there c is = subst P (sym (rested done.seen c (subst (λ m. IsImage (moment_after_sync m) c) g1.came is))) h.after
 
-    pub second_fails : (p2 : List Moment) (n2 : Moment) → Fails p1 n1 p2 n2 (synced n1) → LeavesOnly p n p2 n2 P
-    second_fails p2 n2 f = fails_on p p1 p2 n n1 n2 (synced n1) P so_far f here there
+  pub second_fails : {p2 : List Moment} {n2 : Moment} → Fails p1 n1 p2 n2 (moment_after_sync n1) → LeavesOnly p n p2 n2 P
+  second_fails {p2 = p2} {n2 = n2} f = fails_on p p1 p2 n n1 n2 (moment_after_sync n1) P so_far f here there
 
-    pub both_go : (p2 : List Moment) (n2 : Moment) → Goes p1 n1 p2 n2 (synced n1) → LeavesOnly p n p2 n2 P
-    both_go p2 n2 g = goes_on p p1 p2 n n1 n2 (synced n1) P so_far g there
+  pub both_go : {p2 : List Moment} {n2 : Moment} → Goes p1 n1 p2 n2 (moment_after_sync n1) → LeavesOnly p n p2 n2 P
+  both_go {p2 = p2} {n2 = n2} g = goes_on p p1 p2 n n1 n2 (moment_after_sync n1) P so_far g there
 
-    pub is_done : (p2 : List Moment) (n2 : Moment) → Goes p1 n1 p2 n2 (synced n1) → n2 ≡ resting done.seen
-    is_done p2 n2 g = g.came ∙ ap synced g1.came
+-- at each moment of two calls a crash can leave something
+pub one_may_fail : {p : List Moment} {n done : Moment} {p1 : List Moment} {n1 : Moment} → IsImage n n.seen → Fails p n p1 n1 done → SomeFrom (length p) p1 Anything
+one_may_fail {p = p} {n = n} {done = done} {p1 = p1} {n1 = n1} seen f = some_fails (length p) p n p1 n1 done Anything (some_none p Anything) (can_seen n seen) f
+
+pub one_may_go : {p : List Moment} {n done : Moment} {p1 : List Moment} {n1 : Moment} → IsImage n n.seen → Goes p n p1 n1 done → SomeFrom (length p) p1 Anything
+one_may_go {p = p} {n = n} {done = done} {p1 = p1} {n1 = n1} seen g = some_goes (length p) p n p1 n1 done Anything (some_none p Anything) (can_seen n seen) g
+
+module _ {p : List Moment} {n done : Moment} {p1 : List Moment} {n1 : Moment} (seen : IsImage n n.seen) (g : Goes p n p1 n1 done) (later : IsImage n1 n1.seen) where
+  pub two_may_fail : {p2 : List Moment} {n2 next : Moment} → Fails p1 n1 p2 n2 next → SomeFrom (length p) p2 Anything
+  two_may_fail {p2 = p2} {n2 = n2} {next = next} f = some_fails (length p) p1 n1 p2 n2 next Anything (one_may_go seen g) (can_seen n1 later) f
+
+  pub two_may_go : {p2 : List Moment} {n2 next : Moment} → Goes p1 n1 p2 n2 next → SomeFrom (length p) p2 Anything
+  two_may_go {p2 = p2} {n2 = n2} {next = next} k = some_goes (length p) p1 n1 p2 n2 next Anything (one_may_go seen g) (can_seen n1 later) k
+
+-- the bytes are those of a journal of these payloads
+abbrev HasAll : List (List ℕ) → List ℕ → Type 0
+HasAll ps c = records c ≡ Holds ps
+
+-- a sync of a disk that reads as these payloads, and then a repair of its end
+module _ {p : List Moment} {n : Moment} {p1 : List Moment} {n1 : Moment} (ps : List (List ℕ)) (small : list_all has_small_length ps ≡ true) (rests : AtRest n) (reads : ReadsTo n.seen ps) where
+  pub unsynced : Fails p n p1 n1 (moment_after_sync n) → LeavesOnly p n p1 n1 (HasAll ps)
+  unsynced f = sync_fails (HasAll ps) p n rests (reads_records n.seen ps small reads) p1 n1 f
+
+  pub then_ended : {p2 : List Moment} {n2 : Moment} → Goes p n p1 n1 (moment_after_sync n) → LeavesOnly p1 n1 p2 n2 (HasAll ps) → LeavesOnly p n p2 n2 (HasAll ps)
+  then_ended {p2 = p2} {n2 = n2} g run = joined p p1 p2 n n1 n2 (HasAll ps) (sync_goes (HasAll ps) p n rests (reads_records n.seen ps small reads) p1 n1 g) run
+
+  pub then_renewed : {p2 : List Moment} {n2 : Moment} → length n.seen ≤ 9 → Goes p n p1 n1 (moment_after_sync n) → LeavesOnly p1 n1 p2 n2 (λ c. length c ≤ 9) → LeavesOnly p n p2 n2 (HasAll ps)
+  then_renewed {p2 = p2} {n2 = n2} short g run = then_ended g (weaker p1 n1 p2 n2 (λ c. length c ≤ 9) (HasAll ps) (short_holds ps (nil_of n.seen ps reads short)) run)
+
+-- the closed gate, after what stood behind it was taken away
+pub shut_after : {p : List Moment} {n : Moment} {p1 : List Moment} {n1 : Moment} {p2 : List Moment} {n2 : Moment} {e : ℕ} (ps : List (List ℕ)) → list_all has_small_length ps ≡ true → EndsAt n.seen ps (end_of ps) → e ≡ end_of ps
+    → n1 ≡ resting (take (end_of ps + 1) n.seen) → LeavesOnly p n p1 n1 (HasAll ps) → LeavesOnly p1 n1 p2 n2 (IsPrefixAndOne (take e n1.seen)) → LeavesOnly p n p2 n2 (HasAll ps)
+shut_after {p = p} {n = n} {p1 = p1} {n1 = n1} {p2 = p2} {n2 = n2} {e = e} ps small ends place trimmed first next =
+    joined p p1 p2 n n1 n2 (HasAll ps) first
+    (weaker p1 n1 p2 n2 (IsPrefixAndOne (take e n1.seen)) (HasAll ps) (λ c is. one_records ps n.seen (end_of ps) small ends (take e n1.seen) c (prefix_after ps n.seen n1 e ends place trimmed) is) next)
+
+-- one run, and then another
+pub runs_may : {from : ℕ} {p1 : List Moment} {n1 : Moment} {p2 : List Moment} {n2 : Moment} {Q : List ℕ → Type 0} → LeavesOnly p1 n1 p2 n2 Q → SomeFrom from p1 Anything → SomeFrom (length p1) p2 Anything → SomeFrom from p2 Anything
+runs_may {from = from} {p1 = p1} {n1 = n1} {p2 = p2} {n2 = n2} {Q = Q} run first next = some_joined from p1 n1 p2 n2 Anything Q run first next
+
+-- a sync, and then a run
+pub then_may : {p : List Moment} {n done : Moment} {p1 : List Moment} {n1 : Moment} {p2 : List Moment} {n2 : Moment} {Q : List ℕ → Type 0} → IsImage n n.seen → Goes p n p1 n1 done
+    → LeavesOnly p1 n1 p2 n2 Q → SomeFrom (length p1) p2 Anything → SomeFrom (length p) p2 Anything
+then_may seen g run next = runs_may run (one_may_go seen g) next
 
 -- a write of 9 bytes over at most 9
-pub short_write : (file bytes c : List ℕ) → length file ≤ 9 → length bytes ≡ 9 → IsImage (written 0 bytes (resting file)) c → length c ≤ 9
+pub short_write : (file bytes c : List ℕ) → length file ≤ 9 → length bytes ≡ 9 → IsImage (moment_after_write 0 bytes (resting file)) c → length c ≤ 9
 short_write file bytes c short nine is = omega (arith, is.no_longer, short, nine)
 
 pub over_short : (file bytes : List ℕ) → length file ≤ 9 → length bytes ≡ 9 → overwritten 0 bytes file ≡ bytes
 over_short file bytes short nine = ap (λ (l : List ℕ). bytes ++ l) (drop_all (0 + length bytes) file (omega (arith, short, nine))) ∙ append-nil bytes
 
 -- a cut leaves the front
-pub cut_image : (file c : List ℕ) (n : ℕ) → n ≤ length file → IsImage (shortened n (resting file)) c → IsBefore (take n file) c
+pub cut_image : (file c : List ℕ) (n : ℕ) → n ≤ length file → IsImage (moment_after_cut n (resting file)) c → IsBefore (take n file) c
 cut_image file c n le is =
-    let front : take n c ≡ take n file = same_front n c file (omega (arith, is.no_shorter, le)) le (λ i lt. is.elsewhere i (omega (arith, lt, le)) refl) in
-    (drop n c, sym (take-append-drop n c) ∙ ap (λ (l : List ℕ). l ++ drop n c) front)
+    let prefix : take n c ≡ take n file = same_prefix n c file (omega (arith, is.no_shorter, le)) le (λ i lt. is.elsewhere i (omega (arith, lt, le)) refl) in
+    (drop n c, sym (take-append-drop n c) ∙ ap (λ (l : List ℕ). l ++ drop n c) prefix)
 
 -- a byte at the end leaves the front and at most one byte
-pub end_image : (file c : List ℕ) (end : ℕ) → end ≤ length file → length file ≤ end + 1 → IsImage (written end (0 ∷ []) (resting file)) c → IsFrontAndOne (take end file) c
+pub end_image : (file c : List ℕ) (end : ℕ) → end ≤ length file → length file ≤ end + 1 → IsImage (moment_after_write end (0 ∷ []) (resting file)) c → IsPrefixAndOne (take end file) c
 end_image file c end le last is =
-    let front : take end c ≡ take end file = same_front end c file (omega (arith, is.no_shorter, le)) le (λ i lt. is.elsewhere i (omega (arith, lt, le)) (outside_one end 1 i (inl lt))) in
-    (drop end c, sym (take-append-drop end c) ∙ ap (λ (l : List ℕ). l ++ drop end c) front, omega (arith, length-drop end c, is.no_longer, last))
+    let prefix : take end c ≡ take end file = same_prefix end c file (omega (arith, is.no_shorter, le)) le (λ i lt. is.elsewhere i (omega (arith, lt, le)) (outside_one end 1 i (inl lt))) in
+    (drop end c, sym (take-append-drop end c) ∙ ap (λ (l : List ℕ). l ++ drop end c) prefix, omega (arith, length-drop end c, is.no_longer, last))
 
 pub end_is : (file : List ℕ) (end : ℕ) → length file ≤ end + 1 → overwritten end (0 ∷ []) file ≡ take end file ++ 0 ∷ []
 end_is file end last = ap (λ (l : List ℕ). (take end file ++ 0 ∷ []) ++ l) (drop_all (end + 1) file (omega (arith, last))) ∙ append-nil (take end file ++ 0 ∷ [])
@@ -63,63 +114,24 @@ end_is file end last = ap (λ (l : List ℕ). (take end file ++ 0 ∷ []) ++ l) 
 pub file_rests : (n : Moment) → n ≡ resting n.seen → (c : List ℕ) → IsImage n c → c ≡ n.seen
 file_rests n rest c is = rested n.seen c (subst (λ m. IsImage m c) rest is)
 
-module _ (p : List Moment) (n : Moment) (rest : n ≡ resting n.seen) (end : ℕ) (within : end + 1 ≤ length n.seen) where
-  cut_before : (c : List ℕ) → IsImage n c → IsBefore (take (end + 1) n.seen) c
-  cut_before c is = (drop (end + 1) n.seen, file_rests n rest c is ∙ sym (take-append-drop (end + 1) n.seen))
+pub cut_step : (n : Moment) → n ≡ resting n.seen → (end : ℕ) → end + 1 ≤ length n.seen → IsStepOver (IsBefore (take (end + 1) n.seen)) n (moment_after_cut (end + 1) n)
+cut_step n rest end within = record {
+  before = λ c is. (drop (end + 1) n.seen, file_rests n rest c is ∙ sym (take-append-drop (end + 1) n.seen));
+  between = λ c is. cut_image n.seen c (end + 1) within (subst (λ m. IsImage (moment_after_cut (end + 1) m) c) rest is);
+  after = ([], sym (append-nil (take (end + 1) n.seen)));
+}
 
-  cut_between : (c : List ℕ) → IsImage (shortened (end + 1) n) c → IsBefore (take (end + 1) n.seen) c
-  cut_between c is = cut_image n.seen c (end + 1) within (subst (λ m. IsImage (shortened (end + 1) m) c) rest is)
-
-  cut_after : IsBefore (take (end + 1) n.seen) (shortened (end + 1) n).seen
-  cut_after = ([], sym (append-nil (take (end + 1) n.seen)))
-
-  pub cut_first_fails : (p1 : List Moment) (n1 : Moment) → Fails p n p1 n1 (shortened (end + 1) n) → LeavesOnly p n p1 n1 (IsBefore (take (end + 1) n.seen))
-  cut_first_fails = first_fails (IsBefore (take (end + 1) n.seen)) p n (shortened (end + 1) n) cut_before cut_between cut_after
-
-  pub cut_second_fails : (p1 : List Moment) (n1 : Moment) → Goes p n p1 n1 (shortened (end + 1) n) → (p2 : List Moment) (n2 : Moment) → Fails p1 n1 p2 n2 (synced n1) → LeavesOnly p n p2 n2 (IsBefore (take (end + 1) n.seen))
-  cut_second_fails = second_fails (IsBefore (take (end + 1) n.seen)) p n (shortened (end + 1) n) cut_before cut_between cut_after
-
-  pub cut_goes : (p1 : List Moment) (n1 : Moment) → Goes p n p1 n1 (shortened (end + 1) n) → (p2 : List Moment) (n2 : Moment) → Goes p1 n1 p2 n2 (synced n1) → LeavesOnly p n p2 n2 (IsBefore (take (end + 1) n.seen))
-  cut_goes = both_go (IsBefore (take (end + 1) n.seen)) p n (shortened (end + 1) n) cut_before cut_between cut_after
-
-module _ (p : List Moment) (n : Moment) (rest : n ≡ resting n.seen) (end : ℕ) (within : end ≤ length n.seen) (last : length n.seen ≤ end + 1) where
-  shut_before : (c : List ℕ) → IsImage n c → IsFrontAndOne (take end n.seen) c
-  shut_before c is = (drop end n.seen, file_rests n rest c is ∙ sym (take-append-drop end n.seen), omega (arith, length-drop end n.seen, last))
-
-  shut_between : (c : List ℕ) → IsImage (written end (0 ∷ []) n) c → IsFrontAndOne (take end n.seen) c
-  shut_between c is = end_image n.seen c end within last (subst (λ m. IsImage (written end (0 ∷ []) m) c) rest is)
-
-  shut_after : IsFrontAndOne (take end n.seen) (written end (0 ∷ []) n).seen
-  shut_after = (0 ∷ [], end_is n.seen end last, omega arith)
-
-  pub shut_first_fails : (p1 : List Moment) (n1 : Moment) → Fails p n p1 n1 (written end (0 ∷ []) n) → LeavesOnly p n p1 n1 (IsFrontAndOne (take end n.seen))
-  shut_first_fails = first_fails (IsFrontAndOne (take end n.seen)) p n (written end (0 ∷ []) n) shut_before shut_between shut_after
-
-  pub shut_second_fails : (p1 : List Moment) (n1 : Moment) → Goes p n p1 n1 (written end (0 ∷ []) n) → (p2 : List Moment) (n2 : Moment) → Fails p1 n1 p2 n2 (synced n1) → LeavesOnly p n p2 n2 (IsFrontAndOne (take end n.seen))
-  shut_second_fails = second_fails (IsFrontAndOne (take end n.seen)) p n (written end (0 ∷ []) n) shut_before shut_between shut_after
-
-  pub shut_goes : (p1 : List Moment) (n1 : Moment) → Goes p n p1 n1 (written end (0 ∷ []) n) → (p2 : List Moment) (n2 : Moment) → Goes p1 n1 p2 n2 (synced n1) → LeavesOnly p n p2 n2 (IsFrontAndOne (take end n.seen))
-  shut_goes = both_go (IsFrontAndOne (take end n.seen)) p n (written end (0 ∷ []) n) shut_before shut_between shut_after
+pub shut_step : (n : Moment) → n ≡ resting n.seen → (end : ℕ) → end ≤ length n.seen → length n.seen ≤ end + 1 → IsStepOver (IsPrefixAndOne (take end n.seen)) n (moment_after_write end (0 ∷ []) n)
+shut_step n rest end within last = record {
+  before = λ c is. (drop end n.seen, file_rests n rest c is ∙ sym (take-append-drop end n.seen), omega (arith, length-drop end n.seen, last));
+  between = λ c is. end_image n.seen c end within last (subst (λ m. IsImage (moment_after_write end (0 ∷ []) m) c) rest is);
+  after = (0 ∷ [], end_is n.seen end last, omega arith);
+}
 
 -- at most as long as the file of no payload
-abbrev pub IsShort : List ℕ → Type 0
-IsShort c = length c ≤ 9
-
-module _ (p : List Moment) (n : Moment) (rest : n ≡ resting n.seen) (short : length n.seen ≤ 9) where
-  renew_before : (c : List ℕ) → IsImage n c → IsShort c
-  renew_before c is = omega (arith, short, ap length (file_rests n rest c is))
-
-  renew_between : (c : List ℕ) → IsImage (written 0 (mark ++ 0 ∷ []) n) c → IsShort c
-  renew_between c is = short_write n.seen (mark ++ 0 ∷ []) c short refl (subst (λ m. IsImage (written 0 (mark ++ 0 ∷ []) m) c) rest is)
-
-  renew_after : IsShort (written 0 (mark ++ 0 ∷ []) n).seen
-  renew_after = omega (arith, ap length (over_short n.seen (mark ++ 0 ∷ []) short refl))
-
-  pub renew_first_fails : (p1 : List Moment) (n1 : Moment) → Fails p n p1 n1 (written 0 (mark ++ 0 ∷ []) n) → LeavesOnly p n p1 n1 (IsShort)
-  renew_first_fails = first_fails (IsShort) p n (written 0 (mark ++ 0 ∷ []) n) renew_before renew_between renew_after
-
-  pub renew_second_fails : (p1 : List Moment) (n1 : Moment) → Goes p n p1 n1 (written 0 (mark ++ 0 ∷ []) n) → (p2 : List Moment) (n2 : Moment) → Fails p1 n1 p2 n2 (synced n1) → LeavesOnly p n p2 n2 (IsShort)
-  renew_second_fails = second_fails (IsShort) p n (written 0 (mark ++ 0 ∷ []) n) renew_before renew_between renew_after
-
-  pub renew_goes : (p1 : List Moment) (n1 : Moment) → Goes p n p1 n1 (written 0 (mark ++ 0 ∷ []) n) → (p2 : List Moment) (n2 : Moment) → Goes p1 n1 p2 n2 (synced n1) → LeavesOnly p n p2 n2 (IsShort)
-  renew_goes = both_go (IsShort) p n (written 0 (mark ++ 0 ∷ []) n) renew_before renew_between renew_after
+pub renew_step : (n : Moment) → n ≡ resting n.seen → length n.seen ≤ 9 → IsStepOver (λ c. length c ≤ 9) n (moment_after_write 0 (mark ++ 0 ∷ []) n)
+renew_step n rest short = record {
+  before = λ c is. omega (arith, short, ap length (file_rests n rest c is));
+  between = λ c is. short_write n.seen (mark ++ 0 ∷ []) c short refl (subst (λ m. IsImage (moment_after_write 0 (mark ++ 0 ∷ []) m) c) rest is);
+  after = omega (arith, ap length (over_short n.seen (mark ++ 0 ∷ []) short refl));
+}

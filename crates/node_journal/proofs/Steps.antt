@@ -9,9 +9,9 @@ use Rattle.std.proofs.lemmas.List.Folds.{list_all-append}
 use Rattle.std.proofs.lemmas.Nat.{le_bytes_4}
 use Rattle.std.specs.List.{list_all}
 use Rattle.std.specs.Int.{w32, to_le_bytes, from_le_bytes}
-use Rattle.node_journal.specs.Records.{Holds, BrokenAt, mark, is_open, size_at, is_whole, payload_of, records}
-use Rattle.node_journal.specs.Frames.{frame, framed, places_from, payloads_at, end_of, is_small}
-use Rattle.node_journal.specs.Framing.{framed-append, places-append, records_closed, records_broken}
+use Rattle.node_journal.specs.Records.{Holds, BrokenAt, mark, is_gate_open, size_at, is_whole, payload_of, records}
+use Rattle.node_journal.specs.Frames.{frame, frames_of, places_from, payloads_at, end_of, has_small_length}
+use Rattle.node_journal.proofs.Framing.{frames_of-append, places-append, records_closed, records_broken}
 use Rattle.node_journal.specs.Index.{IsIndexed, EndsAt}
 
 whole_is : (rest : List ℕ) → is_whole rest ≡ true → 5 + size_at rest ≤ length rest
@@ -20,7 +20,7 @@ whole_is rest h = truth (5 + size_at rest) (length rest) h
     truth : (a b : ℕ) → nat_le a b ≡ true → a ≤ b
     truth a b h = grind (arith, nat_tests)
 
-gate_is : (rest : List ℕ) → is_open rest ≡ true → slice_index rest 0 ≡ 1
+gate_is : (rest : List ℕ) → is_gate_open rest ≡ true → slice_index rest 0 ≡ 1
 gate_is rest h = truth (nat_lt 1 (length rest)) (slice_index rest 0) h
   where
     truth : (b : Bool) (g : ℕ) → (b && nat_eq g 1) ≡ true → g ≡ 1
@@ -28,7 +28,7 @@ gate_is rest h = truth (nat_lt 1 (length rest)) (slice_index rest 0) h
     truth false g h = cc
 
 -- the bytes of a whole frame are those that its payload is written with
-frame_is : (rest : List ℕ) → ((i : ℕ) → get_or rest i 0 < 256) → is_open rest ≡ true → 5 + size_at rest ≤ length rest → take (5 + size_at rest) rest ≡ frame (payload_of rest)
+frame_is : (rest : List ℕ) → ((i : ℕ) → get_or rest i 0 < 256) → is_gate_open rest ≡ true → 5 + size_at rest ≤ length rest → take (5 + size_at rest) rest ≡ frame (payload_of rest)
 frame_is [] bytes opened le = absurd (omega (arith, le))
 frame_is (a ∷ []) bytes opened le = absurd (omega (arith, le))
 frame_is (a ∷ b ∷ []) bytes opened le = absurd (omega (arith, le))
@@ -72,26 +72,26 @@ module _ (file places : List ℕ) (gate : ℕ) (is : IsIndexed file places gate)
   rest = drop gate file
 
   -- the gate stands behind the frames before it
-  pub gate_at : gate ≡ 8 + length (framed ps)
+  pub gate_at : gate ≡ 8 + length (frames_of ps)
   gate_at =
-      let len : length (mark ++ framed ps) ≡ 8 + length (framed ps) = omega (arith, length-append mark (framed ps)) in
+      let len : length (mark ++ frames_of ps) ≡ 8 + length (frames_of ps) = omega (arith, length-append mark (frames_of ps)) in
       let taken : length (take gate file) ≡ gate = omega (arith, length-take gate file, is.within) in
-      sym taken ∙ ap length is.front ∙ len
+      sym taken ∙ ap length is.prefix ∙ len
 
-  pub split : file ≡ mark ++ framed ps ++ rest
-  split = sym (take-append-drop gate file) ∙ ap (λ (l : List ℕ). l ++ rest) is.front
+  pub split : file ≡ mark ++ frames_of ps ++ rest
+  split = sym (take-append-drop gate file) ∙ ap (λ (l : List ℕ). l ++ rest) is.prefix
 
-  pub broken : is_open rest ≡ true → is_whole rest ≡ false → records file ≡ BrokenAt gate
+  pub broken : is_gate_open rest ≡ true → is_whole rest ≡ false → records file ≡ BrokenAt gate
   broken opened cut = ap records split ∙ records_broken ps rest is.small opened cut ∙ ap BrokenAt (sym gate_at)
 
-  pub closed : is_open rest ≡ false → records file ≡ Holds ps
+  pub closed : is_gate_open rest ≡ false → records file ≡ Holds ps
   closed shut = ap records split ∙ records_closed ps rest is.small shut
 
-  pub ends : is_open rest ≡ false → EndsAt file ps (end_of ps)
-  ends shut = subst (λ (e : ℕ). EndsAt file ps e) gate_at (record { front = is.front; within = is.within; closed = shut })
+  pub ends : is_gate_open rest ≡ false → EndsAt file ps (end_of ps)
+  ends shut = subst (λ (e : ℕ). EndsAt file ps e) gate_at (record { prefix = is.prefix; within = is.within; closed = shut })
 
-  pub next : ((i : ℕ) → get_or file i 0 < 256) → is_open rest ≡ true → is_whole rest ≡ true → size_at rest < 2 ^ 32 → IsIndexed file (places ++ gate ∷ []) (gate + (5 + size_at rest))
-  next bytes opened whole small = record { within = omega (arith, fits, is.within, length-drop gate file); front = front; places_are = places_are; small = all_small }
+  pub next : ((i : ℕ) → get_or file i 0 < 256) → is_gate_open rest ≡ true → is_whole rest ≡ true → size_at rest < 2 ^ 32 → IsIndexed file (places ++ gate ∷ []) (gate + (5 + size_at rest))
+  next bytes opened whole small = record { within = omega (arith, fits, is.within, length-drop gate file); prefix = prefix; places_are = places_are; small = all_small }
     where
       p : List ℕ
       p = payload_of rest
@@ -105,17 +105,17 @@ module _ (file places : List ℕ) (gate : ℕ) (is : IsIndexed file places gate)
       behind : (i : ℕ) → get_or rest i 0 < 256
       behind i = let same : get_or rest i 0 ≡ get_or file (gate + i) 0 = grind (arith, common_steps) in omega (arith, same, bytes (gate + i))
 
-      framed_more : framed (ps ++ p ∷ []) ≡ framed ps ++ frame p
-      framed_more = framed-append ps (p ∷ []) ∙ ap (λ (l : List ℕ). framed ps ++ l) (append-nil (frame p))
+      framed_more : frames_of (ps ++ p ∷ []) ≡ frames_of ps ++ frame p
+      framed_more = frames_of-append ps (p ∷ []) ∙ ap (λ (l : List ℕ). frames_of ps ++ l) (append-nil (frame p))
 
-      front : take (gate + (5 + size_at rest)) file ≡ mark ++ framed (payloads_at file (places ++ gate ∷ []))
-      front =
+      prefix : take (gate + (5 + size_at rest)) file ≡ mark ++ frames_of (payloads_at file (places ++ gate ∷ []))
+      prefix =
           take-add gate (5 + size_at rest) file
-          ∙ ap (λ (l : List ℕ). l ++ take (5 + size_at rest) rest) is.front
-          ∙ ap (λ (l : List ℕ). (mark ++ framed ps) ++ l) (frame_is rest behind opened fits)
-          ∙ append_assoc mark (framed ps) (frame p)
+          ∙ ap (λ (l : List ℕ). l ++ take (5 + size_at rest) rest) is.prefix
+          ∙ ap (λ (l : List ℕ). (mark ++ frames_of ps) ++ l) (frame_is rest behind opened fits)
+          ∙ append_assoc mark (frames_of ps) (frame p)
           ∙ sym (ap (λ (l : List ℕ). mark ++ l) framed_more)
-          ∙ sym (ap (λ (qs : List (List ℕ)). mark ++ framed qs) one_more)
+          ∙ sym (ap (λ (qs : List (List ℕ)). mark ++ frames_of qs) one_more)
 
       places_are : places ++ gate ∷ [] ≡ places_from 8 (payloads_at file (places ++ gate ∷ []))
       places_are =
@@ -124,7 +124,7 @@ module _ (file places : List ℕ) (gate : ℕ) (is : IsIndexed file places gate)
           ∙ sym (places-append 8 ps p)
           ∙ sym (ap (λ (qs : List (List ℕ)). places_from 8 qs) one_more)
 
-      little : is_small p ≡ true
+      little : has_small_length p ≡ true
       little = let short : length p ≤ size_at rest = omega (arith, length-take (size_at rest) (drop 5 rest)) in truth (length p) (omega (arith, short, small))
         where
           truth : (k : ℕ) → k < 2 ^ 32 → nat_lt k (2 ^ 32) ≡ true
@@ -133,8 +133,8 @@ module _ (file places : List ℕ) (gate : ℕ) (is : IsIndexed file places gate)
       both : (a b : Bool) → a ≡ true → b ≡ true → (a && (b && true)) ≡ true
       both a b x y = cc
 
-      all_small : list_all is_small (payloads_at file (places ++ gate ∷ [])) ≡ true
-      all_small = ap (λ (qs : List (List ℕ)). list_all is_small qs) one_more ∙ list_all-append is_small ps (p ∷ []) ∙ both (list_all is_small ps) (is_small p) is.small little
+      all_small : list_all has_small_length (payloads_at file (places ++ gate ∷ [])) ≡ true
+      all_small = ap (λ (qs : List (List ℕ)). list_all has_small_length qs) one_more ∙ list_all-append has_small_length ps (p ∷ []) ∙ both (list_all has_small_length ps) (has_small_length p) is.small little
 
 pub tail_is : (n : ℕ) (file : List ℕ) → take (length file - n) (drop n file) ≡ drop n file
 tail_is n file = take_all (length file - n) (drop n file) (omega (arith, length-drop n file))

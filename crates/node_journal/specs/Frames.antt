@@ -11,13 +11,13 @@ frame p = 1 ∷ to_le_bytes w32 (length p) ++ p
 abbrev pub tail_of : List ℕ → List ℕ
 tail_of p = to_le_bytes w32 (length p) ++ p ++ 0 ∷ []
 
-abbrev pub framed : List (List ℕ) → List ℕ
-framed [] = []
-framed (p ∷ ps) = frame p ++ framed ps
+abbrev pub frames_of : List (List ℕ) → List ℕ
+frames_of [] = []
+frames_of (p ∷ ps) = frame p ++ frames_of ps
 
 -- the whole file of these payloads, with a closed gate at its end
 abbrev pub file_of : List (List ℕ) → List ℕ
-file_of ps = mark ++ framed ps ++ 0 ∷ []
+file_of ps = mark ++ frames_of ps ++ 0 ∷ []
 
 -- the places of the gates, of which the first is given
 abbrev pub places_from : ℕ → List (List ℕ) → List ℕ
@@ -26,12 +26,12 @@ places_from at (p ∷ ps) = at ∷ places_from (at + 5 + length p) ps
 
 -- the place of the gate at the end
 abbrev pub end_of : List (List ℕ) → ℕ
-end_of ps = 8 + length (framed ps)
+end_of ps = 8 + length (frames_of ps)
 
 -- the payloads behind gates at these places
 abbrev pub payloads_at : List ℕ → List ℕ → List (List ℕ)
 payloads_at file places = map (λ place. payload_of (drop place file)) places
 
 -- a length fits its four bytes
-abbrev pub is_small : List ℕ → Bool
-is_small p = nat_lt (length p) (2 ^ 32)
+abbrev pub has_small_length : List ℕ → Bool
+has_small_length p = nat_lt (length p) (2 ^ 32)

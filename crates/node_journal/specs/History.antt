@@ -21,8 +21,8 @@ abbrev pub BeginsWith : List (List ℕ) → Records → Type 0
 BeginsWith ps r = first_of (length ps) r ≡ Holds ps
 
 -- there are payloads, and these begin with them
-abbrev pub IsFrontOf : List (List ℕ) → Records → Type 0
-IsFrontOf ps r = r ≡ Holds (take (count_of r) ps)
+abbrev pub IsPrefixOf : List (List ℕ) → Records → Type 0
+IsPrefixOf ps r = r ≡ Holds (take (count_of r) ps)
 
 -- one of two lists of payloads begins the other
 abbrev pub Agree : Records → Records → Type 0
@@ -41,8 +41,8 @@ abbrev pub SomeFrom : ℕ → List Moment → (List ℕ → Type 0) → Type 0
 SomeFrom from ms P = (i : ℕ) (m : Moment) → from ≤ i → slice_get ms i ≡ Some m → (c : List ℕ) × IsImage m c × P c
 
 -- the moments of the first list are the first of the second
-abbrev pub IsContinued : List Moment → List Moment → Type 0
-IsContinued ms more = (i : ℕ) (m : Moment) → slice_get ms i ≡ Some m → slice_get more i ≡ Some m
+abbrev pub ExtendsMoments : List Moment → List Moment → Type 0
+ExtendsMoments ms more = (i : ℕ) (m : Moment) → slice_get ms i ≡ Some m → slice_get more i ≡ Some m
 
 -- bytes of any kind
 abbrev pub Anything : List ℕ → Type 0
@@ -59,8 +59,8 @@ pub record IsHistory (from : ℕ) (ms : List Moment) : Type 0 where
   pub lasting : (i j : ℕ) (m n : Moment) (ps : List (List ℕ)) → from ≤ i → i ≤ j → slice_get ms i ≡ Some m → slice_get ms j ≡ Some n → Keeps ps m → Keeps ps n
 
 -- What a journal keeps of its disk, from the moment on at which it began to open it. The last is the disk's count at the fault by which it failed.
-pub record IsKept (from : ℕ) (past : List Moment) (now : Moment) (ps : List (List ℕ)) (fault : Option ℕ) : Type 0 where
+pub record KeepsHistory (from : ℕ) (past : List Moment) (now : Moment) (ps : List (List ℕ)) (fault : Option ℕ) : Type 0 where
   pub begun : from ≤ length past
   pub history : IsHistory from (past ++ now ∷ [])
-  -- while it is sound, each crash leaves a front of its payloads
-  pub fronts : fault ≡ None → EachFrom from (past ++ now ∷ []) (λ c. IsFrontOf ps (records c))
+  -- while it is sound, each crash leaves a prefix of its payloads
+  pub prefixes : fault ≡ None → EachFrom from (past ++ now ∷ []) (λ c. IsPrefixOf ps (records c))

@@ -1,12 +1,9 @@
 pub mod Appends
 pub mod Failing
 pub mod Frames
-pub mod Framing
 pub mod Gate
 pub mod History
-pub mod HistoryLaws
 pub mod Index
 pub mod Records
 pub mod Repairs
-pub mod Resting
 pub mod Views

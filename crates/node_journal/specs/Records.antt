@@ -16,8 +16,8 @@ pub data Records : Type 0 where
   BrokenAt : ℕ → Records
 
 -- These speak of the bytes from a gate on. The gate is open.
-abbrev pub is_open : List ℕ → Bool
-is_open rest = nat_lt 1 (length rest) && nat_eq (slice_index rest 0) 1
+abbrev pub is_gate_open : List ℕ → Bool
+is_gate_open rest = nat_lt 1 (length rest) && nat_eq (slice_index rest 0) 1
 
 -- the length that stands behind it
 abbrev pub size_at : List ℕ → ℕ
@@ -39,11 +39,11 @@ with_first p (BrokenAt place) = BrokenAt place
 
 -- The frames from a gate on, which stands at this place, up to the first that is closed. The first number is at least
 -- that of the frames.
-abbrev pub frames : ℕ → ℕ → List ℕ → Records
-frames zero place rest = Holds []
-frames (suc n) place rest =
-    if is_open rest
-    then (if is_whole rest then with_first (payload_of rest) (frames n (place + 5 + size_at rest) (drop (5 + size_at rest) rest)) else BrokenAt place)
+abbrev pub read_frames : ℕ → ℕ → List ℕ → Records
+read_frames zero place rest = Holds []
+read_frames (suc n) place rest =
+    if is_gate_open rest
+    then (if is_whole rest then with_first (payload_of rest) (read_frames n (place + 5 + size_at rest) (drop (5 + size_at rest) rest)) else BrokenAt place)
     else Holds []
 
 -- What a file holds. At most 9 bytes are an empty journal, whatever they are.
@@ -51,4 +51,4 @@ abbrev pub records : List ℕ → Records
 records file =
     if nat_le (length file) 9
     then Holds []
-    else (if starts_with nat_eq file mark then frames (length file) 8 (drop 8 file) else Foreign)
+    else (if starts_with nat_eq file mark then read_frames (length file) 8 (drop 8 file) else Foreign)

@@ -2,5 +2,5 @@
 use Rattle.std.specs.Prelude.{◌≡◌, ℕ, ◌≤◌, List, ◌++◌, length}
 
 -- these bytes stand first, and at most one behind them
-abbrev pub IsFrontAndOne : List ℕ → List ℕ → Type 0
-IsFrontAndOne front c = (rest : List ℕ) × (c ≡ front ++ rest) × (length rest ≤ 1)
+abbrev pub IsPrefixAndOne : List ℕ → List ℕ → Type 0
+IsPrefixAndOne prefix c = (rest : List ℕ) × (c ≡ prefix ++ rest) × (length rest ≤ 1)

@@ -1,10 +1,10 @@
 // The frame that stands at a gate.
 ghost use Rattle.std.specs.Prelude.{◌≡◌, ◌+◌, ◌<◌, ◌≤◌, ◌^◌, IfSome, List, ℕ, Bool, Some, None, true, false, nat_le, nat_eq, length, take, drop, if◌then◌else◌, IfOk, IsErrOf, IsTrue, slice_index};
-ghost use Rattle.node_journal.specs.Records.{is_open, is_whole, size_at, payload_of};
+ghost use Rattle.node_journal.specs.Records.{is_gate_open, is_whole, size_at, payload_of};
 
 /// Whether the gate at the front is open: it is 1 and not the last byte.
-pub fn is_open(rest: &[u8]) -> bool
-    ensures { result ≡ is_open rest.now }
+pub fn is_gate_open(rest: &[u8]) -> bool
+    ensures { result ≡ is_gate_open rest.now }
 {
     rest.len() > 1 && rest[0] == 1
 }

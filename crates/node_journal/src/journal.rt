@@ -3,7 +3,7 @@ ghost use Rattle.std.specs.Prelude.{◌≡◌, ◌⊎◌, ◌+◌, ◌<◌, ◌�
 ghost use Rattle.outside.specs.Faults.{Rose, Counts};
 ghost use Rattle.outside.specs.Images.{AtRest, LeavesOnly, Stands, resting};
 ghost use Rattle.node_journal.specs.Records.{records, Holds};
-ghost use Rattle.node_journal.specs.History.{EachFrom, SomeFrom, IsContinued, IsFrontOf, Keeps, IsKept};
+ghost use Rattle.node_journal.specs.History.{EachFrom, SomeFrom, ExtendsMoments, IsPrefixOf, Keeps, KeepsHistory};
 ghost use Rattle.node_journal.specs.Views.{payloads_of};
 ghost use Rattle.node_journal.specs.Frames.{file_of, tail_of, places_from};
 
@@ -22,7 +22,7 @@ pub struct Journal<D: Disk> {
     // The disk's clock before the journal was read.
     opened: u64,
     ghost rest: { D.tells ≡ true → fault ≡ None → D.now disk ≡ resting payloads.file.items },
-    ghost kept: { D.tells ≡ true → IsKept opened (D.past disk) (D.now disk) (payloads_of payloads) fault },
+    ghost kept: { D.tells ≡ true → KeepsHistory opened (D.past disk) (D.now disk) (payloads_of payloads) fault },
     ghost counted: { (n : ℕ) → fault ≡ Some n → D.count disk ≡ n },
 }
 
@@ -76,10 +76,10 @@ impl<D: Disk> Journal<D> {
         ensures acknowledged { D.tells ≡ true → OnOk result (D.now self.new.disk ≡ resting (file_of (payloads_of self.new.payloads))) }
         // A crash at any moment of the call leaves the payloads from before, or with the new one.
         ensures any_moment { D.tells ≡ true → self.old.fault ≡ None → LeavesOnly (D.past self.old.disk) (D.now self.old.disk) (D.past self.new.disk) (D.now self.new.disk) (IsWithOrWithout (payloads_of self.old.payloads) payload.now) }
-        // A crash at any moment since the journal was opened leaves a front of the payloads with the new one.
-        ensures since { D.tells ≡ true → self.old.fault ≡ None → EachFrom self.old.opened (D.past self.new.disk ++ D.now self.new.disk ∷ []) (λ c. IsFrontOf (payloads_of self.old.payloads ++ payload.now ∷ []) (records c)) }
+        // A crash at any moment since the journal was opened leaves a prefix of the payloads with the new one.
+        ensures since { D.tells ≡ true → self.old.fault ≡ None → EachFrom self.old.opened (D.past self.new.disk ++ D.now self.new.disk ∷ []) (λ c. IsPrefixOf (payloads_of self.old.payloads ++ payload.now ∷ []) (records c)) }
         ensures opened { self.new.opened ≡ self.old.opened }
-        ensures continued { D.tells ≡ true → IsContinued (D.past self.old.disk ++ D.now self.old.disk ∷ []) (D.past self.new.disk ++ D.now self.new.disk ∷ []) }
+        ensures continued { D.tells ≡ true → ExtendsMoments (D.past self.old.disk ++ D.now self.old.disk ∷ []) (D.past self.new.disk ++ D.now self.new.disk ∷ []) }
         // The count rises exactly where a sound journal answers `Disk`.
         ensures cause { self.old.fault ≡ None → Counts (D.count self.old.disk) (D.count self.new.disk) (fails_by_disk result) }
         ensures fails { self.old.fault ≡ None → IsErrOf result AppendFault.Disk → self.new.fault ≡ Some (D.count self.new.disk) }
@@ -138,7 +138,7 @@ impl<D: Disk> Journal<D> {
     /// crashes one leaves the payloads that the other leaves, or more. A failed journal keeps the count that rose. This
     /// computes nothing: its contract is for callers' proofs.
     pub fn history_holds(&self)
-        ensures kept { D.tells ≡ true → IsKept self.now.opened (D.past self.now.disk) (D.now self.now.disk) (payloads_of self.now.payloads) self.now.fault }
+        ensures kept { D.tells ≡ true → KeepsHistory self.now.opened (D.past self.now.disk) (D.now self.now.disk) (payloads_of self.now.payloads) self.now.fault }
         ensures held { D.tells ≡ true → self.now.fault ≡ None → Keeps (payloads_of self.now.payloads) (D.now self.now.disk) }
         ensures counted { (n : ℕ) → self.now.fault ≡ Some n → D.count self.now.disk ≡ n }
     {

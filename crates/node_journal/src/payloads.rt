@@ -5,7 +5,7 @@ ghost use Rattle.outside.specs.Faults.{Counts};
 ghost use Rattle.outside.specs.Images.{LeavesOnly, Stands, resting};
 ghost use Rattle.node_journal.specs.Appends.{IsWithOrWithout};
 ghost use Rattle.node_journal.specs.Failing.{fails_by_disk};
-ghost use Rattle.node_journal.specs.Frames.{file_of, places_from, payloads_at, end_of, is_small};
+ghost use Rattle.node_journal.specs.Frames.{file_of, places_from, payloads_at, end_of, has_small_length};
 ghost use Rattle.node_journal.specs.History.{SomeFrom};
 ghost use Rattle.node_journal.specs.Records.{records, Holds};
 
@@ -27,7 +27,7 @@ pub struct Payloads {
     pub(crate) places: Vec<u64>,
     ghost whole: { file.items ≡ file_of (payloads_at file.items places.items) },
     ghost placed: { places.items ≡ places_from 8 (payloads_at file.items places.items) },
-    ghost small: { list_all is_small (payloads_at file.items places.items) ≡ true },
+    ghost small: { list_all has_small_length (payloads_at file.items places.items) ≡ true },
 }
 
 impl Payloads {

@@ -1,9 +1,9 @@
 // A disk that reads as a journal is made into one whose end is a closed gate, and which is on the disk whole.
 ghost use Rattle.std.specs.Prelude.{◌≡◌, ◌+◌, ◌<◌, ◌^◌, ◌≤◌, ◌++◌, [], ◌∷◌, List, ℕ, true, length, take, OnOk, OnErr, is_err};
 ghost use Rattle.outside.specs.Faults.{Counts};
-ghost use Rattle.outside.specs.Images.{AtRest, LeavesOnly, Goes, Fails, resting, synced};
+ghost use Rattle.outside.specs.Images.{AtRest, LeavesOnly, Goes, Fails, resting, moment_after_sync};
 ghost use Rattle.node_journal.specs.Gate.{IsBefore};
-ghost use Rattle.node_journal.specs.Repairs.{IsFrontAndOne};
+ghost use Rattle.node_journal.specs.Repairs.{IsPrefixAndOne};
 ghost use Rattle.node_journal.specs.Records.{records, Holds, mark};
 ghost use Rattle.node_journal.specs.Frames.{file_of, end_of};
 ghost use Rattle.node_journal.specs.History.{SomeFrom, Anything};
@@ -29,8 +29,8 @@ fn renew<D: Disk>(disk: &mut D) -> Result<(), Failed>
 
 /// Waits until a cut is on the disk: only then may the gate in front of it be written.
 fn sync_cut<D: Disk>(disk: &mut D) -> Result<(), Failed>
-    ensures done { D.tells ≡ true → OnOk result (Goes (D.past disk.old) (D.now disk.old) (D.past disk.new) (D.now disk.new) (synced (D.now disk.old))) }
-    ensures failed { D.tells ≡ true → OnErr result (Fails (D.past disk.old) (D.now disk.old) (D.past disk.new) (D.now disk.new) (synced (D.now disk.old))) }
+    ensures done { D.tells ≡ true → OnOk result (Goes (D.past disk.old) (D.now disk.old) (D.past disk.new) (D.now disk.new) (moment_after_sync (D.now disk.old))) }
+    ensures failed { D.tells ≡ true → OnErr result (Fails (D.past disk.old) (D.now disk.old) (D.past disk.new) (D.now disk.new) (moment_after_sync (D.now disk.old))) }
     ensures cause { Counts (D.count disk.old) (D.count disk.new) (is_err result) }
 {
     disk.sync()?; // the cut
@@ -58,7 +58,7 @@ fn shut<D: Disk>(disk: &mut D, end: u64) -> Result<(), Failed>
     requires within { D.tells ≡ true → end ≤ length (D.now disk.old).seen }
     requires last { D.tells ≡ true → length (D.now disk.old).seen ≤ end + 1 }
     ensures done { D.tells ≡ true → OnOk result (D.now disk.new ≡ resting (take end (D.now disk.old).seen ++ 0 ∷ [])) }
-    ensures any_moment { D.tells ≡ true → LeavesOnly (D.past disk.old) (D.now disk.old) (D.past disk.new) (D.now disk.new) (IsFrontAndOne (take end (D.now disk.old).seen)) }
+    ensures any_moment { D.tells ≡ true → LeavesOnly (D.past disk.old) (D.now disk.old) (D.past disk.new) (D.now disk.new) (IsPrefixAndOne (take end (D.now disk.old).seen)) }
     ensures offers { D.tells ≡ true → SomeFrom (length (D.past disk.old)) (D.past disk.new) Anything }
     ensures cause { Counts (D.count disk.old) (D.count disk.new) (is_err result) }
 {

@@ -8,7 +8,7 @@ use std::test::Fail;
 const FILE: [u8; 27] = *b"BNCJRNL1\x01\x03\0\0\0one\x01\x05\0\0\0three\0";
 
 /// Adds `one` and `three` to an empty disk that stops at a call: how many were acknowledged, and the disk.
-#[tactic(auto, using(crate::specs::Resting::resting_rests))]
+#[tactic(auto, using(crate::proofs::Resting::resting_rests))]
 fn run(alloc: Global, stop: u64) -> Result<(usize, MemDisk), AllocError> {
     let disk = MemDisk::stopping_at(alloc, b"", stop)?;
     match Journal::start(alloc, disk) {

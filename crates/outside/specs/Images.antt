@@ -5,33 +5,33 @@ use Rattle.std.specs.List.{list_any}
 use Rattle.outside.specs.declared.moment.Moment.{Moment}
 
 -- the place lies in one of the ranges
-abbrev pub is_within : List (ℕ × ℕ) → ℕ → Bool
-is_within ranges i = list_any (λ r. nat_le r.0 i && nat_lt i (r.0 + r.1)) ranges
+abbrev pub is_in_ranges : List (ℕ × ℕ) → ℕ → Bool
+is_in_ranges ranges i = list_any (λ r. nat_le r.0 i && nat_lt i (r.0 + r.1)) ranges
 
 -- A crash at this moment may leave these bytes: any in the ranges that were written since the last sync, any or none past
 -- the least length since, up to the greatest, and elsewhere what was there at that sync.
 pub record IsImage (m : Moment) (c : List ℕ) : Type 0 where
   pub no_shorter : m.least ≤ length c
   pub no_longer : length c ≤ m.most
-  pub elsewhere : (i : ℕ) → i < m.least → is_within m.ranges i ≡ false → slice_index c i ≡ slice_index m.kept i
+  pub elsewhere : (i : ℕ) → i < m.least → is_in_ranges m.ranges i ≡ false → slice_index c i ≡ slice_index m.kept i
 
 -- the bytes with others written over them from a place on
 abbrev pub overwritten : ℕ → List ℕ → List ℕ → List ℕ
 overwritten at bytes old = take at old ++ bytes ++ drop (at + length bytes) old
 
 -- the moment after a write, a cut and a sync that succeed
-abbrev pub written : ℕ → List ℕ → Moment → Moment
-written at bytes m = record { seen = overwritten at bytes m.seen; kept = m.kept; ranges = m.ranges ++ (at, length bytes) ∷ []; least = m.least; most = max m.most (at + length bytes) }
+abbrev pub moment_after_write : ℕ → List ℕ → Moment → Moment
+moment_after_write at bytes m = record { seen = overwritten at bytes m.seen; kept = m.kept; ranges = m.ranges ++ (at, length bytes) ∷ []; least = m.least; most = max m.most (at + length bytes) }
 
-abbrev pub shortened : ℕ → Moment → Moment
-shortened size m = record { seen = take size m.seen; kept = m.kept; ranges = m.ranges; least = min m.least size; most = m.most }
+abbrev pub moment_after_cut : ℕ → Moment → Moment
+moment_after_cut size m = record { seen = take size m.seen; kept = m.kept; ranges = m.ranges; least = min m.least size; most = m.most }
 
 -- a disk of which a crash leaves these bytes and nothing else
 abbrev pub resting : List ℕ → Moment
 resting bytes = record { seen = bytes; kept = bytes; ranges = []; least = length bytes; most = length bytes }
 
-abbrev pub synced : Moment → Moment
-synced m = resting m.seen
+abbrev pub moment_after_sync : Moment → Moment
+moment_after_sync m = resting m.seen
 
 -- A crash leaves what a read gives, and nothing else.
 abbrev pub AtRest : Moment → Type 0

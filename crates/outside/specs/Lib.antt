@@ -3,7 +3,6 @@ pub mod Faults
 pub mod Images
 pub mod InMemory
 pub mod OnDisk
-pub mod Passing
 pub mod Replay
-pub mod SeenIsImage
 pub mod Stream
+pub mod Lemmas

@@ -1,8 +1,7 @@
 -- What a disk in memory tells.
-use Rattle.std.specs.Prelude.{◌≡◌, ℕ, List, Option, length}
-use Rattle.outside.specs.Images.{IsImage, resting}
-use Rattle.outside.specs.Replay.{replay, moments, length-moments}
-use Rattle.outside.specs.SeenIsImage.{rests, replay_is}
+use Rattle.std.specs.Prelude.{ℕ, List, Option, length}
+use Rattle.outside.specs.Images.{resting}
+use Rattle.outside.specs.Replay.{replay, moments}
 use Rattle.outside.specs.declared.moment.Moment.{Moment}
 use Rattle.outside.specs.declared.mem_disk.MemDisk.{MemDisk}
 
@@ -29,9 +28,3 @@ disk_failing d = d.failing.items
 -- the call from which on each fails
 abbrev pub disk_stop : MemDisk → Option ℕ
 disk_stop d = d.stop
-
-pub ticks_are : (d : MemDisk) → disk_ticks d ≡ length (disk_past d)
-ticks_are d = length-moments (resting d.first.items) d.calls.items
-
-pub seen_is : (d : MemDisk) → IsImage (disk_now d) (disk_now d).seen
-seen_is d = replay_is (resting d.first.items) d.calls.items (rests d.first.items)

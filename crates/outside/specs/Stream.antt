@@ -36,10 +36,6 @@ abbrev pub Appends : List ℕ → List ℕ → List ℕ → Put → Type 0
 Appends before after piece (put.Took k) = after ≡ before ++ take k piece
 Appends before after piece put.Failed = after ≡ before
 
--- a list begins with another
-abbrev pub Prefix : List ℕ → List ℕ → Type 0
-Prefix front all = (rest : List ℕ) × (all ≡ front ++ rest)
-
--- a front of the bytes went in
-abbrev pub AppendsFront : List ℕ → List ℕ → List ℕ → Type 0
-AppendsFront before after bytes = (n : ℕ) × (after ≡ before ++ take n bytes)
+-- a prefix of the bytes went in
+abbrev pub AppendsPrefix : List ℕ → List ℕ → List ℕ → Type 0
+AppendsPrefix before after bytes = (n : ℕ) × (after ≡ before ++ take n bytes)

@@ -203,7 +203,8 @@ impl MemDisk {
 
 impl Disk for MemDisk {
     ghost use Rattle.std.specs.Prelude.{true};
-    ghost use Rattle.outside.specs.OnDisk.{disk_past, disk_now, disk_ticks, disk_count, ticks_are, seen_is};
+    ghost use Rattle.outside.specs.OnDisk.{disk_past, disk_now, disk_ticks, disk_count};
+    ghost use Rattle.outside.specs.Lemmas.OnDisk.{ticks_are, seen_is};
 
     ghost tells = { true };
 
@@ -236,7 +237,7 @@ impl Disk for MemDisk {
         Ok(())
     }
 
-    #[tactic(auto, using(crate::specs::Replay::replay_push, crate::specs::Replay::moments_push))]
+    #[tactic(auto, using(crate::specs::Lemmas::Replay::replay_push, crate::specs::Lemmas::Replay::moments_push))]
     fn write_at(&mut self, at: u64, bytes: &[u8]) -> Result<(), Failed> {
         if self.turn_fails() {
             return Err(self.fail());
@@ -250,7 +251,7 @@ impl Disk for MemDisk {
         Ok(())
     }
 
-    #[tactic(auto, using(crate::specs::Replay::replay_push, crate::specs::Replay::moments_push))]
+    #[tactic(auto, using(crate::specs::Lemmas::Replay::replay_push, crate::specs::Lemmas::Replay::moments_push))]
     fn cut(&mut self, size: u64) -> Result<(), Failed> {
         if self.turn_fails() {
             return Err(self.fail());
@@ -262,7 +263,7 @@ impl Disk for MemDisk {
         Ok(())
     }
 
-    #[tactic(auto, using(crate::specs::Replay::replay_push, crate::specs::Replay::moments_push))]
+    #[tactic(auto, using(crate::specs::Lemmas::Replay::replay_push, crate::specs::Lemmas::Replay::moments_push))]
     fn sync(&mut self) -> Result<(), Failed> {
         if self.turn_fails() {
             return Err(self.fail());

@@ -1,7 +1,7 @@
 // The moment that calls of a disk in memory lead to, worked out anew from what the disk had at first.
 ghost use Rattle.std.specs.Prelude.{◌≡◌, ◌+◌, ◌<◌, ◌≤◌, ◌-◌, ◌++◌, [], ◌∷◌, List, ℕ, true, length, take, drop, slice_index, OnOk, OnErr, IfOk, IsTrue, Bool, nat_le, nat_lt, ◌||◌, ◌&&◌};
-ghost use Rattle.outside.specs.Replay.{replay, after};
-ghost use Rattle.outside.specs.Images.{IsImage, resting, overwritten, is_within};
+ghost use Rattle.outside.specs.Replay.{replay, moment_after_call};
+ghost use Rattle.outside.specs.Images.{IsImage, resting, overwritten, is_in_ranges};
 ghost use Rattle.outside.specs.Choice.{moment_of, chosen};
 
 use crate::mem_disk::Call;
@@ -38,7 +38,7 @@ fn covers(range: &(u64, u64), place: u64) -> bool
 
 /// Whether one of the ranges has this place.
 fn is_covered(ranges: &[(u64, u64)], place: u64) -> bool
-    ensures { result ≡ is_within ranges.now place }
+    ensures { result ≡ is_in_ranges ranges.now place }
 {
     for range in ranges {
         if covers(range, place) {
@@ -67,7 +67,7 @@ impl Replayed {
     }
 
     fn step(&mut self, alloc: Global, call: &Call) -> Result<(), AllocError>
-        ensures { OnOk result (moment_of self.new ≡ after (moment_of self.old) call.now) }
+        ensures { OnOk result (moment_of self.new ≡ moment_after_call (moment_of self.old) call.now) }
     {
         match call {
             Call::Write(at, bytes) => {
@@ -91,7 +91,7 @@ impl Replayed {
 
     /// Whether a crash may leave any byte at this place.
     fn is_free(&self, place: u64) -> bool
-        ensures { result ≡ (nat_le self.now.least place || is_within self.now.ranges.items place) }
+        ensures { result ≡ (nat_le self.now.least place || is_in_ranges self.now.ranges.items place) }
     {
         self.least <= place || is_covered(&self.ranges, place)
     }

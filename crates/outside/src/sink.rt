@@ -6,7 +6,7 @@ ghost use Rattle.outside.specs.Stream.{IsPut, Appends, failed_write};
 /// What one write took.
 #[derive(Clone, Copy, Debug, PartialEq, Eq)]
 pub enum Put {
-    /// So many bytes, from the front of the piece.
+    /// So many bytes, from the prefix of the piece.
     Took(usize),
     /// The write failed, was counted, and took no byte.
     Failed,
@@ -23,7 +23,7 @@ pub trait Sink {
     /// How often a write has failed.
     ghost faults: { Self → ℕ };
 
-    /// Appends a front of the piece, of at least one byte, to what was taken.
+    /// Appends a prefix of the piece, of at least one byte, to what was taken.
     fn write(&mut self, piece: &[u8]) -> Put
         requires { 0 < length piece.now }
         ensures bound { IsPut (length piece.now) result }

@@ -6,7 +6,7 @@ ghost use Rattle.outside.specs.Stream.{IsGot, ReadsFrom, failed_read};
 /// What one read gave.
 #[derive(Clone, Copy, Debug, PartialEq, Eq)]
 pub enum Got {
-    /// So many bytes, at the front of the buffer.
+    /// So many bytes, at the prefix of the buffer.
     Gave(usize),
     /// No byte is left.
     End,
@@ -25,7 +25,7 @@ pub trait Source {
     /// How often a read has failed.
     ghost faults: { Self → ℕ };
 
-    /// Reads the next bytes into the front of the buffer, at least one and at most as many as it has room for.
+    /// Reads the next bytes into the prefix of the buffer, at least one and at most as many as it has room for.
     fn read(&mut self, buf: &mut [u8]) -> Got
         requires { 0 < length buf.old }
         ensures bound { IsGot (length buf.new) result }

@@ -1,29 +1,27 @@
 -- The halves of a box share its points out, so that a search with room for twice the root's points isn't spent.
-use Rattle.std.specs.Prelude.{◌≡◌, ◌<◌, ◌≤◌, ◌+◌, ◌*◌, ℕ, zero, suc, ℤ, pos, ◌+ℤ◌, ◌-ℤ◌, ◌≤ℤ◌, ◌<ℤ◌, nat_abs, int_lt, nat_lt, Bool, true, false, cond, List, [], ◌∷◌, length, All, Option, Some, None, slice_get, refl}
+use Rattle.std.specs.Prelude.{◌≡◌, ◌<◌, ◌≤◌, ◌+◌, ◌*◌, ℕ, zero, suc, ℤ, pos, ◌+ℤ◌, nat_lt, Bool, true, false, cond, List, [], ◌∷◌, length, All, Option, Some, None, refl}
 use Rattle.std.specs.Option.{option_map_or}
-use Rattle.std.proofs.Common.{sym, ap, ◌∙◌, subst, arith}
-use Rattle.std.proofs.Math.Nat.{add-mul, mul-add, mul-pos}
-use Rattle.std.proofs.lemmas.Int.{ints}
+use Rattle.std.proofs.Common.{ap, subst, arith}
 use Rattle.std.proofs.lemmas.List.Elements.{All-head, All-tail}
-use Rattle.std.proofs.lemmas.Option.{same_Some, none-some}
 use Rattle.problem_box.specs.declared.span.Span.{Span}
 use Rattle.problem_box.specs.Changes.{cut_low, cut_high}
+use Rattle.problem_box.specs.PointCount.{point_count}
+use Rattle.problem_box.specs.Lemmas.PointCount.{AreHalves, are_halves}
 use Rattle.problem.specs.Limited.{IsLimited}
-use Rattle.problem.specs.Program.{Program}
+use Rattle.problem.specs.Problem.{Problem}
 use Rattle.row_activity.specs.declared.verdict.Verdict.{Verdict}
 use Rattle.row_activity.specs.declared.verdict.Verdict.TheVariants.{Empty, Refuted, Priced, Point, Unsettled}
 use Rattle.row_activity.specs.Activity.{span_at, IsNonempty}
 use Rattle.row_activity.specs.Verdicts.{verdict}
 use Rattle.row_activity.specs.Meaning.{Tells}
-use Rattle.row_activity.specs.Laws.{verdict_tells}
+use Rattle.row_activity.specs.Lemmas.Laws.{verdict_tells}
 use Rattle.cert_merge.specs.Search.{Ending, empty, refute, bound}
 use Rattle.cert_merge.specs.Open.{OpenSearch, with_ending, so_far}
 use Rattle.cert_tree.specs.Continued.{IsAsGood}
-use Rattle.plain_search.specs.FirstSearch.{State, start, cutoff, box_of, multiplier, corner, first_free, middle, closed, parted, treated, taken, step, steps, first_search}
+use Rattle.plain_search.specs.FirstSearch.{State, start, cutoff, box_of, multiplier, corner, first_free, middle, state_after_close, state_after_split, state_after_verdict, state_after_node, step, steps, first_search}
 use Rattle.plain_search.specs.Laws.{IsSpent, SpentIsBelow}
-use Rattle.plain_search.specs.PointCount.{span_count, point_count}
 use Rattle.plain_search.specs.Standing.{IsStanding}
-use Rattle.cert_tree.proofs.Boxes.{root_box}
+use Rattle.cert_tree.specs.Lemmas.Boxes.{root_box}
 use Rattle.plain_search.proofs.Endings.{ended_length, parted_length}
 use Rattle.plain_search.proofs.Splits.{IsFree, middle_low, middle_high}
 use Rattle.plain_search.proofs.Standing.{as_good_itself, closed_box, corner_below, improves}
@@ -31,53 +29,6 @@ use Rattle.plain_search.proofs.Parting.{start_stands, step_stands, steps_stand, 
 use Rattle.plain_search.proofs.Ends.{spent_is_spent}
 
 -- ---- the halves of a box
-span_counted : (s : Span) → s.lo ≤ℤ s.hi → span_count s ≡ nat_abs (s.hi -ℤ s.lo) + 1
-span_counted s h = at (int_lt s.hi s.lo) refl
-  where
-    at : (b : Bool) → int_lt s.hi s.lo ≡ b → cond b zero (nat_abs (s.hi -ℤ s.lo) + 1) ≡ nat_abs (s.hi -ℤ s.lo) + 1
-    at true e = absurd (grind (arith, ints, h))
-    at false e = refl
-
--- each of two boxes has a point, and together they have those of the third
-pub record AreHalves (left right whole : List Span) : Type 0 where
-  pub left_some : 0 < point_count left
-  pub right_some : 0 < point_count right
-  pub together : point_count left + point_count right ≡ point_count whole
-
-some_point : (ss : List Span) → IsNonempty ss → 0 < point_count ss
-some_point [] h = omega arith
-some_point (s ∷ ss) h =
-    let l = All-head (λ (s : Span). s.lo ≤ℤ s.hi) s ss h in
-    let here : 0 < span_count s = omega (arith, span_counted s l) in
-    mul-pos here (some_point ss (All-tail (λ (s : Span). s.lo ≤ℤ s.hi) s ss h))
-
-are_halves : (ss : List Span) (j : ℕ) (b : ℤ) (t : Span) → slice_get ss j ≡ Some t → t.lo ≤ℤ b → b <ℤ t.hi → IsNonempty ss → AreHalves (cut_high ss j b) (cut_low ss j (b +ℤ pos 1)) ss
-are_halves [] j b t e l h n = absurd (none-some t e)
-are_halves (s ∷ ss) zero b t e l h n =
-    let same : t ≡ s = sym (same_Some s t e) in
-    let l' : s.lo ≤ℤ b = subst (λ (u : Span). u.lo ≤ℤ b) same l in
-    let h' : b <ℤ s.hi = subst (λ (u : Span). b <ℤ u.hi) same h in
-    let rest = some_point ss (All-tail (λ (s : Span). s.lo ≤ℤ s.hi) s ss n) in
-    let left : Span = record { lo = s.lo; hi = b } in
-    let right : Span = record { lo = b +ℤ pos 1; hi = s.hi } in
-    let a : span_count left ≡ nat_abs (b -ℤ s.lo) + 1 = span_counted left l' in
-    let c : span_count right ≡ nat_abs (s.hi -ℤ (b +ℤ pos 1)) + 1 = span_counted right (omega (arith, ints, h')) in
-    let d : span_count s ≡ nat_abs (s.hi -ℤ s.lo) + 1 = span_counted s (omega (arith, ints, l', h')) in
-    let sum : span_count left + span_count right ≡ span_count s = omega (arith, ints, a, c, d, l', h') in
-    record {
-      left_some = mul-pos (omega (arith, a)) rest;
-      right_some = mul-pos (omega (arith, c)) rest;
-      together = sym (add-mul (span_count left) (span_count right) (point_count ss)) ∙ ap (λ k. k * point_count ss) sum;
-    }
-are_halves (s ∷ ss) (suc j) b t e l h n =
-    let r = are_halves ss j b t e l h (All-tail (λ (s : Span). s.lo ≤ℤ s.hi) s ss n) in
-    let here : 0 < span_count s = omega (arith, span_counted s (All-head (λ (s : Span). s.lo ≤ℤ s.hi) s ss n)) in
-    record {
-      left_some = mul-pos here r.left_some;
-      right_some = mul-pos here r.right_some;
-      together = sym (mul-add (span_count s) (point_count (cut_high ss j b)) (point_count (cut_low ss j (b +ℤ pos 1)))) ∙ ap (λ k. span_count s * k) r.together;
-    }
-
 pub middle_halves : (ss : List Span) (j : ℕ) → IsFree ss j → IsNonempty ss → AreHalves (cut_high ss j (middle (span_at ss j))) (cut_low ss j (middle (span_at ss j) +ℤ pos 1)) ss
 middle_halves ss j f n = are_halves ss j (middle (span_at ss j)) (span_at ss j) f.there (middle_low (span_at ss j) f.free) (middle_high (span_at ss j) f.free) n
 
@@ -86,7 +37,7 @@ abbrev at_least_one : ℕ → ℕ
 at_least_one zero = 1
 at_least_one (suc n) = suc n
 
-abbrev weight : Program → OpenSearch → List ℕ → ℕ
+abbrev weight : Problem → OpenSearch → List ℕ → ℕ
 weight p s [] = 0
 weight p s (i ∷ is) = at_least_one (point_count (box_of p s i)) + weight p s is
 
@@ -98,26 +49,26 @@ weight_of_some : (n : ℕ) → 0 < n → at_least_one n ≡ n
 weight_of_some zero h = absurd (omega (arith, h))
 weight_of_some (suc n) h = refl
 
-weighs_enough : (p : Program) (s : OpenSearch) (is : List ℕ) → length is ≤ weight p s is
+weighs_enough : (p : Problem) (s : OpenSearch) (is : List ℕ) → length is ≤ weight p s is
 weighs_enough p s [] = omega arith
 weighs_enough p s (i ∷ is) = omega (arith, some_weight (point_count (box_of p s i)), weighs_enough p s is)
 
-same_weight : (p : Program) (s t : OpenSearch) → ((k : ℕ) → k < length s.nodes → box_of p t k ≡ box_of p s k) → (is : List ℕ) → All (λ k. k < length s.nodes) is → weight p t is ≡ weight p s is
+same_weight : (p : Problem) (s t : OpenSearch) → ((k : ℕ) → k < length s.nodes → box_of p t k ≡ box_of p s k) → (is : List ℕ) → All (λ k. k < length s.nodes) is → weight p t is ≡ weight p s is
 same_weight p s t h [] l = refl
 same_weight p s t h (i ∷ is) l =
     (λ k. at_least_one (point_count (h i (All-head (λ k. k < length s.nodes) i is l) k)) + same_weight p s t h is (All-tail (λ k. k < length s.nodes) i is l) k)
 
 -- the nodes are the inner ones and one leaf more, and each leaf has a point of the root's of its own, but for an empty root
-pub record IsWeighed (p : Program) (t : State) : Type 0 where
+pub record IsWeighed (p : Problem) (t : State) : Type 0 where
   pub closed_leaves : ℕ
-  pub leaves : length t.search.nodes + 1 ≡ 2 * (length t.pending + closed_leaves)
-  pub weighed : closed_leaves + weight p t.search t.pending ≤ at_least_one (point_count p.spans)
+  pub leaves : length t.search.nodes + 1 ≡ 2 * (length t.open_nodes + closed_leaves)
+  pub weighed : closed_leaves + weight p t.search t.open_nodes ≤ at_least_one (point_count p.spans)
 
-abbrev StaysWeighed : Program → Option State → Type 0
+abbrev StaysWeighed : Problem → Option State → Type 0
 StaysWeighed p None = Unit {0}
 StaysWeighed p (Some u) = IsWeighed p u
 
-module _ (p : Program) (s : OpenSearch) (i : ℕ) (rest : List ℕ) (h : IsStanding p (record { search = s; pending = i ∷ rest })) (w : IsWeighed p (record { search = s; pending = i ∷ rest })) where
+module _ (p : Problem) (s : OpenSearch) (i : ℕ) (rest : List ℕ) (h : IsStanding p (record { search = s; open_nodes = i ∷ rest })) (w : IsWeighed p (record { search = s; open_nodes = i ∷ rest })) where
   abbrev box : List Span
   box = box_of p s i
 
@@ -127,7 +78,7 @@ module _ (p : Program) (s : OpenSearch) (i : ℕ) (rest : List ℕ) (h : IsStand
   there_rest : All (λ k. k < length s.nodes) rest
   there_rest = All-tail (λ k. k < length s.nodes) i rest h.there
 
-  closed_weighs : (o : Option (List ℤ)) (e : Ending) → IsAsGood p s.incumbent o → IsWeighed p (closed (record s { incumbent = o }) i rest e)
+  closed_weighs : (o : Option (List ℤ)) (e : Ending) → IsAsGood p s.incumbent o → IsWeighed p (state_after_close (record s { incumbent = o }) i rest e)
   closed_weighs o e good =
       let now : OpenSearch = record s { incumbent = o } in
       let same = same_weight p s (with_ending now i e) (closed_box p s i rest o e h good) rest there_rest in
@@ -138,11 +89,11 @@ module _ (p : Program) (s : OpenSearch) (i : ℕ) (rest : List ℕ) (h : IsStand
         weighed = omega (arith, same, w.weighed, some_weight (point_count box));
       }
 
-  parted_weighs : (j : ℕ) → IsFree box j → IsNonempty box → IsWeighed p (parted s i rest j (middle (span_at box j)))
+  parted_weighs : (j : ℕ) → IsFree box j → IsNonempty box → IsWeighed p (state_after_split s i rest j (middle (span_at box j)))
   parted_weighs j f n =
       let b : ℤ = middle (span_at box j) in
       let k : ℕ = length s.nodes in
-      let after : OpenSearch = (parted s i rest j b).search in
+      let after : OpenSearch = (state_after_split s i rest j b).search in
       let halves = middle_halves box j f n in
       let size = parted_length s i j b rest there_now in
       let same = same_weight p s after (kept_box p s i rest h j f) rest there_rest in
@@ -157,63 +108,63 @@ module _ (p : Program) (s : OpenSearch) (i : ℕ) (rest : List ℕ) (h : IsStand
         weighed = omega (arith, same, w.weighed, left, right, l, r, whole, halves.together);
       }
 
-  module _ (limit : ℕ) where
-    treated_weighs : (v : Verdict) → Tells p box (cutoff p s.incumbent) v → StaysWeighed p (treated limit s i rest box v)
+  module _ (budget : ℕ) where
+    treated_weighs : (v : Verdict) → Tells p box (cutoff p s.incumbent) v → StaysWeighed p (state_after_verdict budget s i rest box v)
     treated_weighs (Empty j) t = closed_weighs s.incumbent (empty j) (as_good_itself p s.incumbent)
     treated_weighs (Refuted r sign) t = closed_weighs s.incumbent (refute ((r, multiplier sign) ∷ [])) (as_good_itself p s.incumbent)
     treated_weighs Priced t = closed_weighs s.incumbent (bound [] false) (as_good_itself p s.incumbent)
     treated_weighs Point t = closed_weighs (Some (corner box)) (bound [] false) (improves p s.incumbent (corner box) (corner_below p box (cutoff p s.incumbent) t))
-    treated_weighs Unsettled t = by_room (nat_lt limit (length s.nodes + 2))
+    treated_weighs Unsettled t = by_room (nat_lt budget (length s.nodes + 2))
       where
-        by_room : (b : Bool) → StaysWeighed p (cond b None (Some (parted s i rest (first_free box) (middle (span_at box (first_free box))))))
+        by_room : (b : Bool) → StaysWeighed p (cond b None (Some (state_after_split s i rest (first_free box) (middle (span_at box (first_free box))))))
         by_room true = tt
-        by_room false = parted_weighs (first_free box) (open_free p limit s i rest h t) t.nonempty
+        by_room false = parted_weighs (first_free box) (open_free p budget s i rest h t) t.nonempty
 
-    taken_weighs : StaysWeighed p (taken p limit s (i ∷ rest))
+    taken_weighs : StaysWeighed p (state_after_node p budget s (i ∷ rest))
     taken_weighs = treated_weighs (verdict p box (cutoff p s.incumbent)) (verdict_tells p box (cutoff p s.incumbent))
 
-step_weighs : (p : Program) (limit : ℕ) (s : OpenSearch) (is : List ℕ) → IsStanding p (record { search = s; pending = is }) → IsWeighed p (record { search = s; pending = is }) → StaysWeighed p (taken p limit s is)
-step_weighs p limit s [] h w = tt
-step_weighs p limit s (i ∷ rest) h w = taken_weighs p s i rest h w limit
+step_weighs : (p : Problem) (budget : ℕ) (s : OpenSearch) (is : List ℕ) → IsStanding p (record { search = s; open_nodes = is }) → IsWeighed p (record { search = s; open_nodes = is }) → StaysWeighed p (state_after_node p budget s is)
+step_weighs p budget s [] h w = tt
+step_weighs p budget s (i ∷ rest) h w = taken_weighs p s i rest h w budget
 
-steps_weigh : (p : Program) (limit n : ℕ) (t : State) → IsStanding p t → IsWeighed p t → IsWeighed p (steps p limit n t)
-steps_weigh p limit zero t h w = w
-steps_weigh p limit (suc m) t h w = onward (steps_weigh p limit m) (step p limit t) (step_stands p limit t h) (step_weighs p limit t.search t.pending h w)
+steps_weigh : (p : Problem) (budget n : ℕ) (t : State) → IsStanding p t → IsWeighed p t → IsWeighed p (steps p budget n t)
+steps_weigh p budget zero t h w = w
+steps_weigh p budget (suc m) t h w = onward (steps_weigh p budget m) (step p budget t) (step_stands p budget t h) (step_weighs p budget t.search t.open_nodes h w)
   where
-    onward : ((u : State) → IsStanding p u → IsWeighed p u → IsWeighed p (steps p limit m u)) → (o : Option State) → Stays p o → StaysWeighed p o → IsWeighed p (option_map_or (λ u. steps p limit m u) o t)
+    onward : ((u : State) → IsStanding p u → IsWeighed p u → IsWeighed p (steps p budget m u)) → (o : Option State) → Stays p o → StaysWeighed p o → IsWeighed p (option_map_or (λ u. steps p budget m u) o t)
     onward later None a b = w
     onward later (Some u) a b = later u a b
 
-start_weighs : (p : Program) → IsWeighed p start
+start_weighs : (p : Problem) → IsWeighed p start
 start_weighs p =
     let root : point_count (box_of p start.search 0) ≡ point_count p.spans = ap point_count (root_box p (so_far start.search)) in
     let same : at_least_one (point_count (box_of p start.search 0)) ≡ at_least_one (point_count p.spans) = ap at_least_one root in
     record { closed_leaves = 0; leaves = omega arith; weighed = omega (arith, same) }
 
 -- ---- spent
-module _ (p : Program) (limit : ℕ) (t : State) (h : IsStanding p t) (w : IsWeighed p t) (q : IsSpent p limit t) where
-  stands_at : IsStanding p (record { search = t.search; pending = q.node ∷ q.others })
-  stands_at = subst (λ is. IsStanding p (record { search = t.search; pending = is })) q.pending h
+module _ (p : Problem) (budget : ℕ) (t : State) (h : IsStanding p t) (w : IsWeighed p t) (q : IsSpent p budget t) where
+  stands_at : IsStanding p (record { search = t.search; open_nodes = q.node ∷ q.others })
+  stands_at = subst (λ is. IsStanding p (record { search = t.search; open_nodes = is })) q.open_nodes h
 
-  spent_below : limit + 1 < 2 * point_count p.spans
+  spent_below : budget + 1 < 2 * point_count p.spans
   spent_below =
       let box : List Span = box_of p t.search q.node in
       let tells : Tells p box (cutoff p t.search.incumbent) Unsettled = subst (Tells p box (cutoff p t.search.incumbent)) q.unsettled (verdict_tells p box (cutoff p t.search.incumbent)) in
-      let free = open_free p limit t.search q.node q.others stands_at tells in
+      let free = open_free p budget t.search q.node q.others stands_at tells in
       let halves = middle_halves box (first_free box) free tells.nonempty in
       let whole = weight_of_some (point_count box) (omega (arith, halves.together, halves.left_some)) in
-      let weight_is : weight p t.search t.pending ≡ at_least_one (point_count box) + weight p t.search q.others = ap (weight p t.search) q.pending in
+      let weight_is : weight p t.search t.open_nodes ≡ at_least_one (point_count box) + weight p t.search q.others = ap (weight p t.search) q.open_nodes in
       let others = weighs_enough p t.search q.others in
-      let size : length t.pending ≡ suc (length q.others) = ap length q.pending in
+      let size : length t.open_nodes ≡ suc (length q.others) = ap length q.open_nodes in
       let low : w.closed_leaves + length q.others + 2 ≤ at_least_one (point_count p.spans) =
       omega (arith, w.weighed, weight_is, whole, others, halves.together, halves.left_some, halves.right_some) in
       by_root (point_count p.spans) (omega (arith, low)) (omega (arith, low, w.leaves, size, q.full))
     where
-      by_root : (n : ℕ) → 2 ≤ at_least_one n → limit + 1 < 2 * at_least_one n → limit + 1 < 2 * n
+      by_root : (n : ℕ) → 2 ≤ at_least_one n → budget + 1 < 2 * at_least_one n → budget + 1 < 2 * n
       by_root zero l h = absurd (omega (arith, l))
       by_root (suc n) l h = h
 
-pub spent_is_below : (p : Program) → IsLimited p → SpentIsBelow p
-spent_is_below p l limit n =
+pub spent_is_below : (p : Problem) → IsLimited p → SpentIsBelow p
+spent_is_below p l budget n =
     let stands = start_stands p l.spans in
-    spent_below p limit (first_search p limit) (steps_stand p limit (limit + 1) start stands) (steps_weigh p limit (limit + 1) start stands (start_weighs p)) (spent_is_spent p l limit n)
+    spent_below p budget (first_search p budget) (steps_stand p budget (budget + 1) start stands) (steps_weigh p budget (budget + 1) start stands (start_weighs p)) (spent_is_spent p l budget n)

@@ -3,13 +3,13 @@ use Rattle.std.specs.Prelude.{◌≡◌, ◌<◌, ◌≤◌, ◌+◌, ℕ, ℤ, 
 use Rattle.std.proofs.Common.{sym, ap, ◌∙◌, inl, inr, arith}
 use Rattle.std.proofs.lemmas.Bool.{cases_eq, cases_lt}
 use Rattle.std.proofs.lemmas.List.{append-nil, get_or_append_left, get_or_push, get_or-set_same, get_or-set_other, length-set, length-map, length_push}
-use Rattle.problem.specs.Program.{Program}
+use Rattle.problem.specs.Problem.{Problem}
 use Rattle.cert_merge.specs.Search.{Branch, Ending, split, node_at}
 use Rattle.cert_merge.specs.Open.{OpenNode, OpenSearch, open_node_at, with_node, with_ending, so_far}
 use Rattle.cert_tree.specs.Finished.{IsTree, IsReached, left_branch, right_branch}
 use Rattle.cert_tree.specs.Continued.{IsAsGood, IsContinued}
-use Rattle.plain_search.specs.FirstSearch.{box_of, parted}
-use Rattle.cert_tree.proofs.Boxes.{same_box}
+use Rattle.plain_search.specs.FirstSearch.{box_of, state_after_split}
+use Rattle.cert_tree.specs.Lemmas.Boxes.{same_box}
 use Rattle.plain_search.proofs.SoFar.{branch_is}
 
 -- ---- one change
@@ -40,7 +40,7 @@ module _ (s : OpenSearch) (b : Branch) where
   more_nodes = length_push s.nodes _
 
 -- ---- the later search has the earlier one's nodes
-pub record IsGrown (p : Program) (s t : OpenSearch) : Type 0 where
+pub record IsGrown (p : Problem) (s t : OpenSearch) : Type 0 where
   pub longer : length s.nodes ≤ length t.nodes
   pub cuts : t.cuts ≡ s.cuts
   pub branches : (k : ℕ) → k < length s.nodes → (open_node_at t k).branch ≡ (open_node_at s k).branch
@@ -49,7 +49,7 @@ pub record IsGrown (p : Program) (s t : OpenSearch) : Type 0 where
 pub size_is : (s : OpenSearch) → length (so_far s).nodes ≡ length s.nodes
 size_is s = length-map s.nodes _
 
-module _ (p : Program) (s t : OpenSearch) (g : IsGrown p s t) where
+module _ (p : Problem) (s t : OpenSearch) (g : IsGrown p s t) where
   still_branched : (k : ℕ) → k < length (so_far s).nodes → (node_at (so_far t) k).branch ≡ (node_at (so_far s) k).branch
   still_branched k h = branch_is t k ∙ g.branches k (omega (arith, h, size_is s)) ∙ sym (branch_is s k)
 
@@ -60,7 +60,7 @@ module _ (p : Program) (s t : OpenSearch) (g : IsGrown p s t) where
   old_box tree k h = same_box (so_far s) (so_far t) tree still_branched p k (omega (arith, h, size_is s))
 
 -- the tree of the later search, whose new nodes have branches from nodes above them
-pub grown_tree : (p : Program) (s t : OpenSearch) → IsGrown p s t → IsTree (so_far s)
+pub grown_tree : (p : Problem) (s t : OpenSearch) → IsGrown p s t → IsTree (so_far s)
     → ((k : ℕ) → length s.nodes ≤ k → k < length t.nodes → (b : Branch) × ((open_node_at t k).branch ≡ Some b) × (b.parent < k)) → IsTree (so_far t)
 grown_tree p s t g tree new = record {
   root_there = omega (arith, tree.root_there, size_is s, size_is t, g.longer);
@@ -88,7 +88,7 @@ module _ (s : OpenSearch) (i j : ℕ) (z : ℤ) (rest : List ℕ) (h : i < lengt
   both = with_node (with_node s left) right
 
   abbrev after : OpenSearch
-  after = (parted s i rest j z).search
+  after = (state_after_split s i rest j z).search
 
   one_more : i < length (with_node s left).nodes
   one_more = omega (arith, h, more_nodes s left)

@@ -12,21 +12,21 @@ use Rattle.problem_box.specs.declared.span.Span.{Span}
 use Rattle.problem_box.specs.Boxes.{IsInBox}
 use Rattle.problem_box.specs.Changes.{cut_low, cut_high}
 use Rattle.problem.specs.Limited.{IsModestSpan}
-use Rattle.problem.specs.Program.{Program}
+use Rattle.problem.specs.Problem.{Problem}
 use Rattle.row_activity.specs.declared.verdict.Verdict.{Verdict}
 use Rattle.row_activity.specs.declared.verdict.Verdict.TheVariants.{Unsettled}
 use Rattle.row_activity.specs.Verdicts.{verdict}
 use Rattle.row_activity.specs.Activity.{span_at}
 use Rattle.cert_merge.specs.Search.{Ending}
-use Rattle.cert_tree.proofs.Boxes.{root_box}
+use Rattle.cert_tree.specs.Lemmas.Boxes.{root_box}
 use Rattle.cert_merge.specs.Open.{OpenSearch, started, with_ending, so_far}
 use Rattle.cert_tree.specs.Continued.{IsAsGood}
-use Rattle.cert_tree.proofs.Sources.{length-box}
+use Rattle.cert_tree.specs.Lemmas.Sources.{length-box}
 use Rattle.cert_merge.specs.Search.{path_of}
 use Rattle.plain_search.specs.declared.run.OpenBox.{OpenBox}
-use Rattle.plain_search.specs.FirstSearch.{cutoff, box_of, corner, first_free, middle, parted, closed, treated, taken}
+use Rattle.plain_search.specs.FirstSearch.{cutoff, box_of, corner, first_free, middle, state_after_split, state_after_close, state_after_verdict, state_after_node}
 use Rattle.plain_search.specs.Standing.{IsPart, IsStanding}
-use Rattle.plain_search.specs.Kept.{numbers_of, state_of, HasBox, IsKept, halves}
+use Rattle.plain_search.specs.Kept.{numbers_of, state_of, HasBox, HasBoxes, halves}
 use Rattle.plain_search.proofs.Standing.{as_good_itself, closed_box, improves, corner_below, corner_feasible}
 use Rattle.plain_search.proofs.Splits.{IsFree}
 use Rattle.plain_search.proofs.Endings.{ended_length, parted_length}
@@ -43,9 +43,9 @@ pub how_many : (os : List OpenBox) → length (numbers_of os) ≡ length os
 how_many os = length-reverse (map (λ (o : OpenBox). o.number) os) ∙ length-map os (λ (o : OpenBox). o.number)
 
 -- ---- the open node of greatest number, and the others
-module _ (p : Program) (limit : ℕ) (s : OpenSearch) (os : List OpenBox) (o : OpenBox) (h : IsKept p s (os ++ o ∷ [])) where
-  pub top_stands : IsStanding p (record { search = s; pending = o.number ∷ numbers_of os })
-  top_stands = subst (λ is. IsStanding p (record { search = s; pending = is })) (top_number os o) h.standing
+module _ (p : Problem) (budget : ℕ) (s : OpenSearch) (os : List OpenBox) (o : OpenBox) (h : HasBoxes p s (os ++ o ∷ [])) where
+  pub top_stands : IsStanding p (record { search = s; open_nodes = o.number ∷ numbers_of os })
+  top_stands = subst (λ is. IsStanding p (record { search = s; open_nodes = is })) (top_number os o) h.standing
 
   pub parts : All (HasBox p s) os × HasBox p s o
   parts = All-pop (HasBox p s) (os ++ o ∷ []) os (Some o) refl h.boxes
@@ -69,12 +69,12 @@ module _ (p : Program) (limit : ℕ) (s : OpenSearch) (os : List OpenBox) (o : O
   top_modest = subst (All IsModestSpan) (sym top_box) (All-head (λ k. IsPart p (box_of p s k)) o.number (numbers_of os) top_stands.parts).modest
 
   -- ---- a step
-  pub taken_as : (v : Verdict) → verdict p o.area (cutoff p s.incumbent) ≡ v → taken p limit s (o.number ∷ numbers_of os) ≡ treated limit s o.number (numbers_of os) o.area v
+  pub taken_as : (v : Verdict) → verdict p o.area (cutoff p s.incumbent) ≡ v → state_after_node p budget s (o.number ∷ numbers_of os) ≡ state_after_verdict budget s o.number (numbers_of os) o.area v
   taken_as v e =
-      (λ k. treated limit s o.number (numbers_of os) (sym top_box k) (verdict p (sym top_box k) (cutoff p s.incumbent))) ∙ ap (treated limit s o.number (numbers_of os) o.area) e
+      (λ k. state_after_verdict budget s o.number (numbers_of os) (sym top_box k) (verdict p (sym top_box k) (cutoff p s.incumbent))) ∙ ap (state_after_verdict budget s o.number (numbers_of os) o.area) e
 
-  pub kept_from : (t : OpenSearch) (us : List OpenBox) → taken p limit s (o.number ∷ numbers_of os) ≡ Some (state_of t us) → All (HasBox p t) us → IsKept p t us
-  kept_from t us e b = record { standing = subst (Stays p) e (step_stands p limit (record { search = s; pending = o.number ∷ numbers_of os }) top_stands); boxes = b }
+  pub kept_from : (t : OpenSearch) (us : List OpenBox) → state_after_node p budget s (o.number ∷ numbers_of os) ≡ Some (state_of t us) → All (HasBox p t) us → HasBoxes p t us
+  kept_from t us e b = record { standing = subst (Stays p) e (step_stands p budget (record { search = s; open_nodes = o.number ∷ numbers_of os }) top_stands); boxes = b }
 
   pub closed_kept : (inc : Option (List ℤ)) (e : Ending) → IsAsGood p s.incumbent inc → All (HasBox p (with_ending (record s { incumbent = inc }) o.number e)) os
   closed_kept inc e good =
@@ -87,11 +87,11 @@ module _ (p : Program) (limit : ℕ) (s : OpenSearch) (os : List OpenBox) (o : O
 
   -- a step that closes the node, and leaves the search t
   pub arm_follows : (v : Verdict) (inc : Option (List ℤ)) (e : Ending) (t : OpenSearch) → verdict p o.area (cutoff p s.incumbent) ≡ v → t ≡ with_ending (record s { incumbent = inc }) o.number e
-      → treated limit s o.number (numbers_of os) o.area v ≡ Some (closed (record s { incumbent = inc }) o.number (numbers_of os) e) → taken p limit s (o.number ∷ numbers_of os) ≡ Some (state_of t os)
+      → state_after_verdict budget s o.number (numbers_of os) o.area v ≡ Some (state_after_close (record s { incumbent = inc }) o.number (numbers_of os) e) → state_after_node p budget s (o.number ∷ numbers_of os) ≡ Some (state_of t os)
   arm_follows v inc e t q r m = taken_as v q ∙ m ∙ ap (λ u. Some (state_of u os)) (sym r)
 
   pub arm_kept : (inc : Option (List ℤ)) (e : Ending) (t : OpenSearch) → IsAsGood p s.incumbent inc → t ≡ with_ending (record s { incumbent = inc }) o.number e
-      → taken p limit s (o.number ∷ numbers_of os) ≡ Some (state_of t os) → IsKept p t os
+      → state_after_node p budget s (o.number ∷ numbers_of os) ≡ Some (state_of t os) → HasBoxes p t os
   arm_kept inc e t good r f = kept_from t os f (subst (λ u. All (HasBox p u) os) (sym r) (closed_kept inc e good))
 
   pub itself : IsAsGood p s.incumbent s.incumbent
@@ -105,7 +105,7 @@ module _ (p : Program) (limit : ℕ) (s : OpenSearch) (os : List OpenBox) (o : O
     bound_at = middle (span_at o.area j)
 
     abbrev after : OpenSearch
-    after = (parted s o.number [] j bound_at).search
+    after = (state_after_split s o.number [] j bound_at).search
 
     free_box : IsFree (box_of p s o.number) j
     free_box = subst (λ ss. IsFree ss j) top_box free
@@ -114,9 +114,9 @@ module _ (p : Program) (limit : ℕ) (s : OpenSearch) (os : List OpenBox) (o : O
     same_middle = ap (λ ss. middle (span_at ss j)) (sym top_box)
 
     Halved : ℤ → Type 0
-    Halved b = ((k : ℕ) → k < length s.nodes → box_of p (parted s o.number [] j b).search k ≡ box_of p s k)
-        × (box_of p (parted s o.number [] j b).search (length s.nodes) ≡ cut_high (box_of p s o.number) j b)
-        × (box_of p (parted s o.number [] j b).search (length s.nodes + 1) ≡ cut_low (box_of p s o.number) j (b +ℤ pos 1))
+    Halved b = ((k : ℕ) → k < length s.nodes → box_of p (state_after_split s o.number [] j b).search k ≡ box_of p s k)
+        × (box_of p (state_after_split s o.number [] j b).search (length s.nodes) ≡ cut_high (box_of p s o.number) j b)
+        × (box_of p (state_after_split s o.number [] j b).search (length s.nodes + 1) ≡ cut_low (box_of p s o.number) j (b +ℤ pos 1))
 
     halved : Halved bound_at
     unfolding Halved
@@ -136,27 +136,27 @@ module _ (p : Program) (limit : ℕ) (s : OpenSearch) (os : List OpenBox) (o : O
         (All-cons (HasBox p after) (record { number = n; area = cut_high o.area j bound_at }) (record { number = n + 1; area = cut_low o.area j (bound_at +ℤ pos 1) } ∷ []) (omega (arith, size), ap (λ ss. cut_high ss j bound_at) top_box ∙ sym halved.1)
         (All-cons (HasBox p after) (record { number = n + 1; area = cut_low o.area j (bound_at +ℤ pos 1) }) [] (omega (arith, size), ap (λ ss. cut_low ss j (bound_at +ℤ pos 1)) top_box ∙ sym halved.2) (All-nil (HasBox p after))))
 
-    pub halves_state : parted s o.number (numbers_of os) j bound_at ≡ state_of after (os ++ halves (length s.nodes) o j bound_at)
-    halves_state = ap (λ is. record { search = after; pending = is }) (sym (halves_numbers os (length s.nodes) o j bound_at))
+    pub halves_state : state_after_split s o.number (numbers_of os) j bound_at ≡ state_of after (os ++ halves (length s.nodes) o j bound_at)
+    halves_state = ap (λ is. record { search = after; open_nodes = is }) (sym (halves_numbers os (length s.nodes) o j bound_at))
 
-    module _ (z : ℤ) (e : z ≡ bound_at) (t : OpenSearch) (us : List OpenBox) (q : t ≡ (parted s o.number [] j z).search) (r : us ≡ os ++ halves (length s.nodes) o j z) where
+    module _ (z : ℤ) (e : z ≡ bound_at) (t : OpenSearch) (us : List OpenBox) (q : t ≡ (state_after_split s o.number [] j z).search) (r : us ≡ os ++ halves (length s.nodes) o j z) where
       search_is : t ≡ after
-      search_is = q ∙ ap (λ b. (parted s o.number [] j b).search) e
+      search_is = q ∙ ap (λ b. (state_after_split s o.number [] j b).search) e
 
       open_are : us ≡ os ++ halves (length s.nodes) o j bound_at
       open_are = r ∙ ap (λ b. os ++ halves (length s.nodes) o j b) e
 
       -- a step that splits the node
-      pub halves_follow : j ≡ first_free o.area → verdict p o.area (cutoff p s.incumbent) ≡ Unsettled → nat_lt limit (length s.nodes + 2) ≡ false → taken p limit s (o.number ∷ numbers_of os) ≡ Some (state_of t us)
+      pub halves_follow : j ≡ first_free o.area → verdict p o.area (cutoff p s.incumbent) ≡ Unsettled → nat_lt budget (length s.nodes + 2) ≡ false → state_after_node p budget s (o.number ∷ numbers_of os) ≡ Some (state_of t us)
       halves_follow f v room =
           taken_as Unsettled v
-          ∙ ap (λ b. cond b None (Some (parted s o.number (numbers_of os) (first_free o.area) (middle (span_at o.area (first_free o.area)))))) room
-          ∙ ap (λ k. Some (parted s o.number (numbers_of os) k (middle (span_at o.area k)))) (sym f) ∙ ap Some halves_state ∙ (λ k. Some (state_of (sym search_is k) (sym open_are k)))
+          ∙ ap (λ b. cond b None (Some (state_after_split s o.number (numbers_of os) (first_free o.area) (middle (span_at o.area (first_free o.area)))))) room
+          ∙ ap (λ k. Some (state_after_split s o.number (numbers_of os) k (middle (span_at o.area k)))) (sym f) ∙ ap Some halves_state ∙ (λ k. Some (state_of (sym search_is k) (sym open_are k)))
 
-      pub halves_keep : taken p limit s (o.number ∷ numbers_of os) ≡ Some (state_of t us) → IsKept p t us
+      pub halves_keep : state_after_node p budget s (o.number ∷ numbers_of os) ≡ Some (state_of t us) → HasBoxes p t us
       halves_keep f = kept_from t us f (subst (λ u. All (HasBox p u) us) (sym search_is) (subst (All (HasBox p after)) (sym open_are) halves_kept))
 
-pub started_kept : (p : Program) → All IsModestSpan p.spans → (box : List Span) → box ≡ p.spans → IsKept p started (record { number = 0; area = box } ∷ [])
+pub started_kept : (p : Problem) → All IsModestSpan p.spans → (box : List Span) → box ≡ p.spans → HasBoxes p started (record { number = 0; area = box } ∷ [])
 started_kept p m box e = record {
   standing = start_stands p m;
   boxes = All-cons (HasBox p started) (record { number = 0; area = box }) [] (omega arith, e ∙ sym (root_box p (so_far started))) (All-nil (HasBox p started));

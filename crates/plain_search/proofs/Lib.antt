@@ -6,7 +6,6 @@ mod Splits
 mod Parting
 mod Ends
 mod Counts
-mod Numbering
 mod Keeping
 mod Plain
 mod Samples

@@ -10,21 +10,21 @@ use Rattle.std.proofs.lemmas.Option.{same_Some, none-some}
 use Rattle.problem_box.specs.declared.span.Span.{Span}
 use Rattle.problem_box.specs.Changes.{cut_low, cut_high}
 use Rattle.problem.specs.Limited.{IsModestSpan}
-use Rattle.problem.specs.Program.{Program}
+use Rattle.problem.specs.Problem.{Problem}
 use Rattle.row_activity.specs.declared.verdict.Verdict.{Verdict}
 use Rattle.row_activity.specs.declared.verdict.Verdict.TheVariants.{Empty, Refuted, Priced, Point, Unsettled}
 use Rattle.row_activity.specs.Activity.{span_at}
 use Rattle.row_activity.specs.Verdicts.{verdict}
 use Rattle.row_activity.specs.Meaning.{Tells}
-use Rattle.row_activity.specs.Laws.{verdict_tells}
-use Rattle.row_activity.specs.Cuts.{modest-cut_high, modest-cut_low}
+use Rattle.row_activity.specs.Lemmas.Laws.{verdict_tells}
+use Rattle.row_activity.specs.Lemmas.Cuts.{modest-cut_high, modest-cut_low}
 use Rattle.cert_merge.specs.Search.{Branch, Ending, split}
 use Rattle.cert_merge.specs.Open.{OpenNode, OpenSearch, open_node_at, so_far}
 use Rattle.cert_tree.specs.Finished.{IsTree, HasEnded, left_branch, right_branch}
-use Rattle.cert_tree.proofs.Continuing.{endings_stay}
-use Rattle.plain_search.specs.FirstSearch.{State, start, cutoff, box_of, first_free, middle, parted, treated, taken, step, steps}
+use Rattle.cert_tree.specs.Lemmas.Continuing.{endings_stay}
+use Rattle.plain_search.specs.FirstSearch.{State, start, cutoff, box_of, first_free, middle, state_after_split, state_after_verdict, state_after_node, step, steps}
 use Rattle.plain_search.specs.Laws.{AreFalling}
-use Rattle.cert_tree.proofs.Boxes.{root_box, child_box}
+use Rattle.cert_tree.specs.Lemmas.Boxes.{root_box, child_box}
 use Rattle.plain_search.proofs.SoFar.{branch_is}
 use Rattle.plain_search.proofs.Endings.{IsGrown, continued, old_box, grown_tree, size_is, parted_length, parted_here, parted_old, parted_branch, parted_left, parted_right}
 use Rattle.plain_search.specs.Standing.{IsPart, IsStanding}
@@ -32,7 +32,7 @@ use Rattle.plain_search.proofs.Standing.{not_head, further, as_good_itself, clos
 use Rattle.plain_search.proofs.Splits.{IsFree, free_there, left_inside, right_inside, in_cut_high, in_cut_low}
 
 -- ---- a split
-module _ (p : Program) (s : OpenSearch) (i : ℕ) (rest : List ℕ) (h : IsStanding p (record { search = s; pending = i ∷ rest })) where
+module _ (p : Problem) (s : OpenSearch) (i : ℕ) (rest : List ℕ) (h : IsStanding p (record { search = s; open_nodes = i ∷ rest })) where
   abbrev box : List Span
   box = box_of p s i
 
@@ -50,7 +50,7 @@ module _ (p : Program) (s : OpenSearch) (i : ℕ) (rest : List ℕ) (h : IsStand
     n = length s.nodes
 
     abbrev after : OpenSearch
-    after = (parted s i rest j b).search
+    after = (state_after_split s i rest j b).search
 
     size : length after.nodes ≡ n + 2
     size = parted_length s i j b rest there_now
@@ -111,11 +111,11 @@ module _ (p : Program) (s : OpenSearch) (i : ℕ) (rest : List ℕ) (h : IsStand
       ]
     ]
 
-    waiting : (k : ℕ) → k < length after.nodes → (open_node_at after k).ending ≡ None → Contains ((n + 1) ∷ n ∷ rest) k
-    waiting k l q = elim (cases_eq k i) [
+    listed : (k : ℕ) → k < length after.nodes → (open_node_at after k).ending ≡ None → Contains ((n + 1) ∷ n ∷ rest) k
+    listed k l q = elim (cases_eq k i) [
       | inl z ↦ absurd (none-some _ (sym q ∙ ap (λ m. (open_node_at after m).ending) z ∙ ap (λ (n : OpenNode). n.ending) (parted_here s i j b rest there_now)))
       | inr m ↦ elim (which k l) [
-        | inl c ↦ further (n + 1) (n ∷ rest) k (further n rest k (not_head i rest k (h.waiting k c (sym (old_ending k c m) ∙ q)) m))
+        | inl c ↦ further (n + 1) (n ∷ rest) k (further n rest k (not_head i rest k (h.listed k c (sym (old_ending k c m) ∙ q)) m))
         | inr c ↦ elim c [
           | inl e ↦ (1, omega arith, sym e)
           | inr e ↦ (0, omega arith, sym e)
@@ -165,12 +165,12 @@ module _ (p : Program) (s : OpenSearch) (i : ℕ) (rest : List ℕ) (h : IsStand
         let old = All-tail (λ k. k < n) i rest h.there in
         (All-cons (λ k. k < n + 1) n rest (omega arith) (All-weaker (λ k. k < n) (λ k. k < n + 1) (λ k l. omega (arith, l)) rest old), (old, h.falling.1))
 
-    pub parted_stands : IsStanding p (parted s i rest j b)
+    pub parted_stands : IsStanding p (state_after_split s i rest j b)
     parted_stands = record {
       cuts = h.cuts;
       tree = tree;
       ended = ended;
-      waiting = waiting;
+      listed = listed;
       there = there_after;
       falling = falling;
       parts = All-cons (λ k. IsPart p (box_of p after k)) (n + 1) (n ∷ rest) right_part (All-cons (λ k. IsPart p (box_of p after k)) n rest left_part old_parts);
@@ -178,49 +178,49 @@ module _ (p : Program) (s : OpenSearch) (i : ℕ) (rest : List ℕ) (h : IsStand
     }
 
 -- ---- a step
-abbrev pub Stays : Program → Option State → Type 0
+abbrev pub Stays : Problem → Option State → Type 0
 Stays p None = Unit {0}
 Stays p (Some u) = IsStanding p u
 
-module _ (p : Program) (limit : ℕ) (s : OpenSearch) (i : ℕ) (rest : List ℕ) (h : IsStanding p (record { search = s; pending = i ∷ rest })) where
+module _ (p : Problem) (budget : ℕ) (s : OpenSearch) (i : ℕ) (rest : List ℕ) (h : IsStanding p (record { search = s; open_nodes = i ∷ rest })) where
   pub open_free : Tells p (box_of p s i) (cutoff p s.incumbent) Unsettled → IsFree (box_of p s i) (first_free (box_of p s i))
   open_free t = free_there (box_of p s i) t.nonempty t.free
 
-  treated_stands : (v : Verdict) → verdict p (box_of p s i) (cutoff p s.incumbent) ≡ v → Tells p (box_of p s i) (cutoff p s.incumbent) v → Stays p (treated limit s i rest (box_of p s i) v)
+  treated_stands : (v : Verdict) → verdict p (box_of p s i) (cutoff p s.incumbent) ≡ v → Tells p (box_of p s i) (cutoff p s.incumbent) v → Stays p (state_after_verdict budget s i rest (box_of p s i) v)
   treated_stands (Empty j) e t = closed_empty p s i rest h j t
   treated_stands (Refuted r sign) e t = closed_refuted p s i rest h r sign e t
   treated_stands Priced e t = closed_priced p s i rest h e t
   treated_stands Point e t = closed_point p s i rest h e t
-  treated_stands Unsettled e t = by_room (nat_lt limit (length s.nodes + 2))
+  treated_stands Unsettled e t = by_room (nat_lt budget (length s.nodes + 2))
     where
-      by_room : (b : Bool) → Stays p (cond b None (Some (parted s i rest (first_free (box_of p s i)) (middle (span_at (box_of p s i) (first_free (box_of p s i)))))))
+      by_room : (b : Bool) → Stays p (cond b None (Some (state_after_split s i rest (first_free (box_of p s i)) (middle (span_at (box_of p s i) (first_free (box_of p s i)))))))
       by_room true = tt
       by_room false = parted_stands p s i rest h (first_free (box_of p s i)) (open_free t)
 
-  taken_now : Stays p (taken p limit s (i ∷ rest))
+  taken_now : Stays p (state_after_node p budget s (i ∷ rest))
   taken_now = treated_stands (verdict p (box_of p s i) (cutoff p s.incumbent)) refl (verdict_tells p (box_of p s i) (cutoff p s.incumbent))
 
-taken_stands : (p : Program) (limit : ℕ) (s : OpenSearch) (is : List ℕ) → IsStanding p (record { search = s; pending = is }) → Stays p (taken p limit s is)
-taken_stands p limit s [] h = tt
-taken_stands p limit s (i ∷ rest) h = taken_now p limit s i rest h
+taken_stands : (p : Problem) (budget : ℕ) (s : OpenSearch) (is : List ℕ) → IsStanding p (record { search = s; open_nodes = is }) → Stays p (state_after_node p budget s is)
+taken_stands p budget s [] h = tt
+taken_stands p budget s (i ∷ rest) h = taken_now p budget s i rest h
 
-pub step_stands : (p : Program) (limit : ℕ) (t : State) → IsStanding p t → Stays p (step p limit t)
-step_stands p limit t h = taken_stands p limit t.search t.pending h
+pub step_stands : (p : Problem) (budget : ℕ) (t : State) → IsStanding p t → Stays p (step p budget t)
+step_stands p budget t h = taken_stands p budget t.search t.open_nodes h
 
-pub steps_stand : (p : Program) (limit n : ℕ) (t : State) → IsStanding p t → IsStanding p (steps p limit n t)
-steps_stand p limit zero t h = h
-steps_stand p limit (suc m) t h = onward (steps_stand p limit m) (step p limit t) (step_stands p limit t h)
+pub steps_stand : (p : Problem) (budget n : ℕ) (t : State) → IsStanding p t → IsStanding p (steps p budget n t)
+steps_stand p budget zero t h = h
+steps_stand p budget (suc m) t h = onward (steps_stand p budget m) (step p budget t) (step_stands p budget t h)
   where
-    onward : ((u : State) → IsStanding p u → IsStanding p (steps p limit m u)) → (o : Option State) → Stays p o → IsStanding p (option_map_or (λ u. steps p limit m u) o t)
+    onward : ((u : State) → IsStanding p u → IsStanding p (steps p budget m u)) → (o : Option State) → Stays p o → IsStanding p (option_map_or (λ u. steps p budget m u) o t)
     onward later None k = h
     onward later (Some u) k = later u k
 
-pub start_stands : (p : Program) → All IsModestSpan p.spans → IsStanding p start
+pub start_stands : (p : Problem) → All IsModestSpan p.spans → IsStanding p start
 start_stands p m = record {
   cuts = refl;
   tree = record { root_there = omega arith; root = refl; reached = λ k l q. absurd (omega (arith, l, q)) };
   ended = none;
-  waiting = only;
+  listed = only;
   there = All-cons (λ k. k < 1) 0 [] (omega arith) (All-nil (λ k. k < 1));
   falling = (All-nil (λ k. k < 0), tt);
   parts = All-cons (λ k. IsPart p (box_of p start.search k)) 0 [] (subst (IsPart p) (sym (root_box p (so_far start.search))) (record { modest = m; within = λ x k. k })) (All-nil (λ k. IsPart p (box_of p start.search k)));

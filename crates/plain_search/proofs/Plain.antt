@@ -9,7 +9,7 @@ use Rattle.fraction.specs.Rational.{whole}
 use Rattle.problem_box.specs.declared.span.Span.{Span}
 use Rattle.problem_box.specs.Boxes.{IsInBox}
 use Rattle.problem.specs.Limited.{IsLimited}
-use Rattle.problem.specs.Program.{Program}
+use Rattle.problem.specs.Problem.{Problem}
 use Rattle.row_activity.specs.declared.verdict.Sign.{Sign}
 use Rattle.row_activity.specs.declared.verdict.Sign.TheVariants.{Plus, Minus}
 use Rattle.row_activity.specs.declared.verdict.Verdict.{Verdict}
@@ -17,15 +17,15 @@ use Rattle.row_activity.specs.declared.verdict.Verdict.TheVariants.{Empty, Refut
 use Rattle.row_activity.specs.Activity.{span_at}
 use Rattle.row_activity.specs.Verdicts.{verdict}
 use Rattle.row_activity.specs.Meaning.{Tells}
-use Rattle.row_activity.specs.Laws.{verdict_tells}
+use Rattle.row_activity.specs.Lemmas.Laws.{verdict_tells}
 use Rattle.cert_merge.specs.Search.{Branch, Ending, empty, refute, bound, split, Node, node_at, path_of}
-use Rattle.cert_merge.specs.Open.{OpenNode, OpenSearch, open_node_at, with_ending, so_far, ended}
+use Rattle.cert_merge.specs.Open.{OpenNode, OpenSearch, open_node_at, with_ending, so_far, ending_if_any}
 use Rattle.cert_merge.specs.Plain.{IsOneRow, IsPlainEnding, IsPlain}
 use Rattle.cert_merge.specs.Setters.{IsBranchWithin}
 use Rattle.cert_tree.specs.Finished.{HasEnded, IsIncumbent, left_branch, right_branch}
-use Rattle.cert_tree.proofs.Paths.{branched}
-use Rattle.cert_tree.proofs.Sources.{length-box}
-use Rattle.plain_search.specs.FirstSearch.{State, start, cutoff, box_of, multiplier, first_free, middle, parted, treated, taken, step, steps, first_search}
+use Rattle.cert_tree.specs.Lemmas.Paths.{branched}
+use Rattle.cert_tree.specs.Lemmas.Sources.{length-box}
+use Rattle.plain_search.specs.FirstSearch.{State, start, cutoff, box_of, multiplier, first_free, middle, state_after_split, state_after_verdict, state_after_node, step, steps, first_search}
 use Rattle.plain_search.specs.Laws.{FinishedIsPlain}
 use Rattle.plain_search.specs.Standing.{IsStanding}
 use Rattle.plain_search.proofs.SoFar.{node_is, branch_is}
@@ -34,24 +34,24 @@ use Rattle.plain_search.proofs.Parting.{Stays, start_stands, step_stands, steps_
 use Rattle.plain_search.proofs.Ends.{all_ended}
 
 -- what an ending says of multipliers
-abbrev IsOneLine : Program → Ending → Type 0
+abbrev IsOneLine : Problem → Ending → Type 0
 IsOneLine p (empty j) = Unit {0}
 IsOneLine p (refute mult) = IsOneRow p mult
 IsOneLine p (bound mult rounded) = (mult ≡ []) × (rounded ≡ false)
 IsOneLine p (split j b left right) = Unit {0}
 
 -- each branch sets a bound of a column, each ending names at most one row, and there is room for the nodes
-record AreListed (p : Program) (limit : ℕ) (s : OpenSearch) : Type 0 where
+record AreListed (p : Problem) (budget : ℕ) (s : OpenSearch) : Type 0 where
   columns : (k : ℕ) (b : Branch) → k < length s.nodes → (open_node_at s k).branch ≡ Some b → b.column < length p.spans
   lines : (k : ℕ) (e : Ending) → k < length s.nodes → (open_node_at s k).ending ≡ Some e → IsOneLine p e
-  room : (length s.nodes ≤ limit) ⊎ (length s.nodes ≡ 1)
+  room : (length s.nodes ≤ budget) ⊎ (length s.nodes ≡ 1)
 
-abbrev Lists : Program → ℕ → Option State → Type 0
-Lists p limit None = Unit {0}
-Lists p limit (Some u) = AreListed p limit u.search
+abbrev Lists : Problem → ℕ → Option State → Type 0
+Lists p budget None = Unit {0}
+Lists p budget (Some u) = AreListed p budget u.search
 
 -- a column of the box of a node is one of the program
-column_below : (p : Program) (s : OpenSearch) (i j : ℕ) (span : Span) → slice_get (box_of p s i) j ≡ Some span → j < length p.spans
+column_below : (p : Problem) (s : OpenSearch) (i j : ℕ) (span : Span) → slice_get (box_of p s i) j ≡ Some span → j < length p.spans
 column_below p s i j span e = omega (arith, slice_get_within (box_of p s i) j span e, length-box (path_of (so_far s) i i) 0 p.spans)
 
 one_or_minus : (sign : Sign) → (multiplier sign ≡ whole (pos 1)) ⊎ (multiplier sign ≡ whole (negsuc 0))
@@ -59,14 +59,14 @@ one_or_minus Plus = inl refl
 one_or_minus Minus = inr refl
 
 -- ---- a node is closed
-module _ (p : Program) (limit : ℕ) (s : OpenSearch) (i : ℕ) (e : Ending) (there : i < length s.nodes) (h : AreListed p limit s) (line : IsOneLine p e) where
+module _ (p : Problem) (budget : ℕ) (s : OpenSearch) (i : ℕ) (e : Ending) (there : i < length s.nodes) (h : AreListed p budget s) (line : IsOneLine p e) where
   abbrev after : OpenSearch
   after = with_ending s i e
 
   size : length after.nodes ≡ length s.nodes
   size = ended_length s i e there
 
-  closed_lists : AreListed p limit after
+  closed_lists : AreListed p budget after
   closed_lists = record {
     columns = λ k b l q. h.columns k b (omega (arith, l, size)) (sym (ended_branch s i e there k) ∙ q);
     lines = λ k f l q. elim (cases_eq k i) [
@@ -77,12 +77,12 @@ module _ (p : Program) (limit : ℕ) (s : OpenSearch) (i : ℕ) (e : Ending) (th
   }
 
 -- ---- a node is split
-module _ (p : Program) (limit : ℕ) (s : OpenSearch) (i : ℕ) (rest : List ℕ) (j : ℕ) (b : ℤ) (there : i < length s.nodes) (column : j < length p.spans) (room : length s.nodes + 2 ≤ limit) (h : AreListed p limit s) where
+module _ (p : Problem) (budget : ℕ) (s : OpenSearch) (i : ℕ) (rest : List ℕ) (j : ℕ) (b : ℤ) (there : i < length s.nodes) (column : j < length p.spans) (room : length s.nodes + 2 ≤ budget) (h : AreListed p budget s) where
   abbrev n : ℕ
   n = length s.nodes
 
   abbrev grown : OpenSearch
-  grown = (parted s i rest j b).search
+  grown = (state_after_split s i rest j b).search
 
   grown_size : length grown.nodes ≡ n + 2
   grown_size = parted_length s i j b rest there
@@ -110,7 +110,7 @@ module _ (p : Program) (limit : ℕ) (s : OpenSearch) (i : ℕ) (rest : List ℕ
   by_ending : (k : ℕ) (o : OpenNode) (f : Ending) → open_node_at grown k ≡ o → o.ending ≡ None → (open_node_at grown k).ending ≡ Some f → IsOneLine p f
   by_ending k o f e z q = absurd (none-some f (sym z ∙ sym (ap (λ (n : OpenNode). n.ending) e) ∙ q))
 
-  parted_lists : AreListed p limit grown
+  parted_lists : AreListed p budget grown
   parted_lists = record {
     columns = λ k c l q. elim (which k l) [
       | inl m ↦ h.columns k c m (sym (parted_branch s i j b rest there k m) ∙ q)
@@ -135,45 +135,45 @@ module _ (p : Program) (limit : ℕ) (s : OpenSearch) (i : ℕ) (rest : List ℕ
   }
 
 -- ---- a step
-module _ (p : Program) (limit : ℕ) (s : OpenSearch) (i : ℕ) (rest : List ℕ) (stands : IsStanding p (record { search = s; pending = i ∷ rest })) (h : AreListed p limit s) where
+module _ (p : Problem) (budget : ℕ) (s : OpenSearch) (i : ℕ) (rest : List ℕ) (stands : IsStanding p (record { search = s; open_nodes = i ∷ rest })) (h : AreListed p budget s) where
   there_now : i < length s.nodes
   there_now = All-head (λ k. k < length s.nodes) i rest stands.there
 
-  with_point : (x : List ℤ) → AreListed p limit (record s { incumbent = Some x })
+  with_point : (x : List ℤ) → AreListed p budget (record s { incumbent = Some x })
   with_point x = record { columns = h.columns; lines = h.lines; room = h.room }
 
-  treated_lists : (v : Verdict) → Tells p (box_of p s i) (cutoff p s.incumbent) v → Lists p limit (treated limit s i rest (box_of p s i) v)
-  treated_lists (Empty j) t = closed_lists p limit s i (empty j) there_now h tt
+  treated_lists : (v : Verdict) → Tells p (box_of p s i) (cutoff p s.incumbent) v → Lists p budget (state_after_verdict budget s i rest (box_of p s i) v)
+  treated_lists (Empty j) t = closed_lists p budget s i (empty j) there_now h tt
   treated_lists (Refuted r sign) t =
-      closed_lists p limit s i (refute ((r, multiplier sign) ∷ [])) there_now h (slice_get_within p.rows r t.row t.there, one_or_minus sign)
-  treated_lists Priced t = closed_lists p limit s i (bound [] false) there_now h (refl, refl)
-  treated_lists Point t = closed_lists p limit (record s { incumbent = Some _ }) i (bound [] false) there_now (with_point _) (refl, refl)
-  treated_lists Unsettled t = by_room (nat_lt limit (length s.nodes + 2)) refl
+      closed_lists p budget s i (refute ((r, multiplier sign) ∷ [])) there_now h (slice_get_within p.rows r t.row t.there, one_or_minus sign)
+  treated_lists Priced t = closed_lists p budget s i (bound [] false) there_now h (refl, refl)
+  treated_lists Point t = closed_lists p budget (record s { incumbent = Some _ }) i (bound [] false) there_now (with_point _) (refl, refl)
+  treated_lists Unsettled t = by_room (nat_lt budget (length s.nodes + 2)) refl
     where
-      by_room : (b : Bool) → nat_lt limit (length s.nodes + 2) ≡ b → Lists p limit (cond b None (Some (parted s i rest (first_free (box_of p s i)) (middle (span_at (box_of p s i) (first_free (box_of p s i)))))))
+      by_room : (b : Bool) → nat_lt budget (length s.nodes + 2) ≡ b → Lists p budget (cond b None (Some (state_after_split s i rest (first_free (box_of p s i)) (middle (span_at (box_of p s i) (first_free (box_of p s i)))))))
       by_room true e = tt
       by_room false e =
-          parted_lists p limit s i rest (first_free (box_of p s i)) (middle (span_at (box_of p s i) (first_free (box_of p s i)))) there_now
-          (column_below p s i _ _ (open_free p limit s i rest stands t).there) (omega (arith, ltb-false _ _ e)) h
+          parted_lists p budget s i rest (first_free (box_of p s i)) (middle (span_at (box_of p s i) (first_free (box_of p s i)))) there_now
+          (column_below p s i _ _ (open_free p budget s i rest stands t).there) (omega (arith, ltb-false _ _ e)) h
 
-  taken_now : Lists p limit (taken p limit s (i ∷ rest))
+  taken_now : Lists p budget (state_after_node p budget s (i ∷ rest))
   taken_now = treated_lists (verdict p (box_of p s i) (cutoff p s.incumbent)) (verdict_tells p (box_of p s i) (cutoff p s.incumbent))
 
-taken_lists : (p : Program) (limit : ℕ) (s : OpenSearch) (is : List ℕ) → IsStanding p (record { search = s; pending = is }) → AreListed p limit s → Lists p limit (taken p limit s is)
-taken_lists p limit s [] stands h = tt
-taken_lists p limit s (i ∷ rest) stands h = taken_now p limit s i rest stands h
+taken_lists : (p : Problem) (budget : ℕ) (s : OpenSearch) (is : List ℕ) → IsStanding p (record { search = s; open_nodes = is }) → AreListed p budget s → Lists p budget (state_after_node p budget s is)
+taken_lists p budget s [] stands h = tt
+taken_lists p budget s (i ∷ rest) stands h = taken_now p budget s i rest stands h
 
-steps_list : (p : Program) (limit n : ℕ) (t : State) → IsStanding p t → AreListed p limit t.search → AreListed p limit (steps p limit n t).search
-steps_list p limit zero t stands h = h
-steps_list p limit (suc m) t stands h = onward (steps_list p limit m) (step p limit t) (step_stands p limit t stands) (taken_lists p limit t.search t.pending stands h)
+steps_list : (p : Problem) (budget n : ℕ) (t : State) → IsStanding p t → AreListed p budget t.search → AreListed p budget (steps p budget n t).search
+steps_list p budget zero t stands h = h
+steps_list p budget (suc m) t stands h = onward (steps_list p budget m) (step p budget t) (step_stands p budget t stands) (taken_lists p budget t.search t.open_nodes stands h)
   where
-    onward : ((u : State) → IsStanding p u → AreListed p limit u.search → AreListed p limit (steps p limit m u).search)
-        → (o : Option State) → Stays p o → Lists p limit o → AreListed p limit (option_map_or (λ u. steps p limit m u) o t).search
+    onward : ((u : State) → IsStanding p u → AreListed p budget u.search → AreListed p budget (steps p budget m u).search)
+        → (o : Option State) → Stays p o → Lists p budget o → AreListed p budget (option_map_or (λ u. steps p budget m u) o t).search
     onward later None a b = h
     onward later (Some u) a b = later u a b
 
-start_lists : (p : Program) (limit : ℕ) → AreListed p limit start.search
-start_lists p limit = record { columns = none; lines = unended; room = inr refl }
+start_lists : (p : Problem) (budget : ℕ) → AreListed p budget start.search
+start_lists p budget = record { columns = none; lines = unended; room = inr refl }
   where
     none : (k : ℕ) (b : Branch) → k < 1 → (open_node_at start.search k).branch ≡ Some b → b.column < length p.spans
     none zero b l q = absurd (none-some b q)
@@ -184,11 +184,11 @@ start_lists p limit = record { columns = none; lines = unended; room = inr refl 
     unended (suc k) e l q = absurd (omega (arith, l))
 
 -- ---- the end
-inside : (p : Program) (o : Option (List ℤ)) → IsIncumbent p o → IfSome o (IsInBox p.spans)
+inside : (p : Problem) (o : Option (List ℤ)) → IsIncumbent p o → IfSome o (IsInBox p.spans)
 inside p None h = tt
 inside p (Some x) h = h.in_box
 
-module _ (p : Program) (limit : ℕ) (s : OpenSearch) (stands : IsStanding p (record { search = s; pending = [] })) (h : AreListed p limit s) (l : IsLimited p) (few : limit ≤ 10 ^ 9) where
+module _ (p : Problem) (budget : ℕ) (s : OpenSearch) (stands : IsStanding p (record { search = s; open_nodes = [] })) (h : AreListed p budget s) (l : IsLimited p) (few : budget ≤ 10 ^ 9) where
   branch_within : (k : ℕ) → k < length (so_far s).nodes → (o : Option Branch) → (node_at (so_far s) k).branch ≡ o → IsBranchWithin (so_far s) (length p.spans) o
   branch_within k m None q = tt
   branch_within k m (Some b) q =
@@ -208,7 +208,7 @@ module _ (p : Program) (limit : ℕ) (s : OpenSearch) (stands : IsStanding p (re
   ending_plain k m =
       let m' : k < length s.nodes = omega (arith, m, size_is s) in
       let e = all_ended p s stands k m' (open_node_at s k).ending refl in
-      let same : e.0 ≡ (node_at (so_far s) k).ending = ap ended (sym e.1) ∙ ap (λ (n : Node). n.ending) (sym (node_is s k)) in
+      let same : e.0 ≡ (node_at (so_far s) k).ending = ap ending_if_any (sym e.1) ∙ ap (λ (n : Node). n.ending) (sym (node_is s k)) in
       subst (IsPlainEnding p (so_far s)) same (plain_ending k e.0 (stands.ended k e.0 m' e.1) (h.lines k e.0 m' e.1))
 
   few_nodes : length s.nodes ≤ 10 ^ 9
@@ -223,8 +223,8 @@ module _ (p : Program) (limit : ℕ) (s : OpenSearch) (stands : IsStanding p (re
     numbered = omega (arith, l.few_rows, l.few_columns, few_nodes, size_is s, ap length stands.cuts);
   }
 
-pub finished_is_plain : (p : Program) → IsLimited p → FinishedIsPlain p
-finished_is_plain p l limit few e =
-    let t = first_search p limit in
-    let stands : IsStanding p (record { search = t.search; pending = [] }) = subst (λ is. IsStanding p (record { search = t.search; pending = is })) e (steps_stand p limit (limit + 1) start (start_stands p l.spans)) in
-    plain p limit t.search stands (steps_list p limit (limit + 1) start (start_stands p l.spans) (start_lists p limit)) l few
+pub finished_is_plain : (p : Problem) → IsLimited p → FinishedIsPlain p
+finished_is_plain p l budget few e =
+    let t = first_search p budget in
+    let stands : IsStanding p (record { search = t.search; open_nodes = [] }) = subst (λ is. IsStanding p (record { search = t.search; open_nodes = is })) e (steps_stand p budget (budget + 1) start (start_stands p l.spans)) in
+    plain p budget t.search stands (steps_list p budget (budget + 1) start (start_stands p l.spans) (start_lists p budget)) l few

@@ -5,29 +5,32 @@ use Rattle.std.proofs.lemmas.Int.{ints}
 use Rattle.std.proofs.lemmas.List.{get_or_append_left}
 use Rattle.std.proofs.lemmas.List.Elements.{All-nil, All-cons, All-head, All-tail}
 use Rattle.std.proofs.lemmas.Option.{slice_get_within, get_or_from_slice_get}
-use Rattle.fraction.specs.Rational.{ℚ, whole, ◌+ℚ◌, ◌*ℚ◌, ◌≤ℚ◌, neg_ℚ, +ℚ_assoc, +ℚ_comm, *ℚ_assoc, one-*ℚ, zero-*ℚ, zero-+ℚ, neg-+ℚ, +ℚ-≤ℚ, ≤ℚ_trans}
-use Rattle.fraction.specs.Order.{◌<ℚ◌, not_both, either_order, whole-≤ℚ}
-use Rattle.fraction.specs.Ring.{ring_ℚ, +ℚ-mul, +ℚ-zero, *ℚ-zero}
-use Rattle.fraction.specs.Whole.{whole-+, whole-*}
+use Rattle.fraction.specs.Rational.{ℚ, whole, ◌+ℚ◌, ◌*ℚ◌, ◌≤ℚ◌, neg_ℚ}
+use Rattle.fraction.specs.Lemmas.Rational.{+ℚ_assoc, +ℚ_comm, *ℚ_assoc, one-*ℚ, zero-*ℚ, zero-+ℚ, neg-+ℚ, +ℚ-≤ℚ, ≤ℚ_trans}
+use Rattle.fraction.specs.Order.{◌<ℚ◌}
+use Rattle.fraction.specs.Lemmas.Order.{less_most, not_both, either_order, whole-≤ℚ}
+use Rattle.fraction.specs.Lemmas.Ring.{ring_ℚ, +ℚ-mul, +ℚ-zero, *ℚ-zero}
+use Rattle.fraction.specs.Lemmas.Whole.{whole-+, whole-*}
 use Rattle.problem_box.specs.declared.span.Span.{Span}
 use Rattle.problem_box.specs.Boxes.{IsWithin, IsInBox}
 use Rattle.problem.specs.declared.row.Sense.{Sense}
 use Rattle.problem.specs.declared.row.Sense.TheVariants.{G, L, E}
 use Rattle.problem.specs.declared.row.Row.{Row}
-use Rattle.problem.specs.Linear.{value, coefficient, scaled, columns_sum, value-columns, value-scaled}
-use Rattle.problem.specs.Program.{Program}
+use Rattle.problem.specs.Linear.{value, coefficient, scaled}
+use Rattle.problem.specs.Lemmas.Linear.{columns_sum, value-columns, value-scaled}
+use Rattle.problem.specs.Problem.{Problem}
 use Rattle.row_activity.specs.declared.verdict.Sign.{Sign}
 use Rattle.row_activity.specs.declared.verdict.Sign.TheVariants.{Plus, Minus}
 use Rattle.row_activity.specs.Activity.{low_end, low_of, high_of, IsNonempty}
-use Rattle.row_activity.specs.Extremes.{low_of-≤ℚ, ≤ℚ-high_of}
+use Rattle.row_activity.specs.Lemmas.Extremes.{low_of-≤ℚ, ≤ℚ-high_of}
 use Rattle.row_activity.specs.Meaning.{IsMissed}
-use Rattle.cert_rows.specs.Lines.{Line, row_at, no_line}
+use Rattle.cert_rows.specs.Lines.{CertLine, row_at, no_cert_line}
 use Rattle.cert_rows.specs.Combination.{HasRightSign}
 use Rattle.cert_rows.specs.Validity.{IsCombination, bound_rows}
-use Rattle.cert_merge.specs.Closing.{left_of, fillings_price, price}
+use Rattle.cert_merge.specs.Closing.{reduced_cost, bound_multipliers_price, price}
 use Rattle.cert_merge.specs.Search.{Cut}
 use Rattle.cert_merge.specs.Merged.{base_lines}
-use Rattle.cert_tree.proofs.Base.{bare_row, length-base}
+use Rattle.cert_tree.specs.Lemmas.Base.{bare_row, length-base}
 use Rattle.plain_search.specs.FirstSearch.{multiplier}
 
 -- ---- minus one
@@ -60,12 +63,6 @@ lesser x y z h k = elim (either_order z x) [
   | inr l ↦ l
 ]
 
-pub less_most : (x y z : ℚ) → x <ℚ y → y ≤ℚ z → x <ℚ z
-less_most x y z h k = elim (either_order z x) [
-  | inl l ↦ absurd (not_both y x (≤ℚ_trans y z x k l) h)
-  | inr l ↦ l
-]
-
 -- ---- the point at which the fillings have their price
 abbrev ends : (ℕ → ℚ) → ℕ → List Span → List ℤ
 ends f j [] = []
@@ -80,14 +77,14 @@ ends_inside f j (s ∷ ss) h =
     step true k = (omega (arith, ints), k)
     step false k = (k, omega (arith, ints))
 
-priced_from : (f : ℕ → ℚ) (j : ℕ) (ss : List Span) → fillings_price f j ss ≡ columns_sum (λ k. f (j + k)) (ends f j ss)
+priced_from : (f : ℕ → ℚ) (j : ℕ) (ss : List Span) → bound_multipliers_price f j ss ≡ columns_sum (λ k. f (j + k)) (ends f j ss)
 priced_from f j [] = refl
 priced_from f j (s ∷ ss) =
     let next : (k : ℕ) → j + 1 + k ≡ j + suc k = λ k. omega arith in
     let here : j ≡ j + zero = omega arith in
     λ i. f (here i) *ℚ whole (low_end (f j) s) +ℚ (priced_from f (j + 1) ss ∙ (λ m. columns_sum (λ k. f (next k m)) (ends f (j + 1) ss))) i
 
-priced_at : (f : ℕ → ℚ) (ss : List Span) → fillings_price f 0 ss ≡ columns_sum f (ends f 0 ss)
+priced_at : (f : ℕ → ℚ) (ss : List Span) → bound_multipliers_price f 0 ss ≡ columns_sum f (ends f 0 ss)
 priced_at f ss = let same : (k : ℕ) → 0 + k ≡ k = λ k. omega arith in priced_from f 0 ss ∙ (λ m. columns_sum (λ k. f (same k m)) (ends f 0 ss))
 
 gathered : (a b x u v m : ℚ) → (a +ℚ m *ℚ b) *ℚ x +ℚ (u +ℚ m *ℚ v) ≡ (a *ℚ x +ℚ u) +ℚ m *ℚ (b *ℚ x +ℚ v)
@@ -101,27 +98,27 @@ sum_less g h (x ∷ xs) = ap (λ v. (g zero +ℚ minus *ℚ h zero) *ℚ whole x
 pub record IsPricedAt (ss : List Span) (target terms : List (ℕ × ℚ)) : Type 0 where
   pub point : List ℤ
   pub inside : IsInBox ss point
-  pub priced : fillings_price (left_of target terms) 0 ss ≡ value target point +ℚ minus *ℚ value terms point
+  pub priced : bound_multipliers_price (reduced_cost target terms) 0 ss ≡ value target point +ℚ minus *ℚ value terms point
 
 pub price_point : (ss : List Span) (target terms : List (ℕ × ℚ)) → IsNonempty ss → IsPricedAt ss target terms
 price_point ss target terms n =
-    let x : List ℤ = ends (left_of target terms) 0 ss in
+    let x : List ℤ = ends (reduced_cost target terms) 0 ss in
     record {
       point = x;
-      inside = ends_inside (left_of target terms) 0 ss n;
-      priced = priced_at (left_of target terms) ss ∙ (λ i. columns_sum (λ j. coefficient target j +ℚ neg_is (coefficient terms j) i) x) ∙ sum_less (coefficient target) (coefficient terms) x
+      inside = ends_inside (reduced_cost target terms) 0 ss n;
+      priced = priced_at (reduced_cost target terms) ss ∙ (λ i. columns_sum (λ j. coefficient target j +ℚ neg_is (coefficient terms j) i) x) ∙ sum_less (coefficient target) (coefficient terms) x
           ∙ (λ i. sym (value-columns target x) i +ℚ minus *ℚ sym (value-columns terms x) i);
     }
 
 -- ---- no multipliers
 -- the price of the objective alone is its value at a point of the box
-pub bare_price : (ls : List Line) (target : List (ℕ × ℚ)) (ss : List Span) → IsNonempty ss → (x : List ℤ) × IsInBox ss x × (price ls target [] ss ≡ value target x)
+pub bare_price : (ls : List CertLine) (target : List (ℕ × ℚ)) (ss : List Span) → IsNonempty ss → (x : List ℤ) × IsInBox ss x × (price ls target [] ss ≡ value target x)
 bare_price ls target ss n =
     let at = price_point ss target [] n in
     (at.point, at.inside, zero-+ℚ _ ∙ at.priced ∙ ap (λ v. value target at.point +ℚ v) (*ℚ-zero minus) ∙ +ℚ-zero _)
 
 -- ---- one row
-module _ (p : Program) (cs : List Cut) (i : ℕ) (r : Row) (there : slice_get p.rows i ≡ Some r) where
+module _ (p : Problem) (cs : List Cut) (i : ℕ) (r : Row) (there : slice_get p.rows i ≡ Some r) where
   pub row_there : i < length (base_lines p cs)
   row_there = let k = slice_get_within p.rows i r there in omega (arith, k, length-base p cs)
 
@@ -129,8 +126,8 @@ module _ (p : Program) (cs : List Cut) (i : ℕ) (r : Row) (there : slice_get p.
   row_is =
       let k = slice_get_within p.rows i r there in
       bare_row (p.rows ++ bound_rows 0 p.spans ++ map (λ (c : Cut). c.row) cs) i
-      ∙ get_or_append_left (p.rows ++ bound_rows 0 p.spans) (map (λ (c : Cut). c.row) cs) no_line.row i (omega (arith, k, length-append p.rows (bound_rows 0 p.spans)))
-      ∙ get_or_append_left p.rows (bound_rows 0 p.spans) no_line.row i k ∙ get_or_from_slice_get p.rows i r no_line.row there
+      ∙ get_or_append_left (p.rows ++ bound_rows 0 p.spans) (map (λ (c : Cut). c.row) cs) no_cert_line.row i (omega (arith, k, length-append p.rows (bound_rows 0 p.spans)))
+      ∙ get_or_append_left p.rows (bound_rows 0 p.spans) no_cert_line.row i k ∙ get_or_from_slice_get p.rows i r no_cert_line.row there
 
   signed : (s : Sign) (ss : List Span) → IsMissed ss r s → HasRightSign G r.sense (multiplier s)
   signed Plus ss h = by_sense r.sense h.0
@@ -157,7 +154,7 @@ module _ (p : Program) (cs : List Cut) (i : ℕ) (r : Row) (there : slice_get p.
 
 -- the price of one row with a multiplier
 abbrev row_price : Row → ℚ → List Span → ℚ
-row_price r m ss = (m *ℚ r.rhs +ℚ whole (pos 0)) +ℚ fillings_price (left_of [] (scaled m r.terms ++ [])) 0 ss
+row_price r m ss = (m *ℚ r.rhs +ℚ whole (pos 0)) +ℚ bound_multipliers_price (reduced_cost [] (scaled m r.terms ++ [])) 0 ss
 
 scaled_alone : (m : ℚ) (ts : List (ℕ × ℚ)) → scaled m ts ++ [] ≡ scaled m ts
 scaled_alone m [] = refl
@@ -168,7 +165,7 @@ row_priced r m ss n =
     let at = price_point ss [] (scaled m r.terms) n in (
       at.point,
       at.inside,
-      (λ i. +ℚ-zero (m *ℚ r.rhs) i +ℚ fillings_price (left_of [] (scaled_alone m r.terms i)) 0 ss)
+      (λ i. +ℚ-zero (m *ℚ r.rhs) i +ℚ bound_multipliers_price (reduced_cost [] (scaled_alone m r.terms i)) 0 ss)
           ∙ ap (λ v. m *ℚ r.rhs +ℚ v) (at.priced ∙ zero-+ℚ _ ∙ ap (λ v. minus *ℚ v) (value-scaled m r.terms at.point)),
     )
 
@@ -183,6 +180,6 @@ missed_price r Minus ss n h =
     (difference _ _ (less_most r.rhs (low_of ss r.terms) (value r.terms at.0) h.1 (low_of-≤ℚ ss r.terms at.0 at.1)))
 
 -- a row that is missed has a price above 0
-pub row_above : (p : Program) (cs : List Cut) (i : ℕ) (r : Row) (s : Sign) (ss : List Span) → slice_get p.rows i ≡ Some r → IsNonempty ss → IsMissed ss r s
+pub row_above : (p : Problem) (cs : List Cut) (i : ℕ) (r : Row) (s : Sign) (ss : List Span) → slice_get p.rows i ≡ Some r → IsNonempty ss → IsMissed ss r s
     → whole (pos 0) <ℚ price (base_lines p cs) [] ((i, multiplier s) ∷ []) ss
 row_above p cs i r s ss e n h = subst (λ (q : Row). whole (pos 0) <ℚ row_price q (multiplier s) ss) (sym (row_is p cs i r e)) (missed_price r s ss n h)

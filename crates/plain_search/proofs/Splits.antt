@@ -6,7 +6,7 @@ use Rattle.std.proofs.lemmas.Int.{ints}
 use Rattle.std.proofs.lemmas.List.Elements.{All-nil, All-cons, All-head, All-tail}
 use Rattle.std.proofs.lemmas.Option.{same_Some, none-some, slice_get_within, get_or_from_slice_get}
 use Rattle.std.proofs.lemmas.List.{take_more, length-map, get_or-map}
-use Rattle.fraction.specs.Rational.{floor_below, floor_least}
+use Rattle.fraction.specs.Lemmas.Rational.{floor_below, floor_least}
 use Rattle.problem_box.specs.declared.span.Span.{Span}
 use Rattle.problem_box.specs.Boxes.{IsInBox}
 use Rattle.problem_box.specs.Changes.{cut_low, cut_high, IsFixed, IsFirstFree}
@@ -116,9 +116,9 @@ span_found ss j s e = get_or_from_slice_get ss j s (record { lo = pos 0; hi = po
 pub free_at : (ss : List Span) (j : ℕ) → IsOpen ss → j ≡ first_free ss → IsFree ss j
 free_at ss j h e = subst (IsFree ss) (sym e) (free_there ss h.nonempty h.free)
 
-pub has_room : (limit n : ℕ) → n + 2 ≤ limit → nat_lt limit (n + 2) ≡ false
-has_room limit n h = at (nat_lt limit (n + 2)) refl
+pub has_room : (budget n : ℕ) → n + 2 ≤ budget → nat_lt budget (n + 2) ≡ false
+has_room budget n h = at (nat_lt budget (n + 2)) refl
   where
-    at : (b : Bool) → nat_lt limit (n + 2) ≡ b → b ≡ false
+    at : (b : Bool) → nat_lt budget (n + 2) ≡ b → b ≡ false
     at true e = absurd (omega (arith, h, ltb-true _ _ e))
     at false e = refl

@@ -1,7 +1,7 @@
 // The first search of a problem.
 ghost use Rattle.std.specs.Prelude.{IfOk};
 ghost use Rattle.plain_search.specs.FirstSearch.{first_search};
-ghost use Rattle.plain_search.specs.Kept.{state_of, IsKept, IsOutcome};
+ghost use Rattle.plain_search.specs.Kept.{state_of, HasBoxes, IsOutcome};
 
 use crate::run::Run;
 use cert_merge::Search;
@@ -18,13 +18,13 @@ pub enum Outcome {
         /// How many nodes there are.
         nodes: usize,
         /// How many of them are open.
-        waiting: usize,
+        open_nodes: usize,
     },
 }
 
 /// What is handed out of a search where no step is left.
 fn handed_out(problem: &Problem, run: Run) -> Outcome
-    requires { IsKept problem.now run.search run.open.items }
+    requires { HasBoxes problem.now run.search run.open.items }
     ensures { IsOutcome (state_of run.search run.open.items) result }
 {
     problem.limits_hold();
@@ -34,7 +34,7 @@ fn handed_out(problem: &Problem, run: Run) -> Outcome
     }
     Outcome::Spent {
         nodes: search.len(),
-        waiting: open.len(),
+        open_nodes: open.len(),
     }
 }
 

@@ -1,13 +1,13 @@
 //! Laws of first searches.
 
-ghost use Rattle.plain_search.specs.PointCount.{PointsAreCounted};
+ghost use Rattle.problem_box.specs.PointCount.{PointsAreCounted};
 ghost use Rattle.plain_search.specs.Laws.{StepsAreEnough, SpentIsSpent, SpentIsBelow, FinishedIsFinished, PointsImprove, FinishedIsPlain};
 
 use problem::Problem;
 use problem_box::IntBox;
 
 /// A first search comes to where no step is left. Where an open node is left there, it is unsettled, and the nodes of its split would pass
-/// the limit: then the limit is less than twice the number of the root's points, less 1. Each point that becomes the incumbent on the way
+/// the budget: then the budget is less than twice the number of the root's points, less 1. Each point that becomes the incumbent on the way
 /// is feasible, and better than the one before.
 pub fn searches_end(problem: &Problem)
     ensures enough { StepsAreEnough problem.now }

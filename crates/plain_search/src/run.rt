@@ -6,8 +6,8 @@ ghost use Rattle.row_activity.specs.Verdicts.{verdict};
 ghost use Rattle.row_activity.specs.Meaning.{IsOpen};
 ghost use Rattle.cert_merge.specs.Search.{empty, refute, bound};
 ghost use Rattle.cert_merge.specs.Nodes.{ending_of};
-ghost use Rattle.plain_search.specs.FirstSearch.{start, cutoff, multiplier, parted, taken, step};
-ghost use Rattle.plain_search.specs.Kept.{numbers_of, state_of, IsKept, halves, Follows};
+ghost use Rattle.plain_search.specs.FirstSearch.{start, cutoff, multiplier, state_after_split, state_after_node, step};
+ghost use Rattle.plain_search.specs.Kept.{numbers_of, state_of, HasBoxes, halves, IsStepOf};
 
 use crate::choice::{corner, first_free, middle, multiplier};
 use cert_merge::{Branch, Ending, OpenSearch, Side};
@@ -77,7 +77,7 @@ fn add_children(
     requires room { length search.old.nodes + 2 < 2 ^ 32 }
     requires column { column < 2 ^ 32 }
     requires bound { nat_abs bound ≤ 10 ^ 9 }
-    ensures { OnOk result (search.new ≡ (parted search.old node [] column bound).search) }
+    ensures { OnOk result (search.new ≡ (state_after_split search.old node [] column bound).search) }
 {
     let left = search.len() as u32;
     search.push(Branch {
@@ -133,7 +133,7 @@ fn push_halves(
 impl Run {
     /// The search of node 0 alone, which is open. The one error is want of memory.
     pub fn start(alloc: Global, problem: &Problem) -> Result<Run, AllocError>
-        ensures kept { IfOk result (λ r. IsKept problem.now r.search r.open.items) }
+        ensures kept { IfOk result (λ r. HasBoxes problem.now r.search r.open.items) }
         ensures cutoff { IfOk result (λ r. r.cutoff ≡ cutoff problem.now r.search.incumbent) }
         ensures start { IfOk result (λ r. state_of r.search r.open.items ≡ start) }
     {
@@ -148,25 +148,25 @@ impl Run {
         })
     }
 
-    /// Splits an open node that is unsettled, and says whether its two nodes keep to the limit; where they don't, it stays open. The one
+    /// Splits an open node that is unsettled, and says whether its two nodes keep to the budget; where they don't, it stays open. The one
     /// error is want of memory.
     fn split(
         &mut self,
         alloc: Global,
         problem: &Problem,
-        limit: u32,
+        budget: u32,
         node: OpenBox,
     ) -> Result<bool, AllocError>
-        requires kept { IsKept problem.now self.old.search (self.old.open.items ++ node ∷ []) }
+        requires kept { HasBoxes problem.now self.old.search (self.old.open.items ++ node ∷ []) }
         requires cutoff { self.old.cutoff ≡ cutoff problem.now self.old.search.incumbent }
         requires unsettled { verdict problem.now node.area (cutoff problem.now self.old.search.incumbent) ≡ Unsettled }
         requires free { IsOpen node.area }
-        ensures kept { IfOk result (λ _. IsKept problem.now self.new.search self.new.open.items) }
+        ensures kept { IfOk result (λ _. HasBoxes problem.now self.new.search self.new.open.items) }
         ensures cutoff { IfOk result (λ _. self.new.cutoff ≡ cutoff problem.now self.new.search.incumbent) }
-        ensures follows { IfOk result (λ more. Follows (taken problem.now limit self.old.search (node.number ∷ numbers_of self.old.open.items)) more (state_of self.old.search (self.old.open.items ++ node ∷ [])) (state_of self.new.search self.new.open.items)) }
+        ensures follows { IfOk result (λ more. IsStepOf (state_after_node problem.now budget self.old.search (node.number ∷ numbers_of self.old.open.items)) more (state_of self.old.search (self.old.open.items ++ node ∷ [])) (state_of self.new.search self.new.open.items)) }
     {
         problem.limits_hold();
-        if (limit as usize).saturating_sub(self.search.len()) < 2 {
+        if (budget as usize).saturating_sub(self.search.len()) < 2 {
             self.open.push(node)?;
             return Ok(false);
         }
@@ -183,14 +183,14 @@ impl Run {
         &mut self,
         alloc: Global,
         problem: &Problem,
-        limit: u32,
+        budget: u32,
         node: OpenBox,
     ) -> Result<bool, AllocError>
-        requires kept { IsKept problem.now self.old.search (self.old.open.items ++ node ∷ []) }
+        requires kept { HasBoxes problem.now self.old.search (self.old.open.items ++ node ∷ []) }
         requires cutoff { self.old.cutoff ≡ cutoff problem.now self.old.search.incumbent }
-        ensures kept { IfOk result (λ _. IsKept problem.now self.new.search self.new.open.items) }
+        ensures kept { IfOk result (λ _. HasBoxes problem.now self.new.search self.new.open.items) }
         ensures cutoff { IfOk result (λ _. self.new.cutoff ≡ cutoff problem.now self.new.search.incumbent) }
-        ensures follows { IfOk result (λ more. Follows (taken problem.now limit self.old.search (node.number ∷ numbers_of self.old.open.items)) more (state_of self.old.search (self.old.open.items ++ node ∷ [])) (state_of self.new.search self.new.open.items)) }
+        ensures follows { IfOk result (λ more. IsStepOf (state_after_node problem.now budget self.old.search (node.number ∷ numbers_of self.old.open.items)) more (state_of self.old.search (self.old.open.items ++ node ∷ [])) (state_of self.new.search self.new.open.items)) }
     {
         problem.limits_hold();
         match box_verdict(problem, &node.area, self.cutoff) {
@@ -215,21 +215,26 @@ impl Run {
                 self.search.set_ending(node.number as usize, priced(alloc));
                 Ok(true)
             }
-            Verdict::Unsettled => self.split(alloc, problem, limit, node),
+            Verdict::Unsettled => self.split(alloc, problem, budget, node),
         }
     }
 
     /// Takes the open node of greatest number, and says whether that was a step; where no step is left, the search stays as it is. The
     /// one error is want of memory.
-    pub fn step(&mut self, alloc: Global, problem: &Problem, limit: u32) -> Result<bool, AllocError>
-        requires kept { IsKept problem.now self.old.search self.old.open.items }
+    pub fn step(
+        &mut self,
+        alloc: Global,
+        problem: &Problem,
+        budget: u32,
+    ) -> Result<bool, AllocError>
+        requires kept { HasBoxes problem.now self.old.search self.old.open.items }
         requires cutoff { self.old.cutoff ≡ cutoff problem.now self.old.search.incumbent }
-        ensures kept { IfOk result (λ _. IsKept problem.now self.new.search self.new.open.items) }
+        ensures kept { IfOk result (λ _. HasBoxes problem.now self.new.search self.new.open.items) }
         ensures cutoff { IfOk result (λ _. self.new.cutoff ≡ cutoff problem.now self.new.search.incumbent) }
-        ensures follows { IfOk result (λ more. Follows (step problem.now limit (state_of self.old.search self.old.open.items)) more (state_of self.old.search self.old.open.items) (state_of self.new.search self.new.open.items)) }
+        ensures follows { IfOk result (λ more. IsStepOf (step problem.now budget (state_of self.old.search self.old.open.items)) more (state_of self.old.search self.old.open.items) (state_of self.new.search self.new.open.items)) }
     {
         match self.open.pop() {
-            Some(node) => self.treat(alloc, problem, limit, node),
+            Some(node) => self.treat(alloc, problem, budget, node),
             None => Ok(false),
         }
     }

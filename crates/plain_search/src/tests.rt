@@ -106,7 +106,7 @@ fn found(
             }
             Ok((search.len(), 0, point))
         }
-        Outcome::Spent { nodes, waiting } => Ok((nodes, waiting, point)),
+        Outcome::Spent { nodes, open_nodes } => Ok((nodes, open_nodes, point)),
     }
 }
 
@@ -124,7 +124,7 @@ fn knapsack(rt: HostRuntime) -> Result<(), AllocError> {
         (-3, -2, -2, -1),
         (1, 1, 1, 1),
     )?;
-    for (budget, nodes, waiting) in [
+    for (budget, nodes, open_nodes) in [
         (0, 1, 1),
         (1, 1, 1),
         (2, 1, 1),
@@ -134,7 +134,7 @@ fn knapsack(rt: HostRuntime) -> Result<(), AllocError> {
     ] {
         let (n, k, point) = found(alloc, &problem, budget)?;
         assert_eq!(rt; n, nodes);
-        assert_eq!(rt; k, waiting);
+        assert_eq!(rt; k, open_nodes);
         assert_eq!(rt; point.len(), 0);
     }
     for budget in [9, 100] {

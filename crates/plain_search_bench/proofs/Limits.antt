@@ -1,16 +1,13 @@
 -- Terms that are made column by column keep to the limits.
 use Rattle.std.specs.Prelude.{◌≡◌, ◌<◌, ◌≤◌, ◌+◌, ◌^◌, ℕ, suc, ℤ, pos, nat_abs, List, [], ◌∷◌, ◌++◌, All}
-use Rattle.std.proofs.Common.{sym, ap, ◌∙◌, arith}
+use Rattle.std.proofs.Common.{arith}
 use Rattle.std.proofs.lemmas.List.Elements.{All-nil, All-cons, All-append, All-head, All-tail, All-weaker}
 use Rattle.fraction.specs.Rational.{ℚ, whole}
-use Rattle.fraction.specs.Bounds.{whole_parts}
+use Rattle.fraction.specs.Lemmas.Bounds.{whole_nonzero}
 use Rattle.problem.specs.Modest.{IsModest}
 use Rattle.problem.specs.Rising.{RiseFrom}
 use Rattle.problem.specs.Limited.{AreLimited}
-use Rattle.row_activity.proofs.Samples.{whole_within}
-
-nonzero : (z : ℤ) → (z ≡ pos 0 → ⊥) → whole z ≡ whole (pos 0) → ⊥
-nonzero z n e = n (sym (whole_parts z).0 ∙ ap (λ (q : ℚ). q.num) e ∙ (whole_parts (pos 0)).0)
+use Rattle.problem.specs.Lemmas.Modest.{whole_within}
 
 rise_on : (k n : ℕ) (ts : List (ℕ × ℚ)) (c : ℚ) → k ≤ n → RiseFrom k ts → All (λ t. t.0 < n) ts → RiseFrom k (ts ++ (n, c) ∷ [])
 rise_on k n [] c l r h = (l, tt)
@@ -41,7 +38,7 @@ term_more n ts z l m h =
       below = All-append (λ (t : ℕ × ℚ). t.0 < n + 1) ts one (further n ts h.below) (All-cons (λ (t : ℕ × ℚ). t.0 < n + 1) (n, whole z) [] (omega arith) (All-nil (λ (t : ℕ × ℚ). t.0 < n + 1)));
       rising = rise_on 0 n ts (whole z) (omega arith) h.rising h.below;
       nonzero = All-append (λ (t : ℕ × ℚ). t.1 ≡ whole (pos 0) → ⊥) ts one h.nonzero
-          (All-cons (λ (t : ℕ × ℚ). t.1 ≡ whole (pos 0) → ⊥) (n, whole z) [] (nonzero z m) (All-nil (λ (t : ℕ × ℚ). t.1 ≡ whole (pos 0) → ⊥)));
+          (All-cons (λ (t : ℕ × ℚ). t.1 ≡ whole (pos 0) → ⊥) (n, whole z) [] (whole_nonzero z m) (All-nil (λ (t : ℕ × ℚ). t.1 ≡ whole (pos 0) → ⊥)));
       modest = All-append (λ (t : ℕ × ℚ). IsModest t.1) ts one h.modest
           (All-cons (λ (t : ℕ × ℚ). IsModest t.1) (n, whole z) [] (whole_within z (10 ^ 24) (omega (arith, l))) (All-nil (λ (t : ℕ × ℚ). IsModest t.1)));
     }

@@ -1,20 +1,21 @@
 -- Feasible points and their objective.
-use Rattle.std.specs.Prelude.{ℤ, List, All}
+use Rattle.std.specs.Prelude.{All}
 use Rattle.fraction.specs.Rational.{ℚ}
 use Rattle.problem_box.specs.Boxes.{IsInBox}
-use Rattle.problem.specs.Linear.{value, IsWhole}
+use Rattle.problem.specs.Linear.{Point, value}
 use Rattle.problem.specs.Rows.{Satisfies}
-use Rattle.problem.specs.Program.{Program}
+use Rattle.problem.specs.Problem.{Problem}
+use Rattle.fraction.specs.Whole.{IsWhole}
 
 -- one whole number per column, each in its span, such that each row is satisfied
-pub record IsFeasible (p : Program) (x : List ℤ) : Type 0 where
+pub record IsFeasible (p : Problem) (x : Point) : Type 0 where
   pub in_box : IsInBox p.spans x
   pub rows : All (Satisfies x) p.rows
 
 -- the objective at a point
-abbrev pub objective_at : Program → List ℤ → ℚ
+abbrev pub objective_at : Problem → Point → ℚ
 objective_at p x = value p.objective x
 
 -- each coefficient of the objective is a whole number
-abbrev pub HasWholeObjective : Program → Type 0
+abbrev pub HasWholeObjective : Problem → Type 0
 HasWholeObjective p = All (λ t. IsWhole t.1) p.objective

@@ -1,6 +1,6 @@
 pub mod Linear
 pub mod Rows
-pub mod Program
+pub mod Problem
 pub mod Feasible
 pub mod Best
 pub mod Checked
@@ -8,3 +8,4 @@ pub mod Modest
 pub mod Limited
 pub mod Rising
 pub mod Forms
+pub mod Lemmas

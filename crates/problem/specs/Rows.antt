@@ -1,10 +1,13 @@
 -- Rows of an integer program.
-use Rattle.std.specs.Prelude.{◌≡◌, ℤ, List}
+use Rattle.std.specs.Prelude.{◌≡◌, List}
 use Rattle.fraction.specs.Rational.{ℚ, ◌≤ℚ◌}
 use Rattle.problem.specs.declared.row.Sense.{Sense}
 use Rattle.problem.specs.declared.row.Sense.TheVariants.{G, L, E}
 use Rattle.problem.specs.declared.row.Row.{Row}
-use Rattle.problem.specs.Linear.{value}
+use Rattle.problem.specs.Linear.{Point, value}
+
+abbrev pub Rows : Type 0
+Rows = List Row
 
 -- a value stands to the right side as the sense says
 abbrev pub Compares : Sense → ℚ → ℚ → Type 0
@@ -13,5 +16,5 @@ Compares L rhs v = v ≤ℚ rhs
 Compares E rhs v = v ≡ rhs
 
 -- the point satisfies the row
-abbrev pub Satisfies : List ℤ → Row → Type 0
+abbrev pub Satisfies : Point → Row → Type 0
 Satisfies p r = Compares r.sense r.rhs (value r.terms p)

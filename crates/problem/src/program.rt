@@ -27,9 +27,9 @@ pub struct Problem {
 }
 
 impl Model for Problem {
-    ghost use Rattle.problem.specs.Program.{Program};
+    ghost use Rattle.problem.specs.Problem.{Problem as Described};
 
-    ghost Value = { Program };
+    ghost Value = { Described };
 
     ghost use Rattle.problem.specs.Limited.{IsLimited};
 

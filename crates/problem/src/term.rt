@@ -86,6 +86,7 @@ impl Term {
     }
 
     /// The column.
+    #[inline]
     pub fn column(&self) -> u32
         ensures { result ≡ self.now.0 }
     {

@@ -1,8 +1,9 @@
 // Columns with their coefficients.
-ghost use Rattle.std.specs.Prelude.{◌≡◌, ◌<◌, ◌↔◌, ◌++◌, ◌∷◌, [], IsTrue, IfOk, OnOk, All, length};
-ghost use Rattle.problem.specs.Linear.{value, IsWhole};
-ghost use Rattle.problem.specs.Checked.{with_term, checked_value};
+ghost use Rattle.std.specs.Prelude.{◌≡◌, ◌<◌, ◌↔◌, ◌++◌, ◌∷◌, [], IsTrue, IfOk, OnOk, OnErr, All, length};
+ghost use Rattle.problem.specs.Linear.{value};
+ghost use Rattle.problem.specs.Checked.{add_product, checked_value};
 ghost use Rattle.problem.specs.Modest.{AreModest, IsModestPoint};
+ghost use Rattle.fraction.specs.Whole.{IsWhole};
 
 use crate::term::Term;
 use fraction::Frac;
@@ -29,8 +30,8 @@ impl Model for Terms {
 }
 
 /// The sum with one more term, unless it is cramped.
-fn with_term(total: Frac, coefficient: Frac, number: i64) -> Option<Frac>
-    ensures { result ≡ with_term total coefficient number }
+fn add_product(total: Frac, coefficient: Frac, number: i64) -> Option<Frac>
+    ensures { result ≡ add_product total coefficient number }
 {
     let product = coefficient.mul(Frac::of(number as i128))?;
     total.add(product)
@@ -57,9 +58,10 @@ impl Terms {
         Ok(Terms { items })
     }
 
-    /// Puts a term behind the others. The one error is want of memory.
+    /// Puts a term behind the others. The one error is want of memory, after which the terms are as before.
     pub fn push(&mut self, column: u32, coefficient: Frac) -> Result<(), AllocError>
-        ensures { OnOk result (self.new ≡ self.old ++ (column, coefficient) ∷ []) }
+        ensures ok { OnOk result (self.new ≡ self.old ++ (column, coefficient) ∷ []) }
+        ensures err { OnErr result (self.new ≡ self.old) }
     {
         let term = Term::make(*self.items.allocator(), column, coefficient)?;
         // A problem has many lists of terms, so each takes little more room than it needs.
@@ -109,7 +111,7 @@ impl Terms {
     {
         let mut total = Frac::of(0);
         for term in &self.items {
-            total = with_term(total, term.coefficient(), point[term.column() as usize])?;
+            total = add_product(total, term.coefficient(), point[term.column() as usize])?;
         }
         Some(total)
     }

@@ -1,6 +1,6 @@
 -- A cut changes the span at one column.
-use Rattle.std.specs.Prelude.{◌≡◌, ◌<◌, ℕ, zero, suc, ℤ, List, [], ◌∷◌, length, slice_get, Some, slice_set, refl}
-use Rattle.std.proofs.Common.{ap, arith, sym}
+use Rattle.std.specs.Prelude.{◌≡◌, ℕ, zero, suc, ℤ, List, [], ◌∷◌, slice_get, Some, slice_set, refl}
+use Rattle.std.proofs.Common.{ap, sym}
 use Rattle.problem_box.specs.declared.span.Span.{Span}
 use Rattle.problem_box.specs.Changes.{cut_high, cut_low}
 

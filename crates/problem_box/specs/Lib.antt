@@ -1,2 +1,4 @@
 pub mod Boxes
 pub mod Changes
+pub mod PointCount
+pub mod Lemmas

@@ -7,7 +7,7 @@ use Rattle.std.proofs.lemmas.List.Elements.{All-head, All-tail}
 use Rattle.fraction.specs.Rational.{ℚ}
 use Rattle.problem_box.specs.declared.span.Span.{Span}
 use Rattle.problem_box.specs.Changes.{IsFirstEmpty}
-use Rattle.problem.specs.Program.{Program}
+use Rattle.problem.specs.Problem.{Problem}
 use Rattle.row_activity.specs.declared.verdict.Sign.{Sign}
 use Rattle.row_activity.specs.Activity.{low_of, IsNonempty}
 use Rattle.row_activity.specs.Verdicts.{refuted_from, first_empty, reaches, is_fixed, first_of_all, verdict}
@@ -51,6 +51,6 @@ pub none_empty : (ss : List Span) → IsNonempty ss → first_empty ss ≡ None
 none_empty ss h = none_from 0 ss h
 
 -- the verdict is the first that holds
-pub settled : (p : Program) (ss : List Span) (c : Option ℚ) (a : Option ℕ) (b : Option (ℕ × Sign)) (d f : Bool)
+pub settled : (p : Problem) (ss : List Span) (c : Option ℚ) (a : Option ℕ) (b : Option (ℕ × Sign)) (d f : Bool)
     → first_empty ss ≡ a → refuted_from 0 ss p.rows ≡ b → reaches (low_of ss p.objective) c ≡ d → is_fixed ss ≡ f → first_of_all a b d f ≡ verdict p ss c
 settled p ss c a b d f u v w x = λ i. first_of_all (sym u i) (sym v i) (sym w i) (sym x i)

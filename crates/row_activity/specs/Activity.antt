@@ -3,6 +3,9 @@ use Rattle.std.specs.Prelude.{◌≤◌, ℕ, ℤ, pos, ◌≤ℤ◌, int_lt, if
 use Rattle.fraction.specs.Rational.{ℚ, whole, ◌+ℚ◌, ◌*ℚ◌}
 use Rattle.problem_box.specs.declared.span.Span.{Span}
 use Rattle.problem.specs.Limited.{IsModestSpan}
+use Rattle.problem.specs.Linear.{Terms}
+use Rattle.row_activity.specs.declared.activity.Aim.{Aim}
+use Rattle.row_activity.specs.declared.activity.Aim.TheVariants.{Least, Greatest}
 
 -- the span of a column; 0 alone where the box has no such column
 abbrev pub span_at : List Span → ℕ → Span
@@ -16,17 +19,21 @@ low_end c s = if int_lt (pos 0) c.num then s.lo else s.hi
 abbrev pub high_end : ℚ → Span → ℤ
 high_end c s = if int_lt (pos 0) c.num then s.hi else s.lo
 
+abbrev pub end_for : Aim → ℚ → Span → ℤ
+end_for Least = low_end
+end_for Greatest = high_end
+
 -- the sum of each coefficient times an end of its column's span
-abbrev pub sum_of_ends : (ℚ → Span → ℤ) → List Span → List (ℕ × ℚ) → ℚ
+abbrev pub sum_of_ends : (ℚ → Span → ℤ) → List Span → Terms → ℚ
 sum_of_ends e ss [] = whole (pos 0)
 sum_of_ends e ss (t ∷ ts) = t.1 *ℚ whole (e t.1 (span_at ss t.0)) +ℚ sum_of_ends e ss ts
 
 -- the least value of the terms over the box
-abbrev pub low_of : List Span → List (ℕ × ℚ) → ℚ
+abbrev pub low_of : List Span → Terms → ℚ
 low_of ss ts = sum_of_ends low_end ss ts
 
 -- the greatest value of the terms over the box
-abbrev pub high_of : List Span → List (ℕ × ℚ) → ℚ
+abbrev pub high_of : List Span → Terms → ℚ
 high_of ss ts = sum_of_ends high_end ss ts
 
 -- each span has a number

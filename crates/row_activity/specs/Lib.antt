@@ -1,6 +1,6 @@
 pub mod Activity
+pub mod Fitting
 pub mod Extremes
 pub mod Verdicts
 pub mod Meaning
-pub mod Laws
-pub mod Cuts
+pub mod Lemmas

@@ -8,7 +8,7 @@ use Rattle.problem_box.specs.Boxes.{IsInBox}
 use Rattle.problem_box.specs.Changes.{IsFirstEmpty, IsFixed}
 use Rattle.problem.specs.declared.row.Sense.TheVariants.{G, L}
 use Rattle.problem.specs.declared.row.Row.{Row}
-use Rattle.problem.specs.Program.{Program}
+use Rattle.problem.specs.Problem.{Problem}
 use Rattle.problem.specs.Rows.{Satisfies}
 use Rattle.problem.specs.Feasible.{objective_at}
 use Rattle.row_activity.specs.declared.verdict.Sign.{Sign}
@@ -27,21 +27,21 @@ IsMissed ss r Plus = (r.sense ≡ L → ⊥) × (high_of ss r.terms <ℚ r.rhs)
 IsMissed ss r Minus = (r.sense ≡ G → ⊥) × (r.rhs <ℚ low_of ss r.terms)
 
 -- a row that no point of the box satisfies
-pub record IsRefuted (p : Program) (ss : List Span) (i : ℕ) (s : Sign) : Type 0 where
+pub record IsRefuted (p : Problem) (ss : List Span) (i : ℕ) (s : Sign) : Type 0 where
   pub row : Row
   pub there : slice_get p.rows i ≡ Some row
   pub missed : IsMissed ss row s
   pub never : (x : List ℤ) → IsInBox ss x → Satisfies x row → ⊥
 
 -- no point of the box has an objective below the cutoff
-pub record IsPriced (p : Program) (ss : List Span) (cutoff : Option ℚ) : Type 0 where
+pub record IsPriced (p : Problem) (ss : List Span) (cutoff : Option ℚ) : Type 0 where
   pub bound : ℚ
   pub given : cutoff ≡ Some bound
   pub reached : bound ≤ℚ low_of ss p.objective
   pub least : (x : List ℤ) → IsInBox ss x → bound ≤ℚ objective_at p x
 
 -- one point, which satisfies each row and whose objective is below the cutoff, if there is one
-pub record IsOnePoint (p : Program) (ss : List Span) (cutoff : Option ℚ) : Type 0 where
+pub record IsOnePoint (p : Problem) (ss : List Span) (cutoff : Option ℚ) : Type 0 where
   pub fixed : IsFixed ss
   pub point : List ℤ
   pub inside : IsInBox ss point
@@ -54,7 +54,7 @@ pub record IsOpen (ss : List Span) : Type 0 where
   pub nonempty : IsNonempty ss
   pub free : IsFixed ss → ⊥
 
-abbrev pub Tells : Program → List Span → Option ℚ → Verdict → Type 0
+abbrev pub Tells : Problem → List Span → Option ℚ → Verdict → Type 0
 Tells p ss cutoff (Empty j) = IsFirstEmpty ss j × HasNoPoint ss
 Tells p ss cutoff (Refuted i s) = IsRefuted p ss i s
 Tells p ss cutoff Priced = IsPriced p ss cutoff

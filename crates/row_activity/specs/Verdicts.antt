@@ -9,12 +9,13 @@ use Rattle.problem_box.specs.declared.span.Span.{Span}
 use Rattle.problem.specs.declared.row.Sense.{Sense}
 use Rattle.problem.specs.declared.row.Sense.TheVariants.{G, L, E}
 use Rattle.problem.specs.declared.row.Row.{Row}
-use Rattle.problem.specs.Program.{Program}
+use Rattle.problem.specs.Problem.{Problem}
 use Rattle.row_activity.specs.declared.verdict.Sign.{Sign}
 use Rattle.row_activity.specs.declared.verdict.Sign.TheVariants.{Plus, Minus}
 use Rattle.row_activity.specs.declared.verdict.Verdict.{Verdict}
 use Rattle.row_activity.specs.declared.verdict.Verdict.TheVariants.{Empty, Refuted, Priced, Point, Unsettled}
 use Rattle.row_activity.specs.Activity.{low_of, high_of}
+use Rattle.problem.specs.Rows.{Rows}
 
 abbrev pub is_less : ℚ → ℚ → Bool
 is_less x y = is_lt (compare x y)
@@ -30,7 +31,7 @@ abbrev pub refuting_sign : List Span → Row → Option Sign
 refuting_sign ss r = sign_of r.sense (is_less (high_of ss r.terms) r.rhs) (is_less r.rhs (low_of ss r.terms))
 
 -- the first row that refutes, with its sign, where the list starts at row i
-abbrev pub refuted_from : ℕ → List Span → List Row → Option (ℕ × Sign)
+abbrev pub refuted_from : ℕ → List Span → Rows → Option (ℕ × Sign)
 refuted_from i ss [] = None
 refuted_from i ss (r ∷ rs) = option_map_or (λ s. Some (i, s)) (refuting_sign ss r) (refuted_from (i + 1) ss rs)
 
@@ -55,5 +56,5 @@ first_of_all None None true fixed = Priced
 first_of_all None None false true = Point
 first_of_all None None false false = Unsettled
 
-abbrev pub verdict : Program → List Span → Option ℚ → Verdict
+abbrev pub verdict : Problem → List Span → Option ℚ → Verdict
 verdict p ss cutoff = first_of_all (first_empty ss) (refuted_from 0 ss p.rows) (reaches (low_of ss p.objective) cutoff) (is_fixed ss)

@@ -1,44 +1,37 @@
 // The least and the greatest value of a sum of terms over a box.
-ghost use Rattle.std.specs.Prelude.{◌≡◌, true, length};
+ghost use Rattle.std.specs.Prelude.{◌≡◌, length};
 ghost use Rattle.fraction.specs.Rational.{◌+ℚ◌, ◌*ℚ◌, whole};
-ghost use Rattle.fraction.specs.Checked.{add_fits, mul_fits};
 ghost use Rattle.problem.specs.Limited.{AreLimited};
-ghost use Rattle.row_activity.specs.Activity.{low_end, high_end, low_of, high_of, IsLimitedBox};
+ghost use Rattle.row_activity.specs.Activity.{end_for, sum_of_ends, low_of, high_of, IsLimitedBox};
+ghost use Rattle.row_activity.specs.Fitting.{FitsWithProduct};
 ghost use Rattle.row_activity.specs.Extremes.{IsLeast, IsGreatest};
 
 use fraction::Frac;
 use problem::Terms;
 use problem_box::{IntBox, Span};
 
-/// The end of a span at which its product with a coefficient is least.
-#[inline(always)]
-fn low_end(coefficient: Frac, span: Span) -> i64
-    ensures { result ≡ low_end coefficient span }
-{
-    if 0 < coefficient.numer() {
-        span.lo
-    } else {
-        span.hi
-    }
+/// Which value over a span is looked for.
+#[derive(Clone, Copy)]
+enum Aim {
+    Least,
+    Greatest,
 }
 
-/// The end of a span at which its product with a coefficient is greatest.
+/// The end of a span at which its product with a coefficient is least, or greatest.
 #[inline(always)]
-fn high_end(coefficient: Frac, span: Span) -> i64
-    ensures { result ≡ high_end coefficient span }
+fn end_for(aim: Aim, coefficient: Frac, span: Span) -> i64
+    ensures { result ≡ end_for aim coefficient span }
 {
-    if 0 < coefficient.numer() {
-        span.hi
-    } else {
-        span.lo
+    match (aim, 0 < coefficient.numer()) {
+        (Aim::Least, true) | (Aim::Greatest, false) => span.lo,
+        (Aim::Least, false) | (Aim::Greatest, true) => span.hi,
     }
 }
 
 /// The sum with a product added, where neither of them is cramped.
 #[inline(always)]
 fn with_product(total: Frac, coefficient: Frac, number: i64) -> Frac
-    requires product { mul_fits coefficient (whole number) ≡ true }
-    requires sum { add_fits total (coefficient *ℚ whole number) ≡ true }
+    requires { FitsWithProduct total coefficient number }
     ensures { result ≡ total +ℚ coefficient *ℚ whole number }
 {
     let Some(product) = coefficient.mul(Frac::of(number as i128)) else {
@@ -50,6 +43,30 @@ fn with_product(total: Frac, coefficient: Frac, number: i64) -> Frac
     sum
 }
 
+/// The sum with a coefficient's product with an end of a span added, where neither of them is cramped.
+#[inline(always)]
+fn with_end(aim: Aim, total: Frac, coefficient: Frac, span: Span) -> Frac
+    requires { FitsWithProduct total coefficient (end_for aim coefficient span) }
+    ensures { result ≡ total +ℚ coefficient *ℚ whole (end_for aim coefficient span) }
+{
+    with_product(total, coefficient, end_for(aim, coefficient, span))
+}
+
+/// The sum of each coefficient times an end of its column's span.
+#[inline(always)]
+fn sum_of_ends(aim: Aim, terms: &Terms, area: &IntBox) -> Frac
+    requires limited { AreLimited (length area.now) terms.now }
+    requires limited_box { IsLimitedBox area.now }
+    ensures { result ≡ sum_of_ends (end_for aim) area.now terms.now }
+{
+    let mut total = Frac::of(0);
+    for term in terms.as_slice() {
+        let (column, coefficient) = term.pair();
+        total = with_end(aim, total, coefficient, area.span(column as usize));
+    }
+    total
+}
+
 /// The least value of the terms over the points of a box that isn't empty.
 ///
 /// The conditions are those of a problem's rows and objective over a box with a span for each of its columns. It takes no memory.
@@ -59,13 +76,7 @@ pub fn low(terms: &Terms, area: &IntBox) -> Frac
     ensures value { result ≡ low_of area.now terms.now }
     ensures least { IsLeast area.now terms.now result }
 {
-    let mut total = Frac::of(0);
-    for term in terms.as_slice() {
-        let (column, coefficient) = term.pair();
-        let span = area.span(column as usize);
-        total = with_product(total, coefficient, low_end(coefficient, span));
-    }
-    total
+    sum_of_ends(Aim::Least, terms, area)
 }
 
 /// The greatest value of the terms over the points of a box that isn't empty, under the conditions of `low`. It takes no memory.
@@ -75,13 +86,7 @@ pub fn high(terms: &Terms, area: &IntBox) -> Frac
     ensures value { result ≡ high_of area.now terms.now }
     ensures greatest { IsGreatest area.now terms.now result }
 {
-    let mut total = Frac::of(0);
-    for term in terms.as_slice() {
-        let (column, coefficient) = term.pair();
-        let span = area.span(column as usize);
-        total = with_product(total, coefficient, high_end(coefficient, span));
-    }
-    total
+    sum_of_ends(Aim::Greatest, terms, area)
 }
 
 /// The least and the greatest value of the terms over the points of a box that isn't empty, both in one pass.
@@ -96,8 +101,8 @@ pub(crate) fn range(terms: &Terms, area: &IntBox) -> (Frac, Frac)
     for term in terms.as_slice() {
         let (column, coefficient) = term.pair();
         let span = area.span(column as usize);
-        low = with_product(low, coefficient, low_end(coefficient, span));
-        high = with_product(high, coefficient, high_end(coefficient, span));
+        low = with_end(Aim::Least, low, coefficient, span);
+        high = with_end(Aim::Greatest, high, coefficient, span);
     }
     (low, high)
 }

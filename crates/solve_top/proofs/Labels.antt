@@ -3,7 +3,7 @@ use Rattle.std.specs.Prelude.{◌<◌, ◌+◌, ℕ, zero, suc, List, [], ◌∷
 use Rattle.std.specs.Fmt.{decimal}
 use Rattle.std.proofs.Common.{arith}
 use Rattle.std.proofs.lemmas.List.Elements.{All-nil, All-cons, All-append}
-use Rattle.problem.specs.Program.{Program}
+use Rattle.problem.specs.Problem.{Problem}
 use Rattle.problem.specs.declared.row.Row.{Row}
 use Rattle.problem_box.specs.declared.span.Span.{Span}
 use Rattle.cert_rows.specs.Validity.{lower_row, upper_row}
@@ -11,7 +11,7 @@ use Rattle.cert_rows.specs.declared.line.CertRow.{CertRow}
 use Rattle.cert_rows.specs.declared.line.Why.{Why}
 use Rattle.cert_merge.specs.Merged.{label_of, labelled, row_lines, bound_lines, cut_lines, assumption_of, assumption_lines, node_of, node_lines, merged}
 use Rattle.cert_merge.specs.Search.{Cut, Branch, Node, Search}
-use Rattle.vipr_print.specs.Numerals.{decimal_word}
+use Rattle.vipr_print.specs.Lemmas.Numerals.{decimal_word}
 use Rattle.vipr_print.specs.Unique.{IsWord}
 
 -- ---- a letter and a number
@@ -32,7 +32,7 @@ bounds_labelled j (s ∷ ss) =
     All-cons IsLabelled (labelled (label_of (codes "L") j) (lower_row j s)) (labelled (label_of (codes "U") j) (upper_row j s) ∷ bound_lines (j + 1) ss) (label_word 76 j (omega arith))
     (All-cons IsLabelled (labelled (label_of (codes "U") j) (upper_row j s)) (bound_lines (j + 1) ss) (label_word 85 j (omega arith)) (bounds_labelled (j + 1) ss))
 
-pub part_labelled : (p : Program) → All (λ r. IsWord r.label) (row_lines 0 p.rows ++ bound_lines 0 p.spans)
+pub part_labelled : (p : Problem) → All (λ r. IsWord r.label) (row_lines 0 p.rows ++ bound_lines 0 p.spans)
 part_labelled p = All-append IsLabelled (row_lines 0 p.rows) (bound_lines 0 p.spans) (rows_labelled 0 p.rows) (bounds_labelled 0 p.spans)
 
 -- ---- derived lines
@@ -52,11 +52,11 @@ assumptions_labelled i [] = All-nil IsLabelledLine
 assumptions_labelled i (n ∷ ns) =
     All-append IsLabelledLine (assumption_of i n.branch) (assumption_lines (i + 1) ns) (assumption_labelled i n.branch) (assumptions_labelled (i + 1) ns)
 
-nodes_labelled : (p : Program) (s : Search) (k : ℕ) → All IsLabelledLine (node_lines p s k)
+nodes_labelled : (p : Problem) (s : Search) (k : ℕ) → All IsLabelledLine (node_lines p s k)
 nodes_labelled p s zero = All-nil IsLabelledLine
 nodes_labelled p s (suc i) = All-cons IsLabelledLine (node_of p s i) (node_lines p s i) (label_word 78 i (omega arith)) (nodes_labelled p s i)
 
-pub lines_labelled : (p : Program) (s : Search) → All (λ d. IsWord d.0.label) (merged p s).lines
+pub lines_labelled : (p : Problem) (s : Search) → All (λ d. IsWord d.0.label) (merged p s).lines
 lines_labelled p s =
     All-append IsLabelledLine (cut_lines 0 s.cuts ++ assumption_lines 0 s.nodes) (node_lines p s (length s.nodes))
     (All-append IsLabelledLine (cut_lines 0 s.cuts) (assumption_lines 0 s.nodes) (cuts_labelled 0 s.cuts) (assumptions_labelled 0 s.nodes))

@@ -1,9 +1,5 @@
-mod Fronts
 mod Texts
-mod Outcomes
 mod LongTexts
-mod Refusals
-mod Solutions
-mod Asked
 mod Labels
 mod Uniqueness
+mod Endings

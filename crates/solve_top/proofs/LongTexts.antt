@@ -9,8 +9,8 @@ unfolding reading
 long_refused text upper l = rw (lt-ltb text_limit (length text) l)
 
 -- what was read of it is longer than the limit, and would be all of it otherwise
-pub too_long : (text : List ℕ) (upper : Option ℕ) (front : List ℕ) → (length text ≤ 4194304 → front ≡ text) → 4194304 < length front → IsRefused text upper 0 kind.TooMany
-too_long text upper front short l = elim (cases_lt 4194304 (length text)) [
+pub too_long : (text : List ℕ) (upper : Option ℕ) (prefix : List ℕ) → (length text ≤ 4194304 → prefix ≡ text) → 4194304 < length prefix → IsRefused text upper 0 kind.TooMany
+too_long text upper prefix short l = elim (cases_lt 4194304 (length text)) [
   | inl m ↦ long_refused text upper m
   | inr m ↦ absurd (omega (arith, l, m, ap length (short m)))
 ]

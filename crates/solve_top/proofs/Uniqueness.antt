@@ -4,12 +4,12 @@ use Rattle.std.specs.List.{list_all}
 use Rattle.std.proofs.Common.{arith, sym, subst}
 use Rattle.std.proofs.lemmas.Bool.{and_parts}
 use Rattle.std.proofs.lemmas.List.Elements.{All-nil, All-cons}
-use Rattle.problem.specs.Program.{Program}
+use Rattle.problem.specs.Problem.{Problem}
 use Rattle.cert_rows.specs.declared.certificate.Cert.{Cert}
 use Rattle.cert_rows.specs.Validity.{IsValid}
 use Rattle.cert_merge.specs.Merged.{merged}
 use Rattle.cert_merge.specs.Search.{Search}
-use Rattle.mps_reader.specs.FieldNames.{names_are_visible}
+use Rattle.mps_reader.specs.Lemmas.FieldNames.{names_are_visible}
 use Rattle.mps_reader.specs.Kept.{is_visible}
 use Rattle.mps_reader.specs.Reading.{Reads}
 use Rattle.vipr_print.specs.Unique.{IsWord, IsSpellable, HasShortNumbers, SpellsOnly, TextsSpellOneCertificate, ValidPointsAreWhole}
@@ -30,11 +30,11 @@ visible_words [] h = All-nil IsWord
 visible_words (name ∷ names) h =
     let a = and_parts (is_visible name) (list_all is_visible names) h in All-cons IsWord name names (visible_word name a.0) (visible_words names a.1)
 
-pub names_are_words : (text : List ℕ) (upper : Option ℕ) (p : Program) → Reads text upper p → All IsWord p.names
+pub names_are_words : (text : List ℕ) (upper : Option ℕ) (p : Problem) → Reads text upper p → All IsWord p.names
 names_are_words text upper p reads = visible_words p.names (names_are_visible text upper p reads)
 
 -- ---- the certificate
-spellable : (p : Program) (s : Search) (c : Cert) → c ≡ merged p s → IsValid p c → ValidPointsAreWhole p → HasShortNumbers c → All IsWord p.names → IsSpellable c
+spellable : (p : Problem) (s : Search) (c : Cert) → c ≡ merged p s → IsValid p c → ValidPointsAreWhole p → HasShortNumbers c → All IsWord p.names → IsSpellable c
 spellable p s c e v whole short names = record {
   names = subst (λ (d : Cert). All IsWord d.part.names) (sym e) names;
   labels = subst (λ (d : Cert). All (λ r. IsWord r.label) d.part.rows) (sym e) (part_labelled p);
@@ -43,7 +43,7 @@ spellable p s c e v whole short names = record {
   numbers = short;
 }
 
-pub spells_only : (p : Program) (s : Search) (c : Cert) → c ≡ merged p s → IsValid p c → ValidPointsAreWhole p → HasShortNumbers c → TextsSpellOneCertificate → All IsWord p.names → SpellsOnly c
+pub spells_only : (p : Problem) (s : Search) (c : Cert) → c ≡ merged p s → IsValid p c → ValidPointsAreWhole p → HasShortNumbers c → TextsSpellOneCertificate → All IsWord p.names → SpellsOnly c
 spells_only p s c e v whole short one names =
     let told = spellable p s c e v whole short names in
     record { spellable = told; only = λ d h same. one d c h told same }

@@ -7,6 +7,7 @@ abbrev pub nodes_asked : Option Asked → ℕ
 nodes_asked None = 1000000
 nodes_asked (Some (solve model journal cert nodes upper)) = nodes
 
+-- the upper bound that a command gives
 abbrev pub upper_asked : Option Asked → Option ℕ
 upper_asked None = None
 upper_asked (Some (solve model journal cert nodes upper)) = upper

@@ -1,102 +1,106 @@
--- What the certificate on the sink is, and what the lines are, where a run was done.
-use Rattle.std.specs.Prelude.{◌≡◌, ◌⊎◌, ◌<◌, ◌+◌, ◌*◌, ℕ, ℤ, List, [], ◌∷◌, ◌++◌, length, Option}
-use Rattle.outside.specs.Stream.{AppendsFront}
-use Rattle.problem.specs.Program.{Program}
-use Rattle.problem.specs.Feasible.{objective_at}
-use Rattle.problem.specs.Best.{IsBest, IsVoid}
-use Rattle.cert_rows.specs.declared.certificate.Cert.{Cert}
-use Rattle.cert_rows.specs.declared.certificate.Goal.{Goal}
-use Rattle.cert_rows.specs.declared.certificate.Goal.TheVariants.{Infeas, Range}
-use Rattle.cert_rows.specs.Validity.{IsValid}
-use Rattle.cert_merge.specs.Merged.{merged, claim_of}
-use Rattle.cert_merge.specs.Open.{OpenSearch, so_far}
-use Rattle.plain_search.specs.FirstSearch.{State, first_search}
-use Rattle.plain_search.specs.Laws.{IsSpent}
-use Rattle.plain_search.specs.PointCount.{point_count}
-use Rattle.vipr_print.specs.Spelling.{text_of}
-use Rattle.vipr_print.specs.Unique.{SpellsOnly}
+-- What a run is, and what it promises.
+use Rattle.std.specs.Prelude.{◌≡◌, ◌⊎◌, ℕ, true, false, List, codes}
+use Rattle.problem.specs.Problem.{Problem}
 use Rattle.mps_reader.specs.Reading.{Reads, IsRefused}
 use Rattle.mps_reader.specs.declared.kinds.Kind.{Kind}
-use Rattle.solve_top.specs.Output.{Told, answer_lines, spent_lines, BreaksOff}
-use Rattle.solve_top.specs.Statuses.{refused_line}
+use Rattle.command_words.specs.Commands.{is_command}
+use Rattle.solve_top.specs.declared.status.Status.{Status}
+use Rattle.solve_top.specs.declared.status.Status.TheVariants as status
+use Rattle.solve_top.specs.Changes.{SourceChange, SinkChange, Rises, Stays, Takes, TakesPrefix, TakesNothing, IsTold, BreaksOff}
+use Rattle.solve_top.specs.Commands.{budget_of, upper_of}
+use Rattle.solve_top.specs.Searches.{IsFinishedBy, IsSpentBy, HasTooFewNodes, IsSolved, certificate_text, lines_due}
+use Rattle.solve_top.specs.Statuses.{exit_number, refused_line}
 
--- where the search of a program ends
-unfoldable pub ended : Program → ℕ → State
-ended p budget = first_search p budget
+-- a run: its words, the source of its model, the sinks of its certificate and its lines, and the number with which it ends
+pub record Run : Type 0 where
+  pub words : List (List ℕ)
+  pub model : SourceChange
+  pub cert : SinkChange
+  pub out : SinkChange
+  pub number : ℕ
 
--- the certificate of its nodes
-abbrev pub certificate_of : Program → ℕ → Cert
-certificate_of p budget = merged p (so_far (ended p budget).search)
+-- it ends with this status
+abbrev pub EndsWith : Run → Status → Type 0
+EndsWith r s = r.number ≡ exit_number s
 
--- its text
-unfoldable pub certificate_text : Program → ℕ → List ℕ
-certificate_text p budget = text_of (certificate_of p budget)
+-- where the source tells its text, this reads as a problem, of which that is true
+abbrev pub ReadsAs : Run → (Problem → Type 0) → Type 0
+ReadsAs r P = r.model.tells ≡ true → (p : Problem) × Reads r.model.text (upper_of r.words) p × P p
 
--- the lines that tell of a state where a search ends
-abbrev pub lines_at : Program → OpenSearch → List ℕ → List ℕ
-lines_at p s [] = answer_lines (claim_of p s.incumbent) (length s.nodes)
-lines_at p s (i ∷ is) = spent_lines (length s.nodes) (length (i ∷ is))
+-- where the source tells its text, this reads as a problem
+abbrev pub HasProblem : Run → Type 0
+HasProblem r = ReadsAs r (λ p. Unit {0})
 
-unfoldable pub lines_of : Program → ℕ → List ℕ
-lines_of p budget = lines_at p (ended p budget).search (ended p budget).pending
+-- where the source tells its text, this has a first fault, and that is true of the fault's line and kind
+abbrev pub HasFault : Run → (ℕ → Kind → Type 0) → Type 0
+HasFault r P = r.model.tells ≡ true → (line : ℕ) × (k : Kind) × IsRefused r.model.text (upper_of r.words) line k × P line k
 
--- no node is open where the search ends
-abbrev pub IsFinal : Program → ℕ → Type 0
-IsFinal p budget = (ended p budget).pending ≡ []
+-- Each status has its cause, and comes nowhere without it. Want of memory, 9, may come before any other refusal.
+pub record HasCause (r : Run) : Type 0 where
+  -- the number is that of a status
+  pub named : (s : Status) × EndsWith r s
+  -- on 2 the words are no command
+  pub usage : EndsWith r status.Usage → is_command r.words ≡ false
+  -- on all but 2 and 9 they are one
+  pub command : ¬ EndsWith r status.Usage → ¬ EndsWith r status.Memory → is_command r.words ≡ true
+  -- on 5 a read failed
+  pub fault : EndsWith r status.ReadFault → Rises r.model.faults
+  -- on all but 5 none did, so a failed read is never taken for the end of the text
+  pub whole : ¬ EndsWith r status.ReadFault → Stays r.model.faults
+  -- on 3 the text has a first fault
+  pub refused : EndsWith r status.Model → HasFault r (λ line k. Unit {0})
+  -- on 0, 8 and 7 it reads as a problem
+  pub accepted : EndsWith r status.Done ⊎ (EndsWith r status.Spent ⊎ EndsWith r status.Sink) → HasProblem r
+  -- on 8 the search of the problem is spent
+  pub spent : EndsWith r status.Spent → ReadsAs r (λ p. IsSpentBy p (budget_of r.words))
+  -- on 8 the words ask for too few nodes
+  pub few : EndsWith r status.Spent → ReadsAs r (λ p. HasTooFewNodes p (budget_of r.words))
+  -- on 7 a sink failed
+  pub sink : EndsWith r status.Sink → Rises r.cert.faults ⊎ Rises r.out.faults
+  -- on all but 7 the certificate's sink didn't
+  pub kept : ¬ EndsWith r status.Sink → Stays r.cert.faults
+  -- on 0 and 8 the lines' sink didn't
+  pub quiet : EndsWith r status.Done ⊎ EndsWith r status.Spent → Stays r.out.faults
 
--- the next open node is unsettled there, and its two children would pass the budget
-abbrev pub IsOutOfNodes : Program → ℕ → Type 0
-IsOutOfNodes p budget = IsSpent p budget (ended p budget)
+-- A command over a text that reads as a problem is done or spent, or memory is wanting, where nothing fails.
+abbrev pub IsComplete : Run → Type 0
+IsComplete r =
+    r.model.tells ≡ true → is_command r.words ≡ true → HasProblem r
+    → ¬ Rises r.model.faults → ¬ Rises r.cert.faults → ¬ Rises r.out.faults
+    → EndsWith r status.Done ⊎ (EndsWith r status.Spent ⊎ EndsWith r status.Memory)
 
--- What is claimed is true: no point is feasible; or the one listed point is the best one, and its objective is both ends of the range.
-abbrev pub IsTrueClaim : Program → Cert → Goal → Type 0
-IsTrueClaim p c Infeas = IsVoid p
-IsTrueClaim p c (Range lb ub) = (x : List ℤ) × (c.points ≡ x ∷ []) × IsBest p x × (lb ≡ objective_at p x) × (ub ≡ objective_at p x)
+-- The bytes on the certificate's sink: the whole certificate, also where the lines failed; or a prefix of it; or nothing.
+pub record WritesCertificate (r : Run) : Type 0 where
+  -- on 0 they solve the problem
+  pub done : EndsWith r status.Done → ReadsAs r (λ p. IsSolved p (budget_of r.words) r.cert)
+  -- on 7 this sink failed; else they solve the problem, or its search is spent and there are none
+  pub printed : EndsWith r status.Sink → Rises r.cert.faults
+      ⊎ ReadsAs r (λ p. IsSolved p (budget_of r.words) r.cert ⊎ (IsSpentBy p (budget_of r.words) × TakesNothing r.cert))
+  -- on 7 and 9 there are none, or they are a prefix of the certificate of a finished search
+  pub prefix : EndsWith r status.Sink ⊎ EndsWith r status.Memory → TakesNothing r.cert
+      ⊎ ReadsAs r (λ p. IsFinishedBy p (budget_of r.words) × TakesPrefix r.cert (certificate_text p (budget_of r.words)))
+  -- on 2, 3, 5 and 8 there are none
+  pub none : EndsWith r status.Usage ⊎ (EndsWith r status.Model ⊎ (EndsWith r status.ReadFault ⊎ EndsWith r status.Spent))
+      → TakesNothing r.cert
 
--- The text reads as a program whose search is finished, and what the sink took spells a certificate of it that is valid and claims the truth.
--- No other spellable certificate has that text.
-pub record IsSolved (text : List ℕ) (upper : Option ℕ) (budget : ℕ) (before after : List ℕ) : Type 0 where
-  pub program : Program
-  pub certificate : Cert
-  pub reads : Reads text upper program
-  pub finished : IsFinal program budget
-  pub merges : certificate ≡ certificate_of program budget
-  pub spells : after ≡ before ++ text_of certificate
-  pub only : SpellsOnly certificate
-  pub valid : IsValid program certificate
-  pub claim : IsTrueClaim program certificate certificate.claim
+-- The lines, each whole or, with a fault of their sink, a prefix of it.
+pub record TellsLines (r : Run) : Type 0 where
+  -- on 0 and 8 the lines that are due for the problem
+  pub answered : EndsWith r status.Done ⊎ EndsWith r status.Spent → ReadsAs r (λ p. Takes r.out (lines_due p (budget_of r.words)))
+  -- on 2 that the words are no command
+  pub usage_line : EndsWith r status.Usage → IsTold r.out (codes "refused usage\n")
+  -- on 3 the first fault of the text
+  pub model_line : EndsWith r status.Model → HasFault r (λ line k. IsTold r.out (refused_line line k))
+  -- on 5 that a read failed
+  pub fault_line : EndsWith r status.ReadFault → IsTold r.out (codes "fault read\n")
+  -- on 9 that memory is wanting
+  pub memory_line : EndsWith r status.Memory → IsTold r.out (codes "no memory\n")
+  -- on 7 that the certificate's sink failed, or a prefix of the lines that are due
+  pub cut_short : EndsWith r status.Sink → ReadsAs r (λ p. BreaksOff r.cert r.out (lines_due p (budget_of r.words)))
 
--- The text reads as a program whose search is spent.
-abbrev pub IsUndecided : List ℕ → Option ℕ → ℕ → Type 0
-IsUndecided text upper budget = (p : Program) × Reads text upper p × IsOutOfNodes p budget
-
--- The text reads as a program, and this is fewer nodes than twice the number of its root box's points, less 1.
-abbrev pub IsTooFew : List ℕ → Option ℕ → ℕ → Type 0
-IsTooFew text upper budget = (p : Program) × Reads text upper p × (budget + 1 < 2 * point_count p.spans)
-
--- The text reads as a program.
-abbrev pub IsRead : List ℕ → Option ℕ → Type 0
-IsRead text upper = (p : Program) × Reads text upper p
-
--- The text has a first fault.
-abbrev pub IsFaulty : List ℕ → Option ℕ → Type 0
-IsFaulty text upper = (line : ℕ) × (k : Kind) × IsRefused text upper line k
-
--- The sink took a front of the certificate of the program that the text reads as, or nothing.
-abbrev pub IsStopped : List ℕ → Option ℕ → ℕ → List ℕ → List ℕ → Type 0
-IsStopped text upper budget before after =
-    (after ≡ before) ⊎ ((p : Program) × Reads text upper p × IsFinal p budget × AppendsFront before after (certificate_text p budget))
-
--- The second sink took the lines that answer the program that the text reads as.
-abbrev pub IsAnswered : List ℕ → Option ℕ → ℕ → List ℕ → List ℕ → Type 0
-IsAnswered text upper budget before after = (p : Program) × Reads text upper p × (after ≡ before ++ lines_of p budget)
-
--- The second sink was told of the text's first fault.
-abbrev pub IsTurnedAway : List ℕ → Option ℕ → List ℕ → List ℕ → ℕ → ℕ → Type 0
-IsTurnedAway text upper before after count now =
-    (line : ℕ) × (k : Kind) × IsRefused text upper line k × Told before after count now (refused_line line k)
-
--- A sink failed while the program that the text reads as was answered.
-abbrev pub IsCutShort : List ℕ → Option ℕ → ℕ → ℕ → ℕ → List ℕ → List ℕ → ℕ → ℕ → Type 0
-IsCutShort text upper budget counted counts before after count now =
-    (p : Program) × Reads text upper p × BreaksOff counted counts before after count now (lines_of p budget)
+-- What each run promises.
+pub record KeepsPromise (r : Run) : Type 0 where
+  pub cause : HasCause r
+  pub complete : IsComplete r
+  pub certificate : WritesCertificate r
+  pub lines : TellsLines r

@@ -1,8 +1,6 @@
 -- The lines on the second output.
-use Rattle.std.specs.Prelude.{◌≡◌, ◌⊎◌, ℕ, List, ◌++◌, codes}
+use Rattle.std.specs.Prelude.{ℕ, List, ◌++◌, codes}
 use Rattle.std.specs.Fmt.{decimal}
-use Rattle.outside.specs.Faults.{Rose}
-use Rattle.outside.specs.Stream.{AppendsFront}
 use Rattle.cert_rows.specs.declared.certificate.Goal.{Goal}
 use Rattle.cert_rows.specs.declared.certificate.Goal.TheVariants.{Infeas, Range}
 use Rattle.vipr_print.specs.Spelling.{spelled_number}
@@ -26,14 +24,4 @@ answer_lines claim nodes = answer_line claim ++ count_lines nodes
 
 -- the lines of a search that stopped with so many nodes, so many of them open
 abbrev pub spent_lines : ℕ → ℕ → List ℕ
-spent_lines nodes waiting = (codes "spent\n" ++ count_lines nodes) ++ number_line (codes "open ") waiting
-
--- The sink took all of the text, and no fault was counted; or it took a front of it, and one was.
-abbrev pub Told : List ℕ → List ℕ → ℕ → ℕ → List ℕ → Type 0
-Told before after count now text = ((after ≡ before ++ text) × (now ≡ count)) ⊎ (AppendsFront before after text × Rose count now)
-
--- A sink failed: the first one, and the line that says so was told; or the second one alone, and it took a front of the lines that were due.
-abbrev pub BreaksOff : ℕ → ℕ → List ℕ → List ℕ → ℕ → ℕ → List ℕ → Type 0
-BreaksOff counted counts before after count now lines =
-    (Rose counted counts × Told before after count now (codes "fault sink\n"))
-    ⊎ ((counts ≡ counted) × AppendsFront before after lines × Rose count now)
+spent_lines nodes open_nodes = (codes "spent\n" ++ count_lines nodes) ++ number_line (codes "open ") open_nodes

@@ -1,22 +1,22 @@
 -- The numbers with which the program ends, and the lines of refusals.
-use Rattle.std.specs.Prelude.{ℕ, List, ◌++◌, Option, codes}
+use Rattle.std.specs.Prelude.{ℕ, List, ◌++◌, codes}
 use Rattle.std.specs.Fmt.{decimal}
-use Rattle.mps_reader.specs.Reading.{IsRefused}
 use Rattle.mps_reader.specs.declared.kinds.Kind.{Kind}
 use Rattle.mps_reader.specs.declared.kinds.Kind.TheVariants as kind
-use Rattle.solve_top.specs.declared.model.Refusal.{Refusal}
-use Rattle.solve_top.specs.declared.model.Refusal.TheVariants as refusal
+use Rattle.solve_top.specs.declared.outcome.Refusal.{Refusal}
+use Rattle.solve_top.specs.declared.outcome.Refusal.TheVariants as refusal
 use Rattle.solve_top.specs.declared.status.Status.{Status}
 use Rattle.solve_top.specs.declared.status.Status.TheVariants as status
 
-abbrev pub number_of : Status → ℕ
-number_of status.Done = 0
-number_of status.Usage = 2
-number_of status.Model = 3
-number_of status.ReadFault = 5
-number_of status.Sink = 7
-number_of status.Spent = 8
-number_of status.Memory = 9
+-- the exit number of a status
+abbrev pub exit_number : Status → ℕ
+exit_number status.Done = 0
+exit_number status.Usage = 2
+exit_number status.Model = 3
+exit_number status.ReadFault = 5
+exit_number status.Sink = 7
+exit_number status.Spent = 8
+exit_number status.Memory = 9
 
 -- the names of the kinds of faults
 abbrev pub kind_name : Kind → List ℕ
@@ -42,20 +42,18 @@ kind_name kind.NoBound = codes "NoBound"
 abbrev pub refused_line : ℕ → Kind → List ℕ
 refused_line line k = codes "refused model " ++ decimal line ++ codes " " ++ kind_name k ++ codes "\n"
 
--- how a model that gives no problem ends the run
+-- how a refusal ends the run
 abbrev pub status_of : Refusal → Status
+status_of refusal.Usage = status.Usage
 status_of (refusal.Model line k) = status.Model
 status_of refusal.Read = status.ReadFault
+status_of refusal.Sink = status.Sink
 status_of refusal.Memory = status.Memory
 
 -- the line that tells of it
 abbrev pub refusal_line : Refusal → List ℕ
+refusal_line refusal.Usage = codes "refused usage\n"
 refusal_line (refusal.Model line k) = refused_line line k
 refusal_line refusal.Read = codes "fault read\n"
+refusal_line refusal.Sink = codes "fault sink\n"
 refusal_line refusal.Memory = codes "no memory\n"
-
--- a fault that is told is the text's first one
-abbrev pub IsRefusalOf : List ℕ → Option ℕ → Refusal → Type 0
-IsRefusalOf text upper (refusal.Model line k) = IsRefused text upper line k
-IsRefusalOf text upper refusal.Read = Unit {0}
-IsRefusalOf text upper refusal.Memory = Unit {0}

@@ -2,21 +2,21 @@
 //!
 //! - `limits`: what the words ask of the search.
 //! - `model`: reads the model.
-//! - `refusal`: tells why there is no problem.
-//! - `search`: solves it, and writes the certificate and the lines.
+//! - `search`: solves it, and writes the certificate.
+//! - `outcome`: what comes of that: an answer, or why there is none.
 //! - `output`: the lines.
+//! - `telling`: tells the outcome.
 //! - `status`: how a run ends.
-//! - `answer`: all of this, in its order.
-//! - `top_call`: `run` and `run_one`.
+//! - `top_call`: `run` and `run_one`, all of this in its order.
 #![tactic(auto)]
 
-mod answer;
 mod limits;
 mod model;
+mod outcome;
 mod output;
-mod refusal;
 mod search;
 mod status;
+mod telling;
 #[cfg(test)]
 mod tests;
 mod top_call;

@@ -1,9 +1,11 @@
 // What the words ask of a search.
-ghost use Rattle.std.specs.Prelude.{◌≡◌, ◌≤◌, ◌^◌, true, false, IfOk, IsErrOf};
+ghost use Rattle.std.specs.Prelude.{◌≡◌, ◌≤◌, ◌^◌, true, IfOk, IfErr};
 ghost use Rattle.mps_reader.specs.Finished.{IsModestUpper};
 ghost use Rattle.command_words.specs.Commands.{HasRanges, asked, is_command};
 ghost use Rattle.solve_top.specs.Commands.{budget_of, nodes_asked, upper_asked, upper_of};
+ghost use Rattle.solve_top.specs.Steps.{RefusesWords};
 
+use crate::outcome::Refusal;
 use command_words::{Command, Words, WordsFault, parse};
 use std::alloc::Global;
 
@@ -37,14 +39,17 @@ fn limits_in(command: &Command) -> Limits
 }
 
 // The limits that the words ask for. `Usage`: they are no command.
-pub fn limits_of(alloc: Global, words: &Words) -> Result<Limits, WordsFault>
+pub fn limits_of(alloc: Global, words: &Words) -> Result<Limits, Refusal>
     ensures command { IfOk result (λ l. is_command words.now ≡ true) }
-    ensures usage { IsErrOf result WordsFault.Usage → is_command words.now ≡ false }
     ensures budget { IfOk result (λ l. l.budget ≡ budget_of words.now) }
     ensures upper { IfOk result (λ l. l.upper ≡ upper_of words.now) }
     ensures few { IfOk result (λ l. l.budget ≤ 10 ^ 9) }
     ensures modest { IfOk result (λ l. IsModestUpper l.upper) }
+    ensures refused { IfErr result (RefusesWords words.now) }
 {
-    let command = parse(alloc, words)?;
-    Ok(limits_in(&command))
+    match parse(alloc, words) {
+        Ok(command) => Ok(limits_in(&command)),
+        Err(WordsFault::Usage) => Err(Refusal::Usage),
+        Err(WordsFault::Memory) => Err(Refusal::Memory),
+    }
 }

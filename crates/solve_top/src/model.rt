@@ -1,10 +1,11 @@
 // Reads the model.
-ghost use Rattle.std.specs.Prelude.{◌≡◌, ◌^◌, ◌++◌, true, IfOk, IfErr, IsErrOf};
-ghost use Rattle.outside.specs.Faults.{Rose};
+ghost use Rattle.std.specs.Prelude.{◌≡◌};
 ghost use Rattle.mps_reader.specs.Finished.{IsModestUpper};
-ghost use Rattle.mps_reader.specs.Reading.{Reads};
-ghost use Rattle.solve_top.specs.Statuses.{IsRefusalOf, kind_name};
+ghost use Rattle.solve_top.specs.Changes.{source_change};
+ghost use Rattle.solve_top.specs.Statuses.{kind_name};
+ghost use Rattle.solve_top.specs.Steps.{IsReading};
 
+use crate::outcome::Refusal;
 use mps_reader::{Kind, read_mps};
 use outside::{ReadFault, Source, read_all};
 use problem::Problem;
@@ -14,15 +15,6 @@ use std::hash::BuildHasher;
 /// The bytes that a model may have.
 const TEXT_LIMIT: usize = 4_194_304;
 
-// Why there is no problem.
-#[derive(Clone, Copy, Debug, PartialEq, Eq)]
-pub enum Refusal {
-    // The text's first fault with the number of its line, 0 where it stands at none.
-    Model { line: u64, kind: Kind },
-    Read,
-    Memory,
-}
-
 // Reads a model to its end and gives its problem. `upper` is the upper bound of columns that have none.
 pub fn read_model<B: BuildHasher + Drop, S: Source>(
     alloc: Global,
@@ -31,10 +23,7 @@ pub fn read_model<B: BuildHasher + Drop, S: Source>(
     upper: Option<u32>,
 ) -> Result<Problem, Refusal>
     requires { IsModestUpper upper }
-    ensures reads { S.tells ≡ true → IfOk result (λ p. Reads (S.left model.old) upper p) }
-    ensures refused { S.tells ≡ true → IfErr result (IsRefusalOf (S.left model.old) upper) }
-    ensures fault { IsErrOf result Refusal.Read → Rose (S.faults model.old) (S.faults model.new) }
-    ensures whole { ¬ IsErrOf result Refusal.Read → S.faults model.new ≡ S.faults model.old }
+    ensures { IsReading (source_change S.tells S.left S.faults model.old model.new) upper result }
 {
     let text = match read_all(alloc, model, TEXT_LIMIT) {
         Ok(text) => text,

@@ -1,23 +1,15 @@
 // The lines on the second output.
-ghost use Rattle.std.specs.Prelude.{◌≡◌, ◌++◌, true, OnOk, IfOk};
+ghost use Rattle.std.specs.Prelude.{◌≡◌, ◌++◌, OnOk, IfOk};
 ghost use Rattle.std.specs.Fmt.{decimal};
-ghost use Rattle.solve_top.specs.Output.{Told, answer_line, number_line, count_lines, answer_lines, spent_lines};
+ghost use Rattle.solve_top.specs.Output.{answer_line, number_line, count_lines, answer_lines, spent_lines};
 ghost use Rattle.solve_top.specs.Statuses.{refused_line};
 
 use crate::model::kind_name;
 use cert_rows::Goal;
 use itoa::Buffer;
 use mps_reader::Kind;
-use outside::{Sink, write_all};
 use std::alloc::{AllocError, Global};
 use vipr_print::push_number;
-
-// The line of a status that isn't `Done`. That the sink fails here changes nothing of the status.
-pub fn tell<O: Sink>(out: &mut O, line: &[u8])
-    ensures { O.tells ≡ true → Told (O.taken out.old) (O.taken out.new) (O.faults out.old) (O.faults out.new) line.now }
-{
-    let _ = write_all(out, line);
-}
 
 // Pushes a number in decimal.
 fn push_decimal(text: &mut Vec<u8>, number: u64) -> Result<(), AllocError>
@@ -73,13 +65,13 @@ pub fn answer_text(alloc: Global, claim: &Goal, nodes: usize) -> Result<Vec<u8>,
 }
 
 // The lines of a search that stopped with open nodes.
-pub fn spent_text(alloc: Global, nodes: usize, waiting: usize) -> Result<Vec<u8>, AllocError>
-    ensures { IfOk result (λ text. text.items ≡ spent_lines nodes waiting) }
+pub fn spent_text(alloc: Global, nodes: usize, open_nodes: usize) -> Result<Vec<u8>, AllocError>
+    ensures { IfOk result (λ text. text.items ≡ spent_lines nodes open_nodes) }
 {
     let mut text = Vec::new(alloc);
     text.extend_from_slice(b"spent\n")?;
     push_counts(&mut text, nodes)?;
-    push_number_line(&mut text, b"open ", waiting as u64)?;
+    push_number_line(&mut text, b"open ", open_nodes as u64)?;
     Ok(text)
 }
 

@@ -1,6 +1,6 @@
 // How a run ends.
 ghost use Rattle.std.specs.Prelude.{◌≡◌};
-ghost use Rattle.solve_top.specs.Statuses.{number_of};
+ghost use Rattle.solve_top.specs.Statuses.{exit_number};
 
 /// How a run ends.
 #[derive(Clone, Copy, Debug, PartialEq, Eq)]
@@ -24,7 +24,7 @@ pub enum Status {
 impl Status {
     /// The exit status of the program.
     pub fn number(self) -> u8
-        ensures { result ≡ number_of self }
+        ensures { result ≡ exit_number self }
     {
         match self {
             Status::Done => 0,

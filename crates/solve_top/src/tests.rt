@@ -14,64 +14,32 @@ const ONE_CERTIFICATE: &str =
 
 const ONE_LINES: &str = "optimal 6\nnodes 1\ncuts 0\n";
 
-/// The line of that model that has the bound of x.
-const BOUND: &str = " FX b x 2\n";
-
-/// That model with another line in the place of one.
-fn changed(alloc: Global, line: &'static str, other: &str) -> Result<String, AllocError> {
-    let mut text = String::new(alloc);
-    for old in ONE.split_inclusive('\n') {
-        text.push_str(if old == line { other } else { old })?;
-    }
-    Ok(text)
-}
-
-fn words_of(alloc: Global, line: &str) -> Result<Words, AllocError> {
+fn words_of_solve(alloc: Global) -> Result<Words, AllocError> {
     let mut words = Words::new(alloc);
-    for word in line.split(' ') {
+    for word in ["solve", "m", "j", "c"] {
         words.push(alloc, word)?;
     }
     Ok(words)
 }
 
-/// The status of a run of these words on this model.
+/// The status of a run on this model.
 fn status_of(
     alloc: Global,
-    line: &str,
     mut model: MemSource,
     cert: &mut MemSink,
     out: &mut MemSink,
 ) -> Result<u8, AllocError> {
-    let words = words_of(alloc, line)?;
+    let words = words_of_solve(alloc)?;
     let keys: BuildHasherDefault<DefaultHasher> = BuildHasherDefault::new();
     let disk = MemDisk::new(alloc);
     let Ran { status, disk: _ } = run_one(alloc, keys, &words, &mut model, disk, cert, out);
     Ok(status)
 }
 
-/// Whether such a run ends with this status and these lines, and writes a certificate where it is done and nothing else.
-fn ends(
-    alloc: Global,
-    line: &str,
-    text: &str,
-    wanted: Status,
-    lines: &str,
-) -> Result<bool, AllocError> {
-    let model = MemSource::new(alloc, text.as_bytes())?;
-    let mut cert = MemSink::new(alloc);
-    let mut out = MemSink::new(alloc);
-    let status = status_of(alloc, line, model, &mut cert, &mut out)?;
-    Ok(
-        status == wanted.number()
-            && out.bytes() == lines.as_bytes()
-            && cert.bytes().is_empty() == (wanted != Status::Done),
-    )
-}
-
 #[test]
 fn one_point(rt: HostRuntime) -> Result<(), AllocError> {
     let alloc = rt.alloc();
-    let words = words_of(alloc, "solve m j c")?;
+    let words = words_of_solve(alloc)?;
     let keys: BuildHasherDefault<DefaultHasher> = BuildHasherDefault::new();
     let mut model = MemSource::new(alloc, ONE.as_bytes())?.in_pieces(7);
     let mut cert = MemSink::new(alloc).in_pieces(7);
@@ -87,78 +55,12 @@ fn one_point(rt: HostRuntime) -> Result<(), AllocError> {
 }
 
 #[test]
-fn infeasible(rt: HostRuntime) -> Result<(), AllocError> {
-    let alloc = rt.alloc();
-    let text = changed(alloc, " rhs r 1\n", " rhs r 3\n")?;
-    let lines = "infeasible\nnodes 1\ncuts 0\n";
-    assert!(rt; ends(alloc, "solve m j c", text.as_str(), Status::Done, lines)?);
-    Ok(())
-}
-
-#[test]
-fn spent(rt: HostRuntime) -> Result<(), AllocError> {
-    let alloc = rt.alloc();
-    let text = changed(alloc, BOUND, " UP b x 5\n")?;
-    let lines = "spent\nnodes 1\ncuts 0\nopen 1\n";
-    assert!(rt;
-        ends(
-            alloc,
-            "solve m j c --nodes 2",
-            text.as_str(),
-            Status::Spent,
-            lines
-        )?
-    );
-    Ok(())
-}
-
-#[test]
-fn upper(rt: HostRuntime) -> Result<(), AllocError> {
-    let alloc = rt.alloc();
-    let text = changed(alloc, BOUND, " LO b x 2\n")?;
-    let lines = "optimal 6\nnodes 3\ncuts 0\n";
-    assert!(rt;
-        ends(
-            alloc,
-            "solve m j c --upper 3",
-            text.as_str(),
-            Status::Done,
-            lines
-        )?
-    );
-    let lines = "refused model 7 NoBound\n";
-    assert!(rt; ends(alloc, "solve m j c", text.as_str(), Status::Model, lines)?);
-    Ok(())
-}
-
-#[test]
-fn refused_model(rt: HostRuntime) -> Result<(), AllocError> {
-    let alloc = rt.alloc();
-    let text = changed(alloc, " rhs r 1\n", " rhs r 1\n rhs2 r 1\n")?;
-    let lines = "refused model 11 ManySets\n";
-    assert!(rt; ends(alloc, "solve m j c", text.as_str(), Status::Model, lines)?);
-    Ok(())
-}
-
-#[test]
-fn usage(rt: HostRuntime) -> Result<(), AllocError> {
-    let alloc = rt.alloc();
-    for line in ["", "solve m j j", "solve m j c --nodes 0"] {
-        assert!(rt;
-            ends(alloc, line, ONE, Status::Usage, "refused usage\n")?,
-            "{line}"
-        );
-    }
-    Ok(())
-}
-
-#[test]
 fn read_fault(rt: HostRuntime) -> Result<(), AllocError> {
     let alloc = rt.alloc();
     let model = MemSource::failing(alloc, ONE.as_bytes(), &[1])?.in_pieces(20);
     let mut cert = MemSink::new(alloc);
     let mut out = MemSink::new(alloc);
-    let status = status_of(alloc, "solve m j c", model, &mut cert, &mut out)?;
+    let status = status_of(alloc, model, &mut cert, &mut out)?;
     assert_eq!(rt; status, Status::ReadFault.number());
     assert!(rt; cert.bytes().is_empty());
     assert!(rt; out.bytes() == b"fault read\n".as_slice());
@@ -166,19 +68,25 @@ fn read_fault(rt: HostRuntime) -> Result<(), AllocError> {
 }
 
 #[test]
-fn sink_faults(rt: HostRuntime) -> Result<(), AllocError> {
+fn fault_of_the_certificate(rt: HostRuntime) -> Result<(), AllocError> {
     let alloc = rt.alloc();
     let mut cert = MemSink::failing(alloc, &[1])?;
     let mut out = MemSink::new(alloc);
     let model = MemSource::new(alloc, ONE.as_bytes())?;
-    let status = status_of(alloc, "solve m j c", model, &mut cert, &mut out)?;
+    let status = status_of(alloc, model, &mut cert, &mut out)?;
     assert_eq!(rt; status, Status::Sink.number());
     assert!(rt; cert.bytes() == b"VER 1.0\n".as_slice());
     assert!(rt; out.bytes() == b"fault sink\n".as_slice());
+    Ok(())
+}
+
+#[test]
+fn fault_of_the_lines(rt: HostRuntime) -> Result<(), AllocError> {
+    let alloc = rt.alloc();
     let mut cert = MemSink::new(alloc);
     let mut out = MemSink::failing(alloc, &[1])?.in_pieces(10);
     let model = MemSource::new(alloc, ONE.as_bytes())?;
-    let status = status_of(alloc, "solve m j c", model, &mut cert, &mut out)?;
+    let status = status_of(alloc, model, &mut cert, &mut out)?;
     assert_eq!(rt; status, Status::Sink.number());
     assert!(rt; cert.bytes() == ONE_CERTIFICATE.as_bytes());
     assert!(rt; out.bytes() == b"optimal 6\n".as_slice());

@@ -1,15 +1,14 @@
 // All that the program does.
-ghost use Rattle.std.specs.Prelude.{◌≡◌, ◌≢◌, ◌⊎◌, true, false, codes};
-ghost use Rattle.outside.specs.Faults.{Rose};
-ghost use Rattle.command_words.specs.Commands.{is_command};
-ghost use Rattle.solve_top.specs.Commands.{budget_of, upper_of};
-ghost use Rattle.solve_top.specs.Statuses.{number_of};
-ghost use Rattle.solve_top.specs.declared.status.Status.{Status};
-ghost use Rattle.solve_top.specs.Output.{Told};
-ghost use Rattle.solve_top.specs.Headline.{IsRead, IsFaulty, IsUndecided, IsTooFew, IsSolved, IsStopped, IsAnswered, IsTurnedAway, IsCutShort};
+ghost use Rattle.std.specs.Prelude.{◌≡◌};
+ghost use Rattle.solve_top.specs.Changes.{source_change, sink_change};
+ghost use Rattle.solve_top.specs.Headline.{KeepsPromise};
+ghost use Rattle.solve_top.specs.Statuses.{exit_number};
 
-use crate::Words;
-use crate::answer::answer;
+use crate::limits::limits_of;
+use crate::model::read_model;
+use crate::search::solve;
+use crate::telling::tell_outcome;
+use crate::{Status, Words};
 use outside::{Disk, Hold, Sink, Source};
 use std::alloc::Global;
 use std::hash::BuildHasher;
@@ -23,6 +22,19 @@ pub struct Ran<D> {
     pub status: u8,
     /// The disk that the run was handed.
     pub disk: D,
+}
+
+impl<D> Ran<D> {
+    // A run that ended with this status.
+    fn new(status: Status, disk: D) -> Self
+        ensures status { result.status ≡ exit_number status }
+        ensures disk { result.disk ≡ disk }
+    {
+        Ran {
+            status: status.number(),
+            disk,
+        }
+    }
 }
 
 /// Solves a model with one worker: reads it from `model`, writes its certificate to `cert` and a few lines to `out`.
@@ -51,79 +63,25 @@ pub fn run_one<B: BuildHasher + Drop, S: Source, D: Disk, C: Sink, O: Sink>(
     cert: &mut C,
     out: &mut O,
 ) -> Ran<D>
-    ensures named { (s : Status) × (result.status ≡ number_of s) }
-
-    // Each status has its cause, and without that cause it does not come. Want of memory may come before
-    // any other refusal.
-    ensures usage { result.status ≡ 2 → is_command words.now ≡ false }
-    ensures command { result.status ≢ 2 → result.status ≢ 9 → is_command words.now ≡ true }
-    ensures fault { result.status ≡ 5 → Rose (S.faults model.old) (S.faults model.new) }
-    ensures whole { result.status ≢ 5 → S.faults model.new ≡ S.faults model.old }
-    ensures refused { S.tells ≡ true → result.status ≡ 3 → IsFaulty (S.left model.old) (upper_of words.now) }
-    ensures accepted { S.tells ≡ true → (result.status ≡ 0) ⊎ ((result.status ≡ 8) ⊎ (result.status ≡ 7))
-        → IsRead (S.left model.old) (upper_of words.now) }
-    ensures spent { S.tells ≡ true → result.status ≡ 8
-        → IsUndecided (S.left model.old) (upper_of words.now) (budget_of words.now) }
-    ensures short { S.tells ≡ true → result.status ≡ 8
-        → IsTooFew (S.left model.old) (upper_of words.now) (budget_of words.now) }
-    ensures sink { result.status ≡ 7
-        → Rose (C.faults cert.old) (C.faults cert.new) ⊎ Rose (O.faults out.old) (O.faults out.new) }
-    ensures kept { result.status ≢ 7 → C.faults cert.new ≡ C.faults cert.old }
-    ensures quiet { (result.status ≡ 0) ⊎ (result.status ≡ 8) → O.faults out.new ≡ O.faults out.old }
-
-    // A command over a text that reads as a program is done or spent where nothing fails.
-    ensures complete { S.tells ≡ true → is_command words.now ≡ true
-        → IsRead (S.left model.old) (upper_of words.now)
-        → ¬ Rose (S.faults model.old) (S.faults model.new)
-        → ¬ Rose (C.faults cert.old) (C.faults cert.new)
-        → ¬ Rose (O.faults out.old) (O.faults out.new)
-        → (result.status ≡ 0) ⊎ ((result.status ≡ 8) ⊎ (result.status ≡ 9)) }
-
-    // The certificate: whole, also where the lines failed; or a front of it; or nothing.
-    ensures done { S.tells ≡ true → C.tells ≡ true → result.status ≡ 0
-        → IsSolved (S.left model.old)
-        (upper_of words.now) (budget_of words.now) (C.taken cert.old) (C.taken cert.new) }
-    ensures printed { S.tells ≡ true → C.tells ≡ true → result.status ≡ 7
-        → Rose (C.faults cert.old) (C.faults cert.new)
-        ⊎ (IsSolved (S.left model.old)
-        (upper_of words.now) (budget_of words.now) (C.taken cert.old) (C.taken cert.new)
-        ⊎ (IsUndecided (S.left model.old)
-        (upper_of words.now) (budget_of words.now) × (C.taken cert.new ≡ C.taken cert.old))) }
-    ensures front { S.tells ≡ true → C.tells ≡ true → (result.status ≡ 7) ⊎ (result.status ≡ 9)
-        → IsStopped (S.left model.old)
-        (upper_of words.now) (budget_of words.now) (C.taken cert.old) (C.taken cert.new) }
-    ensures none { C.tells ≡ true
-        → (result.status ≡ 2) ⊎ ((result.status ≡ 3) ⊎ ((result.status ≡ 5) ⊎ (result.status ≡ 8)))
-        → C.taken cert.new ≡ C.taken cert.old }
-
-    // The lines, each whole or, with a fault of their sink, a front of it.
-    ensures answered { S.tells ≡ true → O.tells ≡ true → (result.status ≡ 0) ⊎ (result.status ≡ 8)
-        → IsAnswered (S.left model.old)
-        (upper_of words.now) (budget_of words.now) (O.taken out.old) (O.taken out.new) }
-    ensures usage_line { O.tells ≡ true → result.status ≡ 2
-        → Told (O.taken out.old) (O.taken out.new)
-        (O.faults out.old) (O.faults out.new) (codes "refused usage\n") }
-    ensures model_line { S.tells ≡ true → O.tells ≡ true → result.status ≡ 3
-        → IsTurnedAway (S.left model.old) (upper_of words.now)
-        (O.taken out.old) (O.taken out.new) (O.faults out.old) (O.faults out.new) }
-    ensures fault_line { O.tells ≡ true → result.status ≡ 5
-        → Told (O.taken out.old) (O.taken out.new)
-        (O.faults out.old) (O.faults out.new) (codes "fault read\n") }
-    ensures memory_line { O.tells ≡ true → result.status ≡ 9
-        → Told (O.taken out.old) (O.taken out.new) (O.faults out.old) (O.faults out.new) (codes "no memory\n") }
-    ensures cut_short { S.tells ≡ true → O.tells ≡ true → result.status ≡ 7
-        → IsCutShort (S.left model.old)
-        (upper_of words.now) (budget_of words.now) (C.faults cert.old) (C.faults cert.new)
-        (O.taken out.old) (O.taken out.new) (O.faults out.old) (O.faults out.new) }
-
-    // The disk is not touched.
+    ensures promise { KeepsPromise (record {
+      words = words.now;
+      model = source_change S.tells S.left S.faults model.old model.new;
+      cert = sink_change C.tells C.taken C.faults cert.old cert.new;
+      out = sink_change O.tells O.taken O.faults out.old out.new;
+      number = result.status;
+    }) }
     ensures disk { result.disk ≡ disk }
 {
-    let status = answer(alloc, keys, words, model, cert, out);
-    Ran {
-        status: status.number(),
-        disk,
-    }
+    let limits = match limits_of(alloc, words) {
+        Ok(limits) => limits,
+        Err(refusal) => return Ran::new(tell_outcome(alloc, Err(refusal), out), disk),
+    };
+    let problem = match read_model(alloc, keys, model, limits.upper) {
+        Ok(problem) => problem,
+        Err(refusal) => return Ran::new(tell_outcome(alloc, Err(refusal), out), disk),
+    };
+    let outcome = solve(alloc, &problem, limits.budget, cert);
+    Ran::new(tell_outcome(alloc, outcome, out), disk)
 }
 
 /// Solves a model with as many workers as the words ask for, over threads that `rt` starts.
@@ -148,72 +106,13 @@ pub fn run<
     out: &mut O,
     _hold: &H,
 ) -> Ran<D>
-    ensures named { (s : Status) × (result.status ≡ number_of s) }
-
-    // Each status has its cause, and without that cause it does not come. Want of memory may come before
-    // any other refusal.
-    ensures usage { result.status ≡ 2 → is_command words.now ≡ false }
-    ensures command { result.status ≢ 2 → result.status ≢ 9 → is_command words.now ≡ true }
-    ensures fault { result.status ≡ 5 → Rose (S.faults model.old) (S.faults model.new) }
-    ensures whole { result.status ≢ 5 → S.faults model.new ≡ S.faults model.old }
-    ensures refused { S.tells ≡ true → result.status ≡ 3 → IsFaulty (S.left model.old) (upper_of words.now) }
-    ensures accepted { S.tells ≡ true → (result.status ≡ 0) ⊎ ((result.status ≡ 8) ⊎ (result.status ≡ 7))
-        → IsRead (S.left model.old) (upper_of words.now) }
-    ensures spent { S.tells ≡ true → result.status ≡ 8
-        → IsUndecided (S.left model.old) (upper_of words.now) (budget_of words.now) }
-    ensures short { S.tells ≡ true → result.status ≡ 8
-        → IsTooFew (S.left model.old) (upper_of words.now) (budget_of words.now) }
-    ensures sink { result.status ≡ 7
-        → Rose (C.faults cert.old) (C.faults cert.new) ⊎ Rose (O.faults out.old) (O.faults out.new) }
-    ensures kept { result.status ≢ 7 → C.faults cert.new ≡ C.faults cert.old }
-    ensures quiet { (result.status ≡ 0) ⊎ (result.status ≡ 8) → O.faults out.new ≡ O.faults out.old }
-
-    // A command over a text that reads as a program is done or spent where nothing fails.
-    ensures complete { S.tells ≡ true → is_command words.now ≡ true
-        → IsRead (S.left model.old) (upper_of words.now)
-        → ¬ Rose (S.faults model.old) (S.faults model.new)
-        → ¬ Rose (C.faults cert.old) (C.faults cert.new)
-        → ¬ Rose (O.faults out.old) (O.faults out.new)
-        → (result.status ≡ 0) ⊎ ((result.status ≡ 8) ⊎ (result.status ≡ 9)) }
-
-    // The certificate: whole, also where the lines failed; or a front of it; or nothing.
-    ensures done { S.tells ≡ true → C.tells ≡ true → result.status ≡ 0
-        → IsSolved (S.left model.old)
-        (upper_of words.now) (budget_of words.now) (C.taken cert.old) (C.taken cert.new) }
-    ensures printed { S.tells ≡ true → C.tells ≡ true → result.status ≡ 7
-        → Rose (C.faults cert.old) (C.faults cert.new)
-        ⊎ (IsSolved (S.left model.old)
-        (upper_of words.now) (budget_of words.now) (C.taken cert.old) (C.taken cert.new)
-        ⊎ (IsUndecided (S.left model.old)
-        (upper_of words.now) (budget_of words.now) × (C.taken cert.new ≡ C.taken cert.old))) }
-    ensures front { S.tells ≡ true → C.tells ≡ true → (result.status ≡ 7) ⊎ (result.status ≡ 9)
-        → IsStopped (S.left model.old)
-        (upper_of words.now) (budget_of words.now) (C.taken cert.old) (C.taken cert.new) }
-    ensures none { C.tells ≡ true
-        → (result.status ≡ 2) ⊎ ((result.status ≡ 3) ⊎ ((result.status ≡ 5) ⊎ (result.status ≡ 8)))
-        → C.taken cert.new ≡ C.taken cert.old }
-
-    // The lines, each whole or, with a fault of their sink, a front of it.
-    ensures answered { S.tells ≡ true → O.tells ≡ true → (result.status ≡ 0) ⊎ (result.status ≡ 8)
-        → IsAnswered (S.left model.old)
-        (upper_of words.now) (budget_of words.now) (O.taken out.old) (O.taken out.new) }
-    ensures usage_line { O.tells ≡ true → result.status ≡ 2
-        → Told (O.taken out.old) (O.taken out.new)
-        (O.faults out.old) (O.faults out.new) (codes "refused usage\n") }
-    ensures model_line { S.tells ≡ true → O.tells ≡ true → result.status ≡ 3
-        → IsTurnedAway (S.left model.old) (upper_of words.now)
-        (O.taken out.old) (O.taken out.new) (O.faults out.old) (O.faults out.new) }
-    ensures fault_line { O.tells ≡ true → result.status ≡ 5
-        → Told (O.taken out.old) (O.taken out.new)
-        (O.faults out.old) (O.faults out.new) (codes "fault read\n") }
-    ensures memory_line { O.tells ≡ true → result.status ≡ 9
-        → Told (O.taken out.old) (O.taken out.new) (O.faults out.old) (O.faults out.new) (codes "no memory\n") }
-    ensures cut_short { S.tells ≡ true → O.tells ≡ true → result.status ≡ 7
-        → IsCutShort (S.left model.old)
-        (upper_of words.now) (budget_of words.now) (C.faults cert.old) (C.faults cert.new)
-        (O.taken out.old) (O.taken out.new) (O.faults out.old) (O.faults out.new) }
-
-    // The disk is not touched.
+    ensures promise { KeepsPromise (record {
+      words = words.now;
+      model = source_change S.tells S.left S.faults model.old model.new;
+      cert = sink_change C.tells C.taken C.faults cert.old cert.new;
+      out = sink_change O.tells O.taken O.faults out.old out.new;
+      number = result.status;
+    }) }
     ensures disk { result.disk ≡ disk }
 {
     run_one(alloc, keys, words, model, disk, cert, out)

@@ -3,35 +3,45 @@ use Rattle.std.proofs.Common.{◌≡◌, ◌≢◌, ◌⊎◌, inl, inr, ⊎_eli
 use Rattle.std.specs.Prelude.{Contains, sum_by, is_some, if◌then◌else◌}
 use Rattle.std.proofs.lemmas.Bool.{leb-true, leb-false}
 use Rattle.std.proofs.lemmas.List.{length-append, append-nil, nil_from_length}
-use Rattle.std.proofs.lemmas.List.Elements.{Contains-append_cases, Contains-append_right}
+use Rattle.std.proofs.lemmas.List.Elements.{Contains-append_cases, Contains-append_left, Contains-append_right}
 use mathlib.Core.Logic.{dite}
 use mathlib.Core.Option.{some, some-injective}
 use native.Mathlib.Decide.{ℕ_discrete}
 use lib.ListN.{get_elem?}
 use Rattle.atomic_table.specs.Table.{State, Joins}
 use Rattle.atomic_table.proofs.Lists.{at_set, set_else, set_here}
-use Rattle.turn_lock.specs.Lists.{NoneOf, longer}
+use Rattle.turn_lock.specs.Lists.{NoneOf, GoesOn, longer, shorter, shorter_has}
 use Rattle.turn_lock.specs.Steps.{joined, spent}
 use Rattle.turn_lock.specs.Turns.{TakesTurns, Seated, one_if, tickets_in, weight_in, Known}
 use Rattle.turn_lock.specs.declared.board.View.{View}
-use Rattle.turn_lock.proofs.NameLists.{distinct_append, nothing}
+use Rattle.turn_lock.proofs.NameLists.{distinct_append, nothing, from_nothing}
 use Rattle.turn_lock.proofs.Seats.{sum_by_set_at, inside}
+use Rattle.turn_lock.proofs.Settled.{AreSettled, is_other, turns_go_on}
 
 abbrev tail_of : {E : Type 0} → List E → List E
 tail_of [] = []
 tail_of (_ ∷ xs) = xs
 
--- of two ways to cut a list, what stands behind the longer front stands behind the shorter one too
-pub shorter_behind : {E : Type 0} (a x b y : List E) → a ++ x ≡ b ++ y → length a ≤ length b → (e : E) → Contains y e → Contains x e
-shorter_behind {E = E} [] x b y same le e c = subst (λ (l : List E). Contains l e) (sym same) (Contains-append_right b y e c)
-shorter_behind (k ∷ ks) x [] y same le e c = absurd (omega (arith, le))
-shorter_behind (k ∷ ks) x (l ∷ ls) y same le e c = shorter_behind ks x ls y (ap tail_of same) (omega (arith, le)) e c
+-- of two ways to cut a list, the longer prefix goes on from the shorter one
+between : {E : Type 0} (a x b y : List E) → a ++ x ≡ b ++ y → length a ≤ length b → (c : List E) × (b ≡ a ++ c) × (x ≡ c ++ y)
+between [] x b y same le = (b, refl, same)
+between (k ∷ ks) x [] y same le = absurd (omega (arith, le))
+between {E = E} (k ∷ ks) x (l ∷ ls) y same le =
+    let deeper = between ks x ls y (ap tail_of same) (omega (arith, le)) in
+    let heads : k ≡ l = cc in
+    (deeper.0, ap (λ (m : List E). l ∷ m) deeper.1 ∙ ap (λ (m : E). m ∷ (ks ++ deeper.0)) (sym heads), deeper.2)
 
--- a front that is no shorter than the whole is the whole
-whole_front : {E : Type 0} (front rest all : List E) → all ≡ front ++ rest → length all ≤ length front → front ≡ all
-whole_front front rest all is le =
-    let empty : rest ≡ [] = nil_from_length rest (omega (arith, le, ap (λ l. length l) is, length-append front rest)) in
-    sym (is ∙ (ap (λ l. front ++ l) empty ∙ append-nil front))
+-- what stands behind the longer prefix stands behind the shorter one too
+shorter_behind : {E : Type 0} (a x b y : List E) → a ++ x ≡ b ++ y → length a ≤ length b → (e : E) → Contains y e → Contains x e
+shorter_behind {E = E} a x b y same le e c =
+    let q = between a x b y same le in
+    subst (λ (l : List E). Contains l e) (sym q.2) (Contains-append_right q.0 y e c)
+
+-- a prefix that is no shorter than the whole is the whole
+whole_prefix : {E : Type 0} (prefix rest all : List E) → all ≡ prefix ++ rest → length all ≤ length prefix → prefix ≡ all
+whole_prefix prefix rest all is le =
+    let empty : rest ≡ [] = nil_from_length rest (omega (arith, le, ap (λ l. length l) is, length-append prefix rest)) in
+    sym (is ∙ (ap (λ l. prefix ++ l) empty ∙ append-nil prefix))
 
 module _ {V E : Type 0} (list : V → List E) (name : E → Option ℕ) (weight : ℕ) (s : State (Option V) (View E)) (r : TakesTurns list name weight s) (id : ℕ) (v : View E) (at : get_elem? s.views id ≡ some v) (idle : v.ticket ≡ None) (in_ : v.out ≡ false)
     (two : ℕ) (w : View E) (ne : two ≢ id) (at_two : get_elem? s.views two ≡ some w) (idle_two : w.ticket ≡ None) (in_two : w.out ≡ false) where
@@ -53,9 +63,19 @@ module _ {V E : Type 0} (list : V → List E) (name : E → Option ℕ) (weight 
         (λ e n c. q.not_own e n (shorter_behind w.seen q.behind v.seen o.behind (sym q.prefix ∙ o.prefix) (omega (arith, leb-false (length v.seen) (length w.seen) is)) e c)),
       )
 
+  -- the longer list goes on from the shorter one, with nothing of the part that had seen less
+  parts_go_on : GoesOn name (shorter_has v.seen w.seen v.names w.names) (shorter v.seen w.seen) (longer v.seen w.seen)
+  parts_go_on = go (leb (length v.seen) (length w.seen)) refl
+    where
+      go : (b : Bool) → leb (length v.seen) (length w.seen) ≡ b → GoesOn name (if b then v.names else w.names) (if b then v.seen else w.seen) (if b then w.seen else v.seen)
+      go true is = let o = r.each id v at in let q = r.each two w at_two in let c = between v.seen o.behind w.seen q.behind (sym o.prefix ∙ q.prefix) (leb-true (length v.seen) (length w.seen) is) in
+          (c.0, c.1, λ e n in_c. o.not_own e n (subst (λ (l : List E). Contains l e) (sym c.2) (Contains-append_left c.0 q.behind e in_c)))
+      go false is = let o = r.each id v at in let q = r.each two w at_two in let c = between w.seen q.behind v.seen o.behind (sym q.prefix ∙ o.prefix) (omega (arith, leb-false (length v.seen) (length w.seen) is)) in
+          (c.0, c.1, λ e n in_c. q.not_own e n (subst (λ (l : List E). Contains l e) (sym c.2) (Contains-append_left c.0 o.behind e in_c)))
+
   -- of two lists that begin the noted one, of which one is all of it, the longer is all of it
   all_kept : (v.seen ≡ r.noted) ⊎ (w.seen ≡ r.noted) → longer v.seen w.seen ≡ r.noted
-  all_kept either = whole_front (longer v.seen w.seen) kept_list.0 r.noted kept_list.1 (⊎_elim
+  all_kept either = whole_prefix (longer v.seen w.seen) kept_list.0 r.noted kept_list.1 (⊎_elim
       (λ (e : v.seen ≡ r.noted). omega (arith, ap (λ (l : List E). length l) e, no_shorter (leb (length v.seen) (length w.seen)) refl))
       (λ (e : w.seen ≡ r.noted). omega (arith, ap (λ (l : List E). length l) e, no_shorter_two (leb (length v.seen) (length w.seen)) refl))
       either)
@@ -83,6 +103,7 @@ module _ {V E : Type 0} (list : V → List E) (name : E → Option ℕ) (weight 
       behind = kept_list.0;
       prefix = kept_list.1;
       not_own = λ e n c is has. ⊎_elim (λ (h : Contains v.names n). kept_list.2 e n c is h) (λ (h : Contains w.names n). kept_list.3 e n c is h) (Contains-append_cases v.names w.names n has);
+      part = parts_go_on;
       distinct = distinct_append v.names w.names (r.each id v at).distinct (r.each two w at_two).distinct (λ n a b. ne (r.names two id w v n at_two at b a));
       ticket = λ t e. let bad : None ≡ Some t = e in cc;
       out = λ e. let bad : false ≡ true = e in cc;
@@ -94,6 +115,7 @@ module _ {V E : Type 0} (list : V → List E) (name : E → Option ℕ) (weight 
       prefix = refl;
       not_own = λ e n c is has. nothing n has;
       distinct = tt;
+      part = from_nothing name [];
       ticket = λ t e. let bad : None ≡ Some t = e in cc;
       out = λ e. let bad : false ≡ true = e in cc;
     }
@@ -106,21 +128,6 @@ module _ {V E : Type 0} (list : V → List E) (name : E → Option ℕ) (weight 
         | inr p ↦ r.each by u p.2
       ]
     ]
-
-    none_some : (o : Option ℕ) (t : ℕ) → o ≡ None → o ≡ Some t → ⊥
-    none_some o t a b = let bad : None ≡ Some t = sym a ∙ b in cc
-
-    ticketed : (by : ℕ) (u : View E) (t : ℕ) → get_elem? views by ≡ some u → u.ticket ≡ Some t → get_elem? s.views by ≡ some u
-    ticketed by u t e is = elim (kinds by u e) [
-      | inl p ↦ absurd (none_some u.ticket t (sym (ap (λ (x : View E). x.ticket) p.1)) is)
-      | inr q ↦ elim q [
-        | inl p ↦ absurd (none_some u.ticket t (sym (ap (λ (x : View E). x.ticket) p.1)) is)
-        | inr p ↦ p.2
-      ]
-    ]
-
-    apart' : (a b : ℕ) (u x : View E) (t : ℕ) → get_elem? views a ≡ some u → get_elem? views b ≡ some x → u.ticket ≡ Some t → x.ticket ≡ Some t → a ≡ b
-    apart' a b u x t ea eb ta tb = r.apart a b u x t (ticketed a u t ea ta) (ticketed b x t eb tb) ta tb
 
     -- whose name it is now, and whose it was
     owner : (by : ℕ) (u : View E) (n : ℕ) → get_elem? views by ≡ some u → Contains u.names n → (k : ℕ) × (x : View E) × (get_elem? s.views k ≡ some x) × Contains x.names n × (((by ≡ id) × ((k ≡ id) ⊎ (k ≡ two))) ⊎ ((by ≡ k) × (k ≢ id) × (k ≢ two)))
@@ -162,20 +169,18 @@ module _ {V E : Type 0} (list : V → List E) (name : E → Option ℕ) (weight 
     weights' : weight_in views ≡ weight
     weights' = omega (arith, r.weights, sums (λ (u : View E). length u.names), length-append v.names w.names)
 
-    in_before : (by : ℕ) (u : View E) → ((k : ℕ) (x : View E) → get_elem? s.views k ≡ some x → x.out ≡ false) → get_elem? views by ≡ some u → u.out ≡ false
-    in_before by u all e = elim (kinds by u e) [
-      | inl p ↦ sym (ap (λ (x : View E). x.out) p.1)
-      | inr q ↦ elim q [
-        | inl p ↦ sym (ap (λ (x : View E). x.out) p.1)
-        | inr p ↦ all by u p.2
-      ]
-    ]
-
-    other : (k : ℕ) (z : View E) → get_elem? s.views k ≡ some z → z.out ≡ false → (by : ℕ) (u : View E) → get_elem? s.views by ≡ some u → u.out ≡ true → by ≢ k
-    other k z at_k in_k by u e out same = let one : some u ≡ some z = sym e ∙ ap (λ j. get_elem? s.views j) same ∙ at_k in let bad : true ≡ false = sym out ∙ ap (λ (x : View E). x.out) (some-injective u z one) ∙ in_k in cc
-
-    still_out : (by : ℕ) (u : View E) → get_elem? s.views by ≡ some u → u.out ≡ true → get_elem? views by ≡ some u
-    still_out by u e out = ap (λ (l : List (View E)). get_elem? l by) are ∙ (set_else (set s.views id (joined v w)) two by spent (other two w at_two in_two by u e out) ∙ (set_else s.views id by (joined v w) (other id v at in_ by u e out) ∙ e))
+    settled : AreSettled s.views views
+    settled = record {
+      came = λ by u e. elim (kinds by u e) [
+        | inl p ↦ inl (sym (ap (λ (x : View E). x.ticket) p.1), sym (ap (λ (x : View E). x.out) p.1))
+        | inr q ↦ elim q [
+          | inl p ↦ inl (sym (ap (λ (x : View E). x.ticket) p.1), sym (ap (λ (x : View E). x.out) p.1))
+          | inr p ↦ inr p.2
+        ]
+      ];
+      still_out = λ by u e out. ap (λ (l : List (View E)). get_elem? l by) are
+          ∙ (set_else (set s.views id (joined v w)) two by spent (is_other s.views two w at_two in_two by u e out) ∙ (set_else s.views id by (joined v w) (is_other s.views id v at in_ by u e out) ∙ e));
+    }
 
     known : Known r.noted views
     known = let l = r.longest in dite (ℕ_discrete l.0 id)
@@ -199,24 +204,19 @@ module _ {V E : Type 0} (list : V → List E) (name : E → Option ℕ) (weight 
         at_both_two e some_names either = (id, joined v w, sits, omega (arith, e, some_names, length-append v.names w.names), all_kept either)
 
     kept : TakesTurns list name weight record { words = s.words; homes = s.homes; views = views }
-    kept = record {
-      issued = r.issued;
-      served = r.served;
-      noted = r.noted;
-      words = r.words;
-      small = r.small;
-      tickets = tickets';
-      each = each';
-      apart = apart';
-      names = names';
-      weights = weights';
-      longest = known;
-      home = elim r.home [
-        | inl h ↦ inl (h.0, h.1, h.2, λ by u e. in_before by u h.3 e)
-        | inr h ↦ inr (h.0, h.1, h.2, still_out h.1 h.2 h.3 h.4, h.4)
-      ];
-    }
+    kept = turns_go_on list name weight s r views settled tickets' each' names' weights' known
 
 module _ {V E : Type 0} (list : V → List E) (name : E → Option ℕ) (weight : ℕ) where
   pub joins : (id : ℕ) (v : View E) (two : ℕ) (w : View E) → v.ticket ≡ None → v.out ≡ false → w.ticket ≡ None → w.out ≡ false → Joins (TakesTurns list name weight) id v two w (joined v w) spent
   joins id v two w idle in_ idle_two in_two s r at ne at_two = kept list name weight s r id v at idle in_ two w ne (sym (set_else s.views id two (joined v w) ne) ∙ at_two) idle_two in_two (set (set s.views id (joined v w)) two spent) refl
+
+-- what a joined view tells is of both of its parts
+pub of_both : {E : Type 0} (name : E → Option ℕ) (a b : List E) (na nb : List ℕ) → GoesOn name (shorter_has a b na nb) (shorter a b) (longer a b) → GoesOn name na a (longer a b) × GoesOn name nb b (longer a b)
+of_both {E = E} name a b na nb = go (leb (length a) (length b))
+  where
+    itself : (ns : List ℕ) (l : List E) → GoesOn name ns l l
+    itself ns l = ([], sym (append-nil l), λ e n c is has. nothing e c)
+
+    go : (t : Bool) → GoesOn name (if t then na else nb) (if t then a else b) (if t then b else a) → GoesOn name na a (if t then b else a) × GoesOn name nb b (if t then b else a)
+    go true told = (told, itself nb b)
+    go false told = (itself na a, told)

@@ -7,4 +7,6 @@ pub mod NameLists
 pub mod Noting
 pub mod Passing
 pub mod Seats
+pub mod Settled
 pub mod Splitting
+pub mod Telling

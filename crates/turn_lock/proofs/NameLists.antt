@@ -1,15 +1,20 @@
 -- Lists of distinct names.
-use Rattle.std.proofs.Common.{◌≡◌, ◌⊎◌, inl, inr, ⊎_elim, ℕ, zero, suc, ◌+◌, ◌≤◌, ◌<◌, Bool, true, false, List, [], ◌∷◌, ◌++◌, length, eqb, refl, sym, ◌∙◌, subst, arith}
+use Rattle.std.proofs.Common.{◌≡◌, ◌⊎◌, inl, inr, ⊎_elim, ℕ, Option, zero, suc, ◌+◌, ◌≤◌, ◌<◌, Bool, true, false, List, [], ◌∷◌, ◌++◌, length, eqb, refl, sym, ◌∙◌, subst, arith}
 use Rattle.std.specs.Prelude.{Contains, if◌then◌else◌}
 use Rattle.std.proofs.lemmas.Grind.{common_steps}
 use Rattle.std.proofs.lemmas.Bool.{eq-eqb, eqb-true, cases_lt}
 use Rattle.std.proofs.lemmas.List.{length-append}
 use Rattle.std.proofs.lemmas.List.Elements.{Contains-append_right, Contains-append_cases}
 use Rattle.std.proofs.Math.Nat.{max-eq_left, max-eq_right}
-use Rattle.turn_lock.specs.Names.{AreDistinct, greatest, without, names_below}
+use Rattle.turn_lock.specs.Lists.{GoesOn}
+use Rattle.turn_lock.specs.Names.{AreDistinct, greatest, without_first, names_below}
 
 pub nothing : {X : Type 0} (e : X) → Contains [] e → ⊥
 nothing e c = grind (arith, common_steps)
+
+-- whatever the list is, it goes on from nothing, and behind that nobody's name was asked for
+pub from_nothing : {E : Type 0} (name : E → Option ℕ) (list : List E) → GoesOn name [] [] list
+from_nothing name list = (list, refl, λ e n c is has. nothing n has)
 
 pub head_in : {X : Type 0} (x : X) (xs : List X) → Contains (x ∷ xs) x
 head_in x xs = (0, omega arith, refl)
@@ -34,43 +39,43 @@ greatest_in (x ∷ y ∷ ys) some_names = ⊎_elim
     (cases_lt (greatest (y ∷ ys)) x)
 
 module _ (n : ℕ) where
-  pub without_in : (xs : List ℕ) (y : ℕ) → Contains (without n xs) y → Contains xs y
+  pub without_in : (xs : List ℕ) (y : ℕ) → Contains (without_first n xs) y → Contains xs y
   without_in [] y c = c
   without_in (x ∷ xs) y c = go (eqb x n) (without_in xs y) c
     where
-      go : (b : Bool) → (Contains (without n xs) y → Contains xs y) → Contains (if b then xs else x ∷ without n xs) y → Contains (x ∷ xs) y
+      go : (b : Bool) → (Contains (without_first n xs) y → Contains xs y) → Contains (if b then xs else x ∷ without_first n xs) y → Contains (x ∷ xs) y
       go true deeper h = tail_in x xs y h
-      go false deeper h = ⊎_elim (λ (e : y ≡ x). subst (Contains (x ∷ xs)) (sym e) (head_in x xs)) (λ (t : Contains (without n xs) y). tail_in x xs y (deeper t)) (either_in x (without n xs) y h)
+      go false deeper h = ⊎_elim (λ (e : y ≡ x). subst (Contains (x ∷ xs)) (sym e) (head_in x xs)) (λ (t : Contains (without_first n xs) y). tail_in x xs y (deeper t)) (either_in x (without_first n xs) y h)
 
-  pub length_without : (xs : List ℕ) → Contains xs n → length (without n xs) + 1 ≡ length xs
+  pub length_without : (xs : List ℕ) → Contains xs n → length (without_first n xs) + 1 ≡ length xs
   length_without [] c = absurd (nothing n c)
   length_without (x ∷ xs) c = go (eqb x n) refl (length_without xs)
     where
-      go : (b : Bool) → eqb x n ≡ b → (Contains xs n → length (without n xs) + 1 ≡ length xs) → length (if b then xs else x ∷ without n xs) + 1 ≡ length (x ∷ xs)
+      go : (b : Bool) → eqb x n ≡ b → (Contains xs n → length (without_first n xs) + 1 ≡ length xs) → length (if b then xs else x ∷ without_first n xs) + 1 ≡ length (x ∷ xs)
       go true is deeper = omega arith
       go false is deeper = ⊎_elim
           (λ (e : n ≡ x). let bad : true ≡ false = sym (eq-eqb x n (sym e)) ∙ is in cc)
           (λ (t : Contains xs n). let before = deeper t in omega (arith, before))
           (either_in x xs n c)
 
-  pub distinct_without : (xs : List ℕ) → AreDistinct xs → AreDistinct (without n xs)
+  pub distinct_without : (xs : List ℕ) → AreDistinct xs → AreDistinct (without_first n xs)
   distinct_without [] d = d
   distinct_without (x ∷ xs) d = go (eqb x n) (distinct_without xs d.1)
     where
-      go : (b : Bool) → AreDistinct (without n xs) → AreDistinct (if b then xs else x ∷ without n xs)
+      go : (b : Bool) → AreDistinct (without_first n xs) → AreDistinct (if b then xs else x ∷ without_first n xs)
       go true deeper = d.1
       go false deeper = ((λ c. d.0 (without_in xs x c)), deeper)
 
-  pub not_without : (xs : List ℕ) → AreDistinct xs → Contains (without n xs) n → ⊥
+  pub not_without : (xs : List ℕ) → AreDistinct xs → Contains (without_first n xs) n → ⊥
   not_without [] d c = nothing n c
   not_without (x ∷ xs) d c = go (eqb x n) refl (not_without xs d.1) c
     where
-      go : (b : Bool) → eqb x n ≡ b → (Contains (without n xs) n → ⊥) → Contains (if b then xs else x ∷ without n xs) n → ⊥
+      go : (b : Bool) → eqb x n ≡ b → (Contains (without_first n xs) n → ⊥) → Contains (if b then xs else x ∷ without_first n xs) n → ⊥
       go true is deeper h = d.0 (subst (Contains xs) (sym (eqb-true x n is)) h)
       go false is deeper h = ⊎_elim
           (λ (e : n ≡ x). let bad : true ≡ false = sym (eq-eqb x n (sym e)) ∙ is in cc)
-          (λ (t : Contains (without n xs) n). deeper t)
-          (either_in x (without n xs) n h)
+          (λ (t : Contains (without_first n xs) n). deeper t)
+          (either_in x (without_first n xs) n h)
 
 pub distinct_append : (xs ys : List ℕ) → AreDistinct xs → AreDistinct ys → ((n : ℕ) → Contains xs n → Contains ys n → ⊥) → AreDistinct (xs ++ ys)
 distinct_append [] ys dx dy apart = dy

@@ -8,12 +8,13 @@ use native.Mathlib.Decide.{ℕ_discrete}
 use lib.ListN.{get_elem?}
 use Rattle.atomic_table.specs.Table.{State, Splits}
 use Rattle.atomic_table.proofs.Lists.{at_set, set_else, at_longer, set_here}
-use Rattle.turn_lock.specs.Names.{greatest, without}
+use Rattle.turn_lock.specs.Names.{greatest, without_first}
 use Rattle.turn_lock.specs.Steps.{others_of, greatest_of}
 use Rattle.turn_lock.specs.Turns.{TakesTurns, Seated, one_if, tickets_in, weight_in, Known}
 use Rattle.turn_lock.specs.declared.board.View.{View}
 use Rattle.turn_lock.proofs.NameLists.{greatest_in, without_in, length_without, distinct_without, not_without, only_in, nothing}
 use Rattle.turn_lock.proofs.Seats.{sum_by_set_at, inside}
+use Rattle.turn_lock.proofs.Settled.{AreSettled, is_other, turns_go_on}
 
 -- an element of a list that was made longer by one
 pub at_end : {A : Type 0} (l : List A) (a b : A) (j : ℕ) → get_elem? (l ++ a ∷ []) j ≡ some b → (get_elem? l j ≡ some b) ⊎ ((j ≡ length l) × (a ≡ b))
@@ -43,6 +44,7 @@ module _ {V E : Type 0} (list : V → List E) (name : E → Option ℕ) (weight 
       prefix = o.prefix;
       not_own = λ e n c is has. o.not_own e n c is (without_in (greatest v.names) v.names n has);
       distinct = distinct_without (greatest v.names) v.names o.distinct;
+      part = o.part;
       ticket = λ t e. let bad : None ≡ Some t = sym idle ∙ e in cc;
       out = λ e. let bad : true ≡ false = sym e ∙ in_ in cc;
     }
@@ -53,6 +55,7 @@ module _ {V E : Type 0} (list : V → List E) (name : E → Option ℕ) (weight 
       prefix = o.prefix;
       not_own = λ e n c is has. o.not_own e n c is (subst (Contains v.names) (sym (only_in (greatest v.names) n has)) has_g);
       distinct = ((λ c. nothing (greatest v.names) c), tt);
+      part = o.part;
       ticket = λ t e. let bad : None ≡ Some t = e in cc;
       out = λ e. let bad : false ≡ true = e in cc;
     }
@@ -66,27 +69,11 @@ module _ {V E : Type 0} (list : V → List E) (name : E → Option ℕ) (weight 
         (λ (p : (by ≡ length (set s.views id (others_of v))) × (greatest_of v ≡ u)). subst (Seated name r.issued r.served r.noted) p.1 one)
         (kinds by u e)
 
-    none_some : (o : Option ℕ) (t : ℕ) → o ≡ None → o ≡ Some t → ⊥
-    none_some o t a b = let bad : None ≡ Some t = sym a ∙ b in cc
-
-    -- a seat with a ticket is an old one
-    ticketed : (by : ℕ) (u : View E) (t : ℕ) → get_elem? views by ≡ some u → u.ticket ≡ Some t → get_elem? s.views by ≡ some u
-    ticketed by u t e is = ⊎_elim
-        (λ old. ⊎_elim
-        (λ (p : (by ≡ id) × (others_of v ≡ u)). absurd (none_some u.ticket t (sym (ap (λ (x : View E). x.ticket) p.1) ∙ idle) is))
-        (λ (p : (by ≢ id) × (get_elem? s.views by ≡ some u)). p.1)
-        old)
-        (λ (p : (by ≡ length (set s.views id (others_of v))) × (greatest_of v ≡ u)). absurd (none_some u.ticket t (sym (ap (λ (x : View E). x.ticket) p.1)) is))
-        (kinds by u e)
-
-    apart' : (a b : ℕ) (u x : View E) (t : ℕ) → get_elem? views a ≡ some u → get_elem? views b ≡ some x → u.ticket ≡ Some t → x.ticket ≡ Some t → a ≡ b
-    apart' a b u x t ea eb ta tb = r.apart a b u x t (ticketed a u t ea ta) (ticketed b x t eb tb) ta tb
-
     -- an old seat's names are those that it had, and not the greatest of this one
     old_names : (by : ℕ) (u : View E) (n : ℕ) → ((by ≡ id) × (others_of v ≡ u)) ⊎ ((by ≢ id) × (get_elem? s.views by ≡ some u)) → Contains u.names n → (x : View E) × (get_elem? s.views by ≡ some x) × Contains x.names n × (n ≢ greatest v.names)
     old_names by u n old has = ⊎_elim
-        (λ (p : (by ≡ id) × (others_of v ≡ u)). let here : Contains (without (greatest v.names) v.names) n = subst (λ (l : List ℕ). Contains l n) (sym (ap (λ (x : View E). x.names) p.1)) has in
-        (v, ap (λ k. get_elem? s.views k) p.0 ∙ at, without_in (greatest v.names) v.names n here, λ same. not_without (greatest v.names) v.names (r.each id v at).distinct (subst (Contains (without (greatest v.names) v.names)) same here)))
+        (λ (p : (by ≡ id) × (others_of v ≡ u)). let here : Contains (without_first (greatest v.names) v.names) n = subst (λ (l : List ℕ). Contains l n) (sym (ap (λ (x : View E). x.names) p.1)) has in
+        (v, ap (λ k. get_elem? s.views k) p.0 ∙ at, without_in (greatest v.names) v.names n here, λ same. not_without (greatest v.names) v.names (r.each id v at).distinct (subst (Contains (without_first (greatest v.names) v.names)) same here)))
         (λ (p : (by ≢ id) × (get_elem? s.views by ≡ some u)). (u, p.1, has, λ same. p.0 (r.names by id u v n p.1 at has (subst (Contains v.names) (sym same) has_g))))
         old
 
@@ -114,20 +101,18 @@ module _ {V E : Type 0} (list : V → List E) (name : E → Option ℕ) (weight 
     weights' : weight_in views ≡ weight
     weights' = omega (arith, r.weights, sums (λ (u : View E). length u.names), length_without (greatest v.names) v.names has_g)
 
-    in_before : (by : ℕ) (u : View E) → ((k : ℕ) (x : View E) → get_elem? s.views k ≡ some x → x.out ≡ false) → get_elem? views by ≡ some u → u.out ≡ false
-    in_before by u all e = ⊎_elim
-        (λ old. ⊎_elim
-        (λ (p : (by ≡ id) × (others_of v ≡ u)). sym (ap (λ (x : View E). x.out) p.1) ∙ in_)
-        (λ (p : (by ≢ id) × (get_elem? s.views by ≡ some u)). all by u p.1)
-        old)
-        (λ (p : (by ≡ length (set s.views id (others_of v))) × (greatest_of v ≡ u)). sym (ap (λ (x : View E). x.out) p.1))
-        (kinds by u e)
-
-    other : (by : ℕ) (u : View E) → get_elem? s.views by ≡ some u → u.out ≡ true → by ≢ id
-    other by u e out same = let one : some u ≡ some v = sym e ∙ ap (λ k. get_elem? s.views k) same ∙ at in let bad : true ≡ false = sym out ∙ ap (λ (x : View E). x.out) (some-injective u v one) ∙ in_ in cc
-
-    still_out : (by : ℕ) (u : View E) → get_elem? s.views by ≡ some u → u.out ≡ true → get_elem? views by ≡ some u
-    still_out by u e out = ap (λ (l : List (View E)). get_elem? l by) are ∙ at_longer (set s.views id (others_of v)) (greatest_of v ∷ []) by u (set_else s.views id by (others_of v) (other by u e out) ∙ e)
+    settled : AreSettled s.views views
+    settled = record {
+      came = λ by u e. elim (kinds by u e) [
+        | inl old ↦ elim old [
+          | inl p ↦ inl (sym (ap (λ (x : View E). x.ticket) p.1) ∙ idle, sym (ap (λ (x : View E). x.out) p.1) ∙ in_)
+          | inr p ↦ inr p.1
+        ]
+        | inr p ↦ inl (sym (ap (λ (x : View E). x.ticket) p.1), sym (ap (λ (x : View E). x.out) p.1))
+      ];
+      still_out = λ by u e out. ap (λ (l : List (View E)). get_elem? l by) are
+          ∙ at_longer (set s.views id (others_of v)) (greatest_of v ∷ []) by u (set_else s.views id by (others_of v) (is_other s.views id v at in_ by u e out) ∙ e);
+    }
 
     known : Known r.noted views
     known = let l = r.longest in dite (ℕ_discrete l.0 id)
@@ -139,27 +124,11 @@ module _ {V E : Type 0} (list : V → List E) (name : E → Option ℕ) (weight 
         there by u e = ap (λ (l : List (View E)). get_elem? l by) are ∙ at_longer (set s.views id (others_of v)) (greatest_of v ∷ []) by u e
 
     kept : TakesTurns list name weight record { words = s.words; homes = s.homes; views = views }
-    kept = record {
-      issued = r.issued;
-      served = r.served;
-      noted = r.noted;
-      words = r.words;
-      small = r.small;
-      tickets = tickets';
-      each = each';
-      apart = apart';
-      names = names';
-      weights = weights';
-      longest = known;
-      home = elim r.home [
-        | inl h ↦ inl (h.0, h.1, h.2, λ by u e. in_before by u h.3 e)
-        | inr h ↦ inr (h.0, h.1, h.2, still_out h.1 h.2 h.3 h.4, h.4)
-      ];
-    }
+    kept = turns_go_on list name weight s r views settled tickets' each' names' weights' known
 
 module _ {V E : Type 0} (list : V → List E) (name : E → Option ℕ) (weight : ℕ) where
   pub splits : (id : ℕ) (v : View E) → v.ticket ≡ None → v.out ≡ false → 2 ≤ length v.names → Splits (TakesTurns list name weight) id v (others_of v) (greatest_of v)
   splits id v idle in_ several s r at = kept list name weight s r id v at idle in_ several (set s.views id (others_of v) ++ greatest_of v ∷ []) refl
 
-pub several_left : (xs : List ℕ) → 2 ≤ length xs → length (without (greatest xs) xs) + 1 ≡ length xs
+pub several_left : (xs : List ℕ) → 2 ≤ length xs → length (without_first (greatest xs) xs) + 1 ≡ length xs
 several_left xs several = length_without (greatest xs) xs (greatest_in xs (omega (arith, several)))

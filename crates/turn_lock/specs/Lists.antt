@@ -21,3 +21,11 @@ module _ {E : Type 0} (name : E → Option ℕ) (names : List ℕ) where
 -- the longer of two lists
 abbrev pub longer : {E : Type 0} → List E → List E → List E
 longer a b = if nat_le (length a) (length b) then b else a
+
+-- the other of the two
+abbrev pub shorter : {E : Type 0} → List E → List E → List E
+shorter a b = if nat_le (length a) (length b) then a else b
+
+-- what goes with the shorter of two lists
+abbrev pub shorter_has : {E X : Type 0} → List E → List E → X → X → X
+shorter_has a b x y = if nat_le (length a) (length b) then x else y

@@ -1,36 +1,36 @@
 -- What each kind of step tells the seat that makes it.
 use Rattle.std.specs.Prelude.{◌≡◌, ◌≢◌, ℕ, true, false, List, [], ◌∷◌, ◌++◌, Option, Some, None}
 use Rattle.atomic_table.specs.Table.{Me, Step, rest}
-use Rattle.turn_lock.specs.Lists.{GoesOn, longer}
-use Rattle.turn_lock.specs.Names.{greatest, without}
+use Rattle.turn_lock.specs.Lists.{GoesOn, longer, shorter, shorter_has}
+use Rattle.turn_lock.specs.Names.{greatest, without_first}
 use Rattle.turn_lock.specs.Turns.{word_of}
 use Rattle.turn_lock.specs.declared.board.View.{View}
 
 module _ {E : Type 0} where
   abbrev pub with_ticket : View E → ℕ → View E
-  with_ticket v t = record { names = v.names; ticket = Some t; out = v.out; seen = v.seen }
+  with_ticket v t = record { names = v.names; ticket = Some t; out = v.out; seen = v.seen; less = v.less; less_names = v.less_names }
 
   -- it has the value out, and has seen its list
   abbrev pub on_turn : View E → List E → View E
-  on_turn v list = record { names = v.names; ticket = v.ticket; out = true; seen = list }
+  on_turn v list = record { names = v.names; ticket = v.ticket; out = true; seen = list; less = []; less_names = [] }
 
   -- it has neither ticket nor value
   abbrev pub at_rest : View E → View E
-  at_rest v = record { names = v.names; ticket = None; out = false; seen = v.seen }
+  at_rest v = record { names = v.names; ticket = None; out = false; seen = v.seen; less = v.less; less_names = v.less_names }
 
   -- Split: one part has the greatest name, the other the rest, and both have seen what the whole had.
   abbrev pub others_of : View E → View E
-  others_of v = record { names = without (greatest v.names) v.names; ticket = v.ticket; out = v.out; seen = v.seen }
+  others_of v = record { names = without_first (greatest v.names) v.names; ticket = v.ticket; out = v.out; seen = v.seen; less = v.less; less_names = v.less_names }
 
   abbrev pub greatest_of : View E → View E
-  greatest_of v = record { names = greatest v.names ∷ []; ticket = None; out = false; seen = v.seen }
+  greatest_of v = record { names = greatest v.names ∷ []; ticket = None; out = false; seen = v.seen; less = v.less; less_names = v.less_names }
 
-  -- Join: the names of both, and the longer list.
+  -- Join: the names of both, and the longer list; of the part that had seen less its list and names are kept.
   abbrev pub joined : View E → View E → View E
-  joined v w = record { names = v.names ++ w.names; ticket = None; out = false; seen = longer v.seen w.seen }
+  joined v w = record { names = v.names ++ w.names; ticket = None; out = false; seen = longer v.seen w.seen; less = shorter v.seen w.seen; less_names = shorter_has v.seen w.seen v.names w.names }
 
   abbrev pub spent : View E
-  spent = record { names = []; ticket = None; out = false; seen = [] }
+  spent = record { names = []; ticket = None; out = false; seen = []; less = []; less_names = [] }
 
 module _ {V E : Type 0} where
   -- draw: a ticket
@@ -52,6 +52,10 @@ module _ {V E : Type 0} where
   -- pass on: the value is at home again, and the next ticket is served
   abbrev pub PassedOn : Step (Option V) → Me (Option V) (View E) → ℕ → Me (Option V) (View E) → Type 0
   PassedOn s before found after = after ≡ (at_rest before.0, rest before.1)
+
+  -- tell: nothing changes, and what was joined goes on from the part that had seen less
+  abbrev pub Told : (E → Option ℕ) → Step (Option V) → Me (Option V) (View E) → ℕ → Me (Option V) (View E) → Type 0
+  Told name s before found after = (after ≡ before) × GoesOn name before.0.less_names before.0.less before.0.seen
 
   -- the seat has neither ticket nor value, but a name
   pub record IsIdle (me : Me (Option V) (View E)) : Type 0 where

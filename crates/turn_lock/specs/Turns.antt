@@ -3,7 +3,7 @@ use Rattle.std.specs.Prelude.{◌≡◌, ◌⊎◌, ℕ, ◌+◌, ◌%◌, ◌�
 use mathlib.Core.Option.{some, none}
 use lib.ListN.{get_elem?}
 use Rattle.atomic_table.specs.Table.{State}
-use Rattle.turn_lock.specs.Lists.{NoneOf}
+use Rattle.turn_lock.specs.Lists.{NoneOf, GoesOn}
 use Rattle.turn_lock.specs.Names.{AreDistinct, names_below}
 use Rattle.turn_lock.specs.declared.board.View.{View}
 
@@ -18,13 +18,15 @@ one_if false = 0
 module _ {E : Type 0} where
   -- the view of the first pass, over a value with this list
   abbrev pub first_view : ℕ → List E → View E
-  first_view weight list = record { names = names_below weight; ticket = None; out = false; seen = list }
+  first_view weight list = record { names = names_below weight; ticket = None; out = false; seen = list; less = []; less_names = [] }
 
   -- What one seat knows: `noted` is the list of the lock. A seat that was spent has no name, and so no ticket.
   pub record Seated (name : E → Option ℕ) (issued served : ℕ) (noted : List E) (v : View E) : Type 0 where
     pub behind : List E
     pub prefix : noted ≡ v.seen ++ behind
     pub not_own : NoneOf name v.names behind
+    -- what it has seen goes on from what the part of it knew that had seen less
+    pub part : GoesOn name v.less_names v.less v.seen
     pub distinct : AreDistinct v.names
     pub ticket : (t : ℕ) → v.ticket ≡ Some t → (served ≤ t) × (t < issued) × (0 < length v.names)
     pub out : v.out ≡ true → (v.ticket ≡ Some served) × (v.seen ≡ noted)

@@ -14,6 +14,9 @@ pub struct View<E> {
     /// It has the value out.
     pub out: bool,
     pub seen: LinkedList<E>,
+    /// Of a joined view: what the part knew that had seen less, and that part's names.
+    pub less: LinkedList<E>,
+    pub less_names: LinkedList<u64>,
 }
 
 /// What the table is told once, when it is made: the weight of all passes, and the first value.
@@ -65,6 +68,16 @@ impl<V: Kept> Play<Option<V>, View<V::Entry>> for Note<V> {
     ghost use Rattle.turn_lock.specs.Steps.{Noted};
 
     ghost then = { Noted V.list };
+}
+
+pub struct Tell<V> {
+    of: PhantomData<V>,
+}
+
+impl<V: Kept> Play<Option<V>, View<V::Entry>> for Tell<V> {
+    ghost use Rattle.turn_lock.specs.Steps.{Told};
+
+    ghost then = { Told V.name };
 }
 
 pub struct PassOn;

@@ -1,5 +1,6 @@
-ghost use Rattle.std.specs.Prelude.{◌≡◌, ◌++◌, [], ◌∷◌, Some, Contains, IsSomeAnd, length};
-ghost use Rattle.turn_lock.specs.Passes.{IsPassOf, names_of};
+ghost use Rattle.std.specs.Prelude.{◌≡◌, ◌+◌, ◌++◌, [], ◌∷◌, Some, Contains, IsSomeAnd, length};
+ghost use Rattle.turn_lock.specs.Lists.{GoesOn};
+ghost use Rattle.turn_lock.specs.Passes.{IsPassOf, names_of, seen_by, weight_of};
 
 use crate::{Kept, Pass, TurnLock};
 use std::mem;
@@ -129,6 +130,18 @@ fn work_in_pairs<R: Threads + Wait + Sync>(
     );
 }
 
+// Whatever two passes pushed after a split, the value's list begins with what each of them had seen, and no entry behind that has its name.
+fn close_by_two<V: Kept>(lock: TurnLock<V>, one: Pass<V>, other: Pass<V>) -> V
+    requires one { IsPassOf lock one }
+    requires other { IsPassOf lock other }
+    requires whole { length (names_of one) + length (names_of other) ≡ weight_of lock }
+    ensures one_goes_on { GoesOn V.name (names_of one) (seen_by one) (V.list result) }
+    ensures other_goes_on { GoesOn V.name (names_of other) (seen_by other) (V.list result) }
+{
+    let both = lock.join(one, other);
+    lock.close(both)
+}
+
 #[test]
 fn two_passes_push_in_turn(rt: HostRuntime) -> Result<(), Fail> {
     let none = Pushes {
@@ -143,8 +156,7 @@ fn two_passes_push_in_turn(rt: HostRuntime) -> Result<(), Fail> {
     let turn = lock.enter(&rt, rest);
     assert!(rt; turn.value().value_at(0) == Some(7) && turn.value().len() == 1);
     let rest = push(&rt, &lock, lock.leave(turn), 0, 8);
-    let both = lock.join(one, rest);
-    let pushes = lock.close(both);
+    let pushes = close_by_two(lock, one, rest);
     assert!(rt; pushes.value_at(0) == Some(7) && pushes.value_at(1) == Some(8));
     assert!(rt; pushes.len() == 2);
     Ok(())

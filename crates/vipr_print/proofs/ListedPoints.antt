@@ -6,8 +6,8 @@ use Rattle.std.proofs.lemmas.List.{append_cancel_left}
 use Rattle.std.proofs.lemmas.List.Elements.{All-head, All-tail, All-weaker}
 use Rattle.std.specs.Fmt.{decimal, signed_decimal}
 use Rattle.std.specs.Ordering.{int_eq}
-use Rattle.problem_box.specs.Boxes.{IsInBox-length}
-use Rattle.problem.specs.Program.{Program}
+use Rattle.problem_box.specs.Lemmas.Boxes.{IsInBox-length}
+use Rattle.problem.specs.Problem.{Problem}
 use Rattle.problem.specs.Feasible.{IsFeasible}
 use Rattle.problem.specs.Limited.{IsLimited}
 use Rattle.vipr_print.specs.Spelling.{nonzero, count_nonzero, spelled_nonzero, spelled_nonzeros, point_line, point_lines}
@@ -109,7 +109,7 @@ points_split n i (x ∷ xs) (y ∷ ys) r s l h p q e =
     (ap₂ (λ z zs. z ∷ zs) k.0 m.0, m.1)
 
 -- ---- the points of a valid certificate
-pub valid_points : (p : Program) → IsLimited p → ValidPointsAreWhole p
+pub valid_points : (p : Problem) → IsLimited p → ValidPointsAreWhole p
 valid_points p l c v =
     All-weaker (IsFeasible p) (λ (x : List ℤ). length x ≡ length c.part.names)
     (λ x f. IsInBox-length p.spans x f.in_box ∙ sym l.names ∙ sym (ap length v.names)) c.points v.solutions

@@ -16,7 +16,7 @@ use Rattle.vipr_print.proofs.Words.{SplitsOff, word_splits, decimal_splits, frac
 use Rattle.vipr_print.proofs.Splitting.{pieces3, pieces4, pieces5, AnyText, IsSpellableRow, IsSpellableLine, list_splits, terms_split, row_line_splits, line_splits}
 use Rattle.vipr_print.proofs.ListedPoints.{IsSpellablePoint, points_split}
 
--- equal fronts fall off
+-- equal prefixes fall off
 behind : (a b r s : List ℕ) → a ≡ b → a ++ r ≡ b ++ s → r ≡ s
 behind a b r s h e = append_cancel_left b r s (ap (λ t. t ++ r) (sym h) ∙ e)
 
@@ -132,5 +132,5 @@ certificate_splits c d r s p q i j e =
 pub one_certificate : TextsSpellOneCertificate
 one_certificate c d p q e = (certificate_splits c d [] [] p q tt tt (ap (λ t. t ++ []) e)).0
 
-pub no_front : TextsBeginNoOther
-no_front c d rest p q e = let k = certificate_splits c d [] rest p q tt tt (append-nil (text_of c) ∙ e) in (k.0, sym k.1)
+pub no_prefix : TextsBeginNoOther
+no_prefix c d rest p q e = let k = certificate_splits c d [] rest p q tt tt (append-nil (text_of c) ∙ e) in (k.0, sym k.1)

@@ -6,22 +6,22 @@ use Rattle.std.proofs.Math.Seq.{take-append_seam}
 use Rattle.std.specs.List.{flat_map}
 use Rattle.std.specs.Result.{IsErrAnd, OnErr}
 use Rattle.outside.specs.Faults.{Counts}
-use Rattle.outside.specs.Stream.{AppendsFront}
+use Rattle.outside.specs.Stream.{AppendsPrefix}
 use Rattle.vipr_print.specs.declared.fault.PrintFault.{PrintFault}
 use Rattle.vipr_print.specs.declared.fault.PrintFault.TheVariants as fault
 use Rattle.vipr_print.specs.Spelling.{point_line, point_lines, column_numbers, next_column}
-use Rattle.vipr_print.specs.Printed.{TookFront, Took, is_sink_fault, Printed}
+use Rattle.vipr_print.specs.Printed.{TakesPrefix, TakesText, is_sink_fault, IsPrinted}
 
 -- nothing yet
-pub printed-nothing : (k : Bool) (a : List ℕ) (n : ℕ) → Printed k a a n n [] (Ok tt)
+pub printed-nothing : (k : Bool) (a : List ℕ) (n : ℕ) → IsPrinted k a a n n [] (Ok tt)
 printed-nothing k a n = record { bytes = λ _. sym (append-nil a); cause = refl }
 
 -- no memory, before anything was written
-pub printed-no_memory : (k : Bool) (a t : List ℕ) (n : ℕ) → Printed k a a n n t (Err fault.Memory)
-printed-no_memory k a t n = record { bytes = λ _. record { front = []; rest = t; parts = refl; taken = sym (append-nil a) }; cause = refl }
+pub printed-no_memory : (k : Bool) (a t : List ℕ) (n : ℕ) → IsPrinted k a a n n t (Err fault.Memory)
+printed-no_memory k a t n = record { bytes = λ _. record { prefix = []; rest = t; parts = refl; taken = sym (append-nil a) }; cause = refl }
 
 -- a text, and then another
-pub printed-then : (k : Bool) (a b c : List ℕ) (m n o : ℕ) (t u : List ℕ) (r : Result (Unit {0}) PrintFault) → Printed k a b m n t (Ok tt) → Printed k b c n o u r → Printed k a c m o (t ++ u) r
+pub printed-then : (k : Bool) (a b c : List ℕ) (m n o : ℕ) (t u : List ℕ) (r : Result (Unit {0}) PrintFault) → IsPrinted k a b m n t (Ok tt) → IsPrinted k b c n o u r → IsPrinted k a c m o (t ++ u) r
 printed-then k a b c m n o t u (Ok tt) p q = record {
   bytes = λ e. q.bytes e ∙ ap (λ x. x ++ u) (p.bytes e) ∙ append_assoc a t u;
   cause = q.cause ∙ p.cause;
@@ -29,23 +29,23 @@ printed-then k a b c m n o t u (Ok tt) p q = record {
 printed-then k a b c m n o t u (Err e) p q = record {
   bytes = λ h.
       let f = q.bytes h in
-      record { front = t ++ f.front; rest = f.rest; parts = ap (λ x. t ++ x) f.parts ∙ sym (append_assoc t f.front f.rest); taken = f.taken ∙ ap (λ x. x ++ f.front) (p.bytes h) ∙ append_assoc a t f.front };
+      record { prefix = t ++ f.prefix; rest = f.rest; parts = ap (λ x. t ++ x) f.parts ∙ sym (append_assoc t f.prefix f.rest); taken = f.taken ∙ ap (λ x. x ++ f.prefix) (p.bytes h) ∙ append_assoc a t f.prefix };
   cause = subst (λ x. Counts x o (is_sink_fault (Err e))) p.cause q.cause;
 }
 
--- a text, of which only a front was written, so that nothing of the next one is
-pub printed-stopped : (k : Bool) (a b : List ℕ) (m n : ℕ) (t u : List ℕ) (e : PrintFault) → Printed k a b m n t (Err e) → Printed k a b m n (t ++ u) (Err e)
+-- a text, of which only a prefix was written, so that nothing of the next one is
+pub printed-stopped : (k : Bool) (a b : List ℕ) (m n : ℕ) (t u : List ℕ) (e : PrintFault) → IsPrinted k a b m n t (Err e) → IsPrinted k a b m n (t ++ u) (Err e)
 printed-stopped k a b m n t u e p = record {
-  bytes = λ h. let f = p.bytes h in record { front = f.front; rest = f.rest ++ u; parts = ap (λ x. x ++ u) f.parts ∙ append_assoc f.front f.rest u; taken = f.taken };
+  bytes = λ h. let f = p.bytes h in record { prefix = f.prefix; rest = f.rest ++ u; parts = ap (λ x. x ++ u) f.parts ∙ append_assoc f.prefix f.rest u; taken = f.taken };
   cause = p.cause;
 }
 
--- a front is some of the first bytes
-pub appends_front : (a b t : List ℕ) → TookFront a b t → AppendsFront a b t
-appends_front a b t f = (length f.front, f.taken ∙ ap (λ x. a ++ x) (sym (ap (take (length f.front)) f.parts ∙ take-append_seam f.front f.rest)))
+-- a prefix is some of the first bytes
+pub appends_prefix : (a b t : List ℕ) → TakesPrefix a b t → AppendsPrefix a b t
+appends_prefix a b t f = (length f.prefix, f.taken ∙ ap (λ x. a ++ x) (sym (ap (take (length f.prefix)) f.parts ∙ take-append_seam f.prefix f.rest)))
 
-pub took_front : (a b t : List ℕ) → AppendsFront a b t → TookFront a b t
-took_front a b t f = record { front = take f.0 t; rest = drop f.0 t; parts = sym (take-append-drop f.0 t); taken = f.1 }
+pub took_prefix : (a b t : List ℕ) → AppendsPrefix a b t → TakesPrefix a b t
+took_prefix a b t f = record { prefix = take f.0 t; rest = drop f.0 t; parts = sym (take-append-drop f.0 t); taken = f.1 }
 
 -- ---- a text for each element of a list
 more_text : {X : Type 0} (f : X → List ℕ) (xs : List X) (i : ℕ) (x : X) → i < length xs → x ≡ slice_index_or xs i x → flat_map f (take (suc i) xs) ≡ flat_map f (take i xs) ++ f x
@@ -61,15 +61,15 @@ split_text f (y ∷ xs) (suc i) x l e =
     ∙ ap (λ t. t ++ flat_map f (drop (suc i) xs)) (sym (append_assoc (f y) (flat_map f (take i xs)) (f x)))
 
 pub printed-more : {X : Type 0} (k : Bool) (a b c : List ℕ) (m n o : ℕ) (f : X → List ℕ) (xs : List X) (i : ℕ) (x : X) → i < length xs → x ≡ slice_index_or xs i x
-    → Printed k a b m n (flat_map f (take i xs)) (Ok tt) → Printed k b c n o (f x) (Ok tt) → Printed k a c m o (flat_map f (take (i + 1) xs)) (Ok tt)
+    → IsPrinted k a b m n (flat_map f (take i xs)) (Ok tt) → IsPrinted k b c n o (f x) (Ok tt) → IsPrinted k a c m o (flat_map f (take (i + 1) xs)) (Ok tt)
 printed-more k a b c m n o f xs i x l e p q =
-    subst (λ t. Printed k a c m o t (Ok tt)) (sym (ap (λ j. flat_map f (take j xs)) (let z : i + 1 ≡ suc i = omega arith in z) ∙ more_text f xs i x l e))
+    subst (λ t. IsPrinted k a c m o t (Ok tt)) (sym (ap (λ j. flat_map f (take j xs)) (let z : i + 1 ≡ suc i = omega arith in z) ∙ more_text f xs i x l e))
     (printed-then k a b c m n o (flat_map f (take i xs)) (f x) (Ok tt) p q)
 
 pub printed-broken : {X : Type 0} (k : Bool) (a b c : List ℕ) (m n o : ℕ) (f : X → List ℕ) (xs : List X) (i : ℕ) (x : X) (r : PrintFault) → i < length xs → x ≡ slice_index_or xs i x
-    → Printed k a b m n (flat_map f (take i xs)) (Ok tt) → Printed k b c n o (f x) (Err r) → Printed k a c m o (flat_map f xs) (Err r)
+    → IsPrinted k a b m n (flat_map f (take i xs)) (Ok tt) → IsPrinted k b c n o (f x) (Err r) → IsPrinted k a c m o (flat_map f xs) (Err r)
 printed-broken k a b c m n o f xs i x r l e p q =
-    subst (λ t. Printed k a c m o t (Err r)) (sym (split_text f xs i x l e))
+    subst (λ t. IsPrinted k a c m o t (Err r)) (sym (split_text f xs i x l e))
     (printed-stopped k a c m o (flat_map f (take i xs) ++ f x) (flat_map f (drop (suc i) xs)) r (printed-then k a b c m n o (flat_map f (take i xs)) (f x) (Err r) p q))
 
 more_points : (n m : ℕ) (xs : List (List ℤ)) (i : ℕ) (x : List ℤ) → m ≡ n + i → i < length xs → x ≡ slice_index_or xs i x → point_lines n (take (suc i) xs) ≡ point_lines n (take i xs) ++ point_line m x
@@ -88,15 +88,15 @@ split_points n m (y ∷ xs) (suc i) x h l e =
     ∙ ap (λ t. t ++ point_lines (m + 1) (drop (suc i) xs)) (sym (append_assoc (point_line n y) (point_lines (n + 1) (take i xs)) (point_line m x)))
 
 pub points-more : (k : Bool) (a b c : List ℕ) (m n o : ℕ) (xs : List (List ℤ)) (i : ℕ) (x : List ℤ) → i < length xs → x ≡ slice_index_or xs i x
-    → Printed k a b m n (point_lines 0 (take i xs)) (Ok tt) → Printed k b c n o (point_line i x) (Ok tt) → Printed k a c m o (point_lines 0 (take (i + 1) xs)) (Ok tt)
+    → IsPrinted k a b m n (point_lines 0 (take i xs)) (Ok tt) → IsPrinted k b c n o (point_line i x) (Ok tt) → IsPrinted k a c m o (point_lines 0 (take (i + 1) xs)) (Ok tt)
 points-more k a b c m n o xs i x l e p q =
-    subst (λ t. Printed k a c m o t (Ok tt)) (sym (ap (λ j. point_lines 0 (take j xs)) (let z : i + 1 ≡ suc i = omega arith in z) ∙ more_points 0 i xs i x (omega arith) l e))
+    subst (λ t. IsPrinted k a c m o t (Ok tt)) (sym (ap (λ j. point_lines 0 (take j xs)) (let z : i + 1 ≡ suc i = omega arith in z) ∙ more_points 0 i xs i x (omega arith) l e))
     (printed-then k a b c m n o (point_lines 0 (take i xs)) (point_line i x) (Ok tt) p q)
 
 pub points-broken : (k : Bool) (a b c : List ℕ) (m n o : ℕ) (xs : List (List ℤ)) (i : ℕ) (x : List ℤ) (r : PrintFault) → i < length xs → x ≡ slice_index_or xs i x
-    → Printed k a b m n (point_lines 0 (take i xs)) (Ok tt) → Printed k b c n o (point_line i x) (Err r) → Printed k a c m o (point_lines 0 xs) (Err r)
+    → IsPrinted k a b m n (point_lines 0 (take i xs)) (Ok tt) → IsPrinted k b c n o (point_line i x) (Err r) → IsPrinted k a c m o (point_lines 0 xs) (Err r)
 points-broken k a b c m n o xs i x r l e p q =
-    subst (λ t. Printed k a c m o t (Err r)) (sym (split_points 0 i xs i x (omega arith) l e))
+    subst (λ t. IsPrinted k a c m o t (Err r)) (sym (split_points 0 i xs i x (omega arith) l e))
     (printed-stopped k a c m o (point_lines 0 (take i xs) ++ point_line i x) (point_lines (i + 1) (drop (suc i) xs)) r (printed-then k a b c m n o (point_lines 0 (take i xs)) (point_line i x) (Err r) p q))
 
 -- ---- an error that is handed on
@@ -104,9 +104,9 @@ pub handed_on : (r : Result (Unit {0}) PrintFault) (e : PrintFault) → IsErrAnd
 handed_on (Ok u) e h = absurd h
 handed_on (Err f) e h = ap Err h
 
-pub front_of : (a b t : List ℕ) (r : Result (Unit {0}) PrintFault) → Took a b t r → OnErr r (AppendsFront a b t)
-front_of a b t (Ok u) h = tt
-front_of a b t (Err e) h = appends_front a b t h
+pub prefix_of : (a b t : List ℕ) (r : Result (Unit {0}) PrintFault) → TakesText a b t r → OnErr r (AppendsPrefix a b t)
+prefix_of a b t (Ok u) h = tt
+prefix_of a b t (Err e) h = appends_prefix a b t h
 
 -- ---- elements and numbers
 pub element_is : (xs : List (List ℕ)) (i : ℕ) (x : List ℕ) → slice_get xs i ≡ Some x → x ≡ slice_index_or xs i x

@@ -6,9 +6,10 @@ use Rattle.std.proofs.lemmas.Fmt.{decimal_is_IsNumeral_wide}
 use Rattle.std.proofs.lemmas.List.Elements.{All-nil, All-cons, All-head, All-tail, All-append}
 use Rattle.std.specs.Fmt.{decimal, signed_decimal}
 use Rattle.std.specs.Str.Parse.{digits_value}
-use Rattle.fraction.specs.Rational.{ℚ, ℚ_same}
+use Rattle.fraction.specs.Rational.{ℚ}
+use Rattle.fraction.specs.Lemmas.Rational.{ℚ_same}
 use Rattle.fraction.specs.Spelling.{fraction_text}
-use Rattle.vipr_print.specs.Numerals.{decimal_all, decimal_word}
+use Rattle.vipr_print.specs.Lemmas.Numerals.{decimal_all, decimal_word}
 use Rattle.vipr_print.specs.Unique.{IsWord, IsShort, IsShortFraction}
 
 -- ---- splitting

@@ -5,7 +5,7 @@ use Rattle.std.proofs.lemmas.List.Elements.{All-from_recursion}
 use Rattle.std.specs.Fmt.{digits, decimal}
 use Rattle.fraction.specs.Gcd.{gcd, gcd_within}
 use Rattle.fraction.specs.Rational.{ℚ, whole, frac}
-use Rattle.fraction.specs.Bounds.{whole_parts}
+use Rattle.fraction.specs.Lemmas.Bounds.{whole_parts}
 use Rattle.problem.specs.declared.row.Sense.{Sense}
 use Rattle.problem.specs.declared.row.Sense.TheVariants.{G, L}
 use Rattle.cert_rows.specs.declared.line.CertRow.{CertRow}

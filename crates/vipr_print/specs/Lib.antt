@@ -1,4 +1,4 @@
 pub mod Spelling
 pub mod Printed
 pub mod Unique
-pub mod Numerals
+pub mod Lemmas

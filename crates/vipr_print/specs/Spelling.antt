@@ -14,6 +14,7 @@ use Rattle.cert_rows.specs.declared.certificate.Goal.{Goal}
 use Rattle.cert_rows.specs.declared.certificate.Goal.TheVariants.{Infeas, Range}
 use Rattle.cert_rows.specs.declared.certificate.Part.{Part}
 use Rattle.cert_rows.specs.declared.certificate.Cert.{Cert}
+use Rattle.problem.specs.Linear.{Terms, Point}
 
 -- `p` where whole, else `p/q`
 abbrev pub spelled_number : ℚ → List ℕ
@@ -23,7 +24,7 @@ abbrev pub spelled_term : ℕ × ℚ → List ℕ
 spelled_term t = codes " " ++ decimal t.0 ++ codes " " ++ spelled_number t.1
 
 -- `k j1 v1 .. jk vk`
-abbrev pub spelled_terms : List (ℕ × ℚ) → List ℕ
+abbrev pub spelled_terms : Terms → List ℕ
 spelled_terms ts = decimal (length ts) ++ flat_map spelled_term ts
 
 abbrev pub spelled_sense : Sense → List ℕ
@@ -57,7 +58,7 @@ claim_line (Range lb ub) = codes "RTP range " ++ spelled_number lb ++ codes " " 
 abbrev pub nonzero : ℤ → ℕ
 nonzero x = if int_eq x (pos 0) then 0 else 1
 
-abbrev pub count_nonzero : List ℤ → ℕ
+abbrev pub count_nonzero : Point → ℕ
 count_nonzero [] = 0
 count_nonzero (x ∷ xs) = nonzero x + count_nonzero xs
 
@@ -66,16 +67,16 @@ abbrev pub spelled_nonzero : ℕ → ℤ → List ℕ
 spelled_nonzero j x = if int_eq x (pos 0) then [] else codes " " ++ decimal j ++ codes " " ++ signed_decimal x
 
 -- those of the columns from j on
-abbrev pub spelled_nonzeros : ℕ → List ℤ → List ℕ
+abbrev pub spelled_nonzeros : ℕ → Point → List ℕ
 spelled_nonzeros j [] = []
 spelled_nonzeros j (x ∷ xs) = spelled_nonzero j x ++ spelled_nonzeros (j + 1) xs
 
 -- the line of a point, numbered i
-abbrev pub point_line : ℕ → List ℤ → List ℕ
+abbrev pub point_line : ℕ → Point → List ℕ
 point_line i x = codes "S" ++ decimal i ++ codes " " ++ decimal (count_nonzero x) ++ spelled_nonzeros 0 x ++ codes "\n"
 
 -- numbered from i on
-abbrev pub point_lines : ℕ → List (List ℤ) → List ℕ
+abbrev pub point_lines : ℕ → List Point → List ℕ
 point_lines i [] = []
 point_lines i (x ∷ xs) = point_line i x ++ point_lines (i + 1) xs
 
@@ -101,7 +102,7 @@ count_line word k = word ++ decimal k ++ codes "\n"
 abbrev pub name_line : List ℕ → List ℕ
 name_line name = name ++ codes "\n"
 
-abbrev pub objective_line : List (ℕ × ℚ) → List ℕ
+abbrev pub objective_line : Terms → List ℕ
 objective_line ts = spelled_terms ts ++ codes "\n"
 
 -- how many rows there are, and how many of them are bounds
@@ -122,7 +123,7 @@ rows_text p = codes "OBJ min\n" ++ (objective_line p.objective ++ (constraint_li
 abbrev pub problem_text : Part → List ℕ
 problem_text p = names_text p.names ++ (integers_text (length p.names) ++ rows_text p)
 
-abbrev pub claim_text : Goal → List (List ℤ) → List ℕ
+abbrev pub claim_text : Goal → List Point → List ℕ
 claim_text claim points = claim_line claim ++ (count_line (codes "SOL ") (length points) ++ point_lines 0 points)
 
 abbrev pub derived_text : List (CertRow × Why) → List ℕ

@@ -1,7 +1,7 @@
 -- A text spells at most one certificate.
 use Rattle.std.specs.Prelude.{◌≡◌, ◌<◌, ◌^◌, ℕ, ℤ, List, [], ◌++◌, length, nat_abs, All}
 use Rattle.fraction.specs.Rational.{ℚ}
-use Rattle.problem.specs.Program.{Program}
+use Rattle.problem.specs.Problem.{Problem}
 use Rattle.cert_rows.specs.declared.line.CertRow.{CertRow}
 use Rattle.cert_rows.specs.declared.line.Why.{Why}
 use Rattle.cert_rows.specs.declared.line.Why.TheVariants.{Asm, Lin, Rnd, Uns}
@@ -10,6 +10,7 @@ use Rattle.cert_rows.specs.declared.certificate.Goal.TheVariants.{Infeas, Range}
 use Rattle.cert_rows.specs.declared.certificate.Cert.{Cert}
 use Rattle.cert_rows.specs.Validity.{IsValid}
 use Rattle.vipr_print.specs.Spelling.{text_of}
+use Rattle.problem.specs.Linear.{Terms, Point}
 
 -- a name or a label in one piece: each byte is above the blank, so no blank and no line feed stands in it, as in a field of a model
 abbrev pub IsWord : List ℕ → Type 0
@@ -27,7 +28,7 @@ pub record IsShortTerm (t : ℕ × ℚ) : Type 0 where
   pub number : IsShort t.0
   pub factor : IsShortFraction t.1
 
-pub record IsShortList (ts : List (ℕ × ℚ)) : Type 0 where
+pub record IsShortList (ts : Terms) : Type 0 where
   pub count : IsShort (length ts)
   pub terms : All IsShortTerm ts
 
@@ -49,7 +50,7 @@ abbrev pub IsShortClaim : Goal → Type 0
 IsShortClaim Infeas = Unit {0}
 IsShortClaim (Range lb ub) = IsShortFraction lb × IsShortFraction ub
 
-abbrev pub IsShortPoint : List ℤ → Type 0
+abbrev pub IsShortPoint : Point → Type 0
 IsShortPoint x = All (λ z. IsShort (nat_abs z)) x
 
 -- every number of a certificate, and how many there are of anything
@@ -91,5 +92,5 @@ abbrev pub TextsBeginNoOther : Type 0
 TextsBeginNoOther = (c d : Cert) (rest : List ℕ) → IsSpellable c → IsSpellable d → text_of c ≡ text_of d ++ rest → (c ≡ d) × (rest ≡ [])
 
 -- each point of a valid certificate has a number for each column
-abbrev pub ValidPointsAreWhole : Program → Type 0
+abbrev pub ValidPointsAreWhole : Problem → Type 0
 ValidPointsAreWhole p = (c : Cert) → IsValid p c → HasWholePoints c

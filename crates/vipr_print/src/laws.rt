@@ -12,7 +12,7 @@ use problem::Problem;
 /// blanks nor line feeds, each point has a number for each column, and no number has more than 64 digits.
 pub fn texts_spell_one_certificate()
     ensures one { TextsSpellOneCertificate }
-    ensures no_front { TextsBeginNoOther }
+    ensures no_prefix { TextsBeginNoOther }
 {}
 
 /// Each point of a valid certificate of a problem has a number for each column.

@@ -2,7 +2,7 @@
 ghost use Rattle.std.specs.Prelude.{◌≡◌, ◌++◌, List, ℕ, OnOk, codes, length, true};
 ghost use Rattle.std.specs.List.{flat_map};
 ghost use Rattle.vipr_print.specs.Spelling.{count_line, name_line, column_numbers, integer_line, objective_line, constraint_line, row_line, claim_line, point_line, derived_line};
-ghost use Rattle.vipr_print.specs.Printed.{Printed};
+ghost use Rattle.vipr_print.specs.Printed.{IsPrinted};
 
 use crate::fault::PrintFault;
 use crate::pieces::{
@@ -15,7 +15,7 @@ use std::alloc::AllocError;
 
 /// Writes a line that is ready.
 pub fn write_line<C: Sink>(sink: &mut C, line: &[u8]) -> Result<(), PrintFault>
-    ensures { Printed C.tells (C.taken sink.old) (C.taken sink.new) (C.faults sink.old) (C.faults sink.new) line.now result }
+    ensures { IsPrinted C.tells (C.taken sink.old) (C.taken sink.new) (C.faults sink.old) (C.faults sink.new) line.now result }
 {
     match write_all(sink, line) {
         Ok(()) => Ok(()),
@@ -39,7 +39,7 @@ pub fn print_count<C: Sink>(
     word: &[u8],
     count: usize,
 ) -> Result<(), PrintFault>
-    ensures { Printed C.tells (C.taken sink.old) (C.taken sink.new) (C.faults sink.old) (C.faults sink.new) (count_line word.now count) result }
+    ensures { IsPrinted C.tells (C.taken sink.old) (C.taken sink.new) (C.faults sink.old) (C.faults sink.new) (count_line word.now count) result }
 {
     if make_count(line, word, count).is_err() {
         return Err(PrintFault::Memory);
@@ -57,7 +57,7 @@ fn make_name(line: &mut Vec<u8>, name: &[u8]) -> Result<(), AllocError>
 
 /// The name of a column.
 pub fn print_name<C: Sink>(sink: &mut C, line: &mut Vec<u8>, name: &[u8]) -> Result<(), PrintFault>
-    ensures { Printed C.tells (C.taken sink.old) (C.taken sink.new) (C.faults sink.old) (C.faults sink.new) (name_line name.now) result }
+    ensures { IsPrinted C.tells (C.taken sink.old) (C.taken sink.new) (C.faults sink.old) (C.faults sink.new) (name_line name.now) result }
 {
     if make_name(line, name).is_err() {
         return Err(PrintFault::Memory);
@@ -79,7 +79,7 @@ pub fn print_columns<C: Sink>(
     line: &mut Vec<u8>,
     count: usize,
 ) -> Result<(), PrintFault>
-    ensures { Printed C.tells (C.taken sink.old) (C.taken sink.new) (C.faults sink.old) (C.faults sink.new) (integer_line count) result }
+    ensures { IsPrinted C.tells (C.taken sink.old) (C.taken sink.new) (C.faults sink.old) (C.faults sink.new) (integer_line count) result }
 {
     if count == 0 {
         return Ok(());
@@ -104,7 +104,7 @@ pub fn print_objective<C: Sink>(
     line: &mut Vec<u8>,
     objective: &Terms,
 ) -> Result<(), PrintFault>
-    ensures { Printed C.tells (C.taken sink.old) (C.taken sink.new) (C.faults sink.old) (C.faults sink.new) (objective_line objective.now) result }
+    ensures { IsPrinted C.tells (C.taken sink.old) (C.taken sink.new) (C.faults sink.old) (C.faults sink.new) (objective_line objective.now) result }
 {
     if make_objective(line, objective).is_err() {
         return Err(PrintFault::Memory);
@@ -130,7 +130,7 @@ pub fn print_constraints<C: Sink>(
     rows: usize,
     columns: usize,
 ) -> Result<(), PrintFault>
-    ensures { Printed C.tells (C.taken sink.old) (C.taken sink.new) (C.faults sink.old) (C.faults sink.new) (constraint_line rows columns) result }
+    ensures { IsPrinted C.tells (C.taken sink.old) (C.taken sink.new) (C.faults sink.old) (C.faults sink.new) (constraint_line rows columns) result }
 {
     if make_constraints(line, rows, columns).is_err() {
         return Err(PrintFault::Memory);
@@ -148,7 +148,7 @@ fn make_row(line: &mut Vec<u8>, row: &CertRow) -> Result<(), AllocError>
 
 /// A row of the problem part.
 pub fn print_row<C: Sink>(sink: &mut C, line: &mut Vec<u8>, row: &CertRow) -> Result<(), PrintFault>
-    ensures { Printed C.tells (C.taken sink.old) (C.taken sink.new) (C.faults sink.old) (C.faults sink.new) (row_line row.now) result }
+    ensures { IsPrinted C.tells (C.taken sink.old) (C.taken sink.new) (C.faults sink.old) (C.faults sink.new) (row_line row.now) result }
 {
     if make_row(line, row).is_err() {
         return Err(PrintFault::Memory);
@@ -178,7 +178,7 @@ pub fn print_claim<C: Sink>(
     line: &mut Vec<u8>,
     claim: &Goal,
 ) -> Result<(), PrintFault>
-    ensures { Printed C.tells (C.taken sink.old) (C.taken sink.new) (C.faults sink.old) (C.faults sink.new) (claim_line claim.now) result }
+    ensures { IsPrinted C.tells (C.taken sink.old) (C.taken sink.new) (C.faults sink.old) (C.faults sink.new) (claim_line claim.now) result }
 {
     if make_claim(line, claim).is_err() {
         return Err(PrintFault::Memory);
@@ -204,7 +204,7 @@ pub fn print_point<C: Sink>(
     index: usize,
     point: &[i64],
 ) -> Result<(), PrintFault>
-    ensures { Printed C.tells (C.taken sink.old) (C.taken sink.new) (C.faults sink.old) (C.faults sink.new) (point_line index point.now) result }
+    ensures { IsPrinted C.tells (C.taken sink.old) (C.taken sink.new) (C.faults sink.old) (C.faults sink.new) (point_line index point.now) result }
 {
     if make_point(line, index, point).is_err() {
         return Err(PrintFault::Memory);
@@ -228,7 +228,7 @@ pub fn print_derived<C: Sink>(
     line: &mut Vec<u8>,
     derived: &(CertRow, Why),
 ) -> Result<(), PrintFault>
-    ensures { Printed C.tells (C.taken sink.old) (C.taken sink.new) (C.faults sink.old) (C.faults sink.new) (derived_line derived.now) result }
+    ensures { IsPrinted C.tells (C.taken sink.old) (C.taken sink.new) (C.faults sink.old) (C.faults sink.new) (derived_line derived.now) result }
 {
     if make_derived(line, derived).is_err() {
         return Err(PrintFault::Memory);

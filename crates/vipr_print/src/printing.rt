@@ -2,9 +2,9 @@
 ghost use Rattle.std.specs.Prelude.{◌≡◌, ◌++◌, List, ℕ, OnOk, OnErr, true, codes, map};
 ghost use Rattle.std.specs.List.{flat_map};
 ghost use Rattle.outside.specs.Faults.{Counts};
-ghost use Rattle.outside.specs.Stream.{AppendsFront};
+ghost use Rattle.outside.specs.Stream.{AppendsPrefix};
 ghost use Rattle.vipr_print.specs.Spelling.{name_line, row_line, point_lines, derived_line, names_text, integers_text, rows_text, problem_text, claim_text, derived_text, text_of};
-ghost use Rattle.vipr_print.specs.Printed.{Printed, is_sink_fault};
+ghost use Rattle.vipr_print.specs.Printed.{IsPrinted, is_sink_fault};
 
 use crate::fault::PrintFault;
 use crate::lines::{
@@ -21,7 +21,7 @@ fn print_each_name<C: Sink>(
     line: &mut Vec<u8>,
     names: &Names,
 ) -> Result<(), PrintFault>
-    ensures { Printed C.tells (C.taken sink.old) (C.taken sink.new) (C.faults sink.old) (C.faults sink.new) (flat_map name_line names.now) result }
+    ensures { IsPrinted C.tells (C.taken sink.old) (C.taken sink.new) (C.faults sink.old) (C.faults sink.new) (flat_map name_line names.now) result }
 {
     for j in 0..names.len() {
         print_name(sink, line, names.name(j))?;
@@ -30,7 +30,7 @@ fn print_each_name<C: Sink>(
 }
 
 fn print_names<C: Sink>(sink: &mut C, line: &mut Vec<u8>, names: &Names) -> Result<(), PrintFault>
-    ensures { Printed C.tells (C.taken sink.old) (C.taken sink.new) (C.faults sink.old) (C.faults sink.new) (names_text names.now) result }
+    ensures { IsPrinted C.tells (C.taken sink.old) (C.taken sink.new) (C.faults sink.old) (C.faults sink.new) (names_text names.now) result }
 {
     write_line(sink, b"VER 1.0\n")?;
     print_count(sink, line, b"VAR ", names.len())?;
@@ -38,7 +38,7 @@ fn print_names<C: Sink>(sink: &mut C, line: &mut Vec<u8>, names: &Names) -> Resu
 }
 
 fn print_integers<C: Sink>(sink: &mut C, line: &mut Vec<u8>, count: usize) -> Result<(), PrintFault>
-    ensures { Printed C.tells (C.taken sink.old) (C.taken sink.new) (C.faults sink.old) (C.faults sink.new) (integers_text count) result }
+    ensures { IsPrinted C.tells (C.taken sink.old) (C.taken sink.new) (C.faults sink.old) (C.faults sink.new) (integers_text count) result }
 {
     print_count(sink, line, b"INT ", count)?;
     print_columns(sink, line, count)
@@ -49,7 +49,7 @@ fn print_each_row<C: Sink>(
     line: &mut Vec<u8>,
     rows: &[CertRow],
 ) -> Result<(), PrintFault>
-    ensures { Printed C.tells (C.taken sink.old) (C.taken sink.new) (C.faults sink.old) (C.faults sink.new) (flat_map row_line rows.now) result }
+    ensures { IsPrinted C.tells (C.taken sink.old) (C.taken sink.new) (C.faults sink.old) (C.faults sink.new) (flat_map row_line rows.now) result }
 {
     for row in rows {
         print_row(sink, line, row)?;
@@ -58,7 +58,7 @@ fn print_each_row<C: Sink>(
 }
 
 fn print_rows<C: Sink>(sink: &mut C, line: &mut Vec<u8>, part: &Part) -> Result<(), PrintFault>
-    ensures { Printed C.tells (C.taken sink.old) (C.taken sink.new) (C.faults sink.old) (C.faults sink.new) (rows_text part.now) result }
+    ensures { IsPrinted C.tells (C.taken sink.old) (C.taken sink.new) (C.faults sink.old) (C.faults sink.new) (rows_text part.now) result }
 {
     write_line(sink, b"OBJ min\n")?;
     print_objective(sink, line, &part.objective)?;
@@ -68,7 +68,7 @@ fn print_rows<C: Sink>(sink: &mut C, line: &mut Vec<u8>, part: &Part) -> Result<
 }
 
 fn print_problem<C: Sink>(sink: &mut C, line: &mut Vec<u8>, part: &Part) -> Result<(), PrintFault>
-    ensures { Printed C.tells (C.taken sink.old) (C.taken sink.new) (C.faults sink.old) (C.faults sink.new) (problem_text part.now) result }
+    ensures { IsPrinted C.tells (C.taken sink.old) (C.taken sink.new) (C.faults sink.old) (C.faults sink.new) (problem_text part.now) result }
 {
     print_names(sink, line, &part.names)?;
     print_integers(sink, line, part.names.len())?;
@@ -80,7 +80,7 @@ fn print_each_point<C: Sink>(
     line: &mut Vec<u8>,
     points: &[Point],
 ) -> Result<(), PrintFault>
-    ensures { Printed C.tells (C.taken sink.old) (C.taken sink.new) (C.faults sink.old) (C.faults sink.new) (point_lines 0 points.now) result }
+    ensures { IsPrinted C.tells (C.taken sink.old) (C.taken sink.new) (C.faults sink.old) (C.faults sink.new) (point_lines 0 points.now) result }
 {
     for (i, point) in points.iter().enumerate() {
         print_point(sink, line, i, point.as_slice())?;
@@ -94,7 +94,7 @@ fn print_claimed<C: Sink>(
     claim: &Goal,
     points: &Points,
 ) -> Result<(), PrintFault>
-    ensures { Printed C.tells (C.taken sink.old) (C.taken sink.new) (C.faults sink.old) (C.faults sink.new) (claim_text claim.now points.now) result }
+    ensures { IsPrinted C.tells (C.taken sink.old) (C.taken sink.new) (C.faults sink.old) (C.faults sink.new) (claim_text claim.now points.now) result }
 {
     print_claim(sink, line, claim)?;
     let listed = points.as_slice();
@@ -107,7 +107,7 @@ fn print_each_derived<C: Sink>(
     line: &mut Vec<u8>,
     derived: &[(CertRow, Why)],
 ) -> Result<(), PrintFault>
-    ensures { Printed C.tells (C.taken sink.old) (C.taken sink.new) (C.faults sink.old) (C.faults sink.new) (flat_map derived_line derived.now) result }
+    ensures { IsPrinted C.tells (C.taken sink.old) (C.taken sink.new) (C.faults sink.old) (C.faults sink.new) (flat_map derived_line derived.now) result }
 {
     for one in derived {
         print_derived(sink, line, one)?;
@@ -116,7 +116,7 @@ fn print_each_derived<C: Sink>(
 }
 
 fn print_lines<C: Sink>(sink: &mut C, line: &mut Vec<u8>, lines: &Derived) -> Result<(), PrintFault>
-    ensures { Printed C.tells (C.taken sink.old) (C.taken sink.new) (C.faults sink.old) (C.faults sink.new) (derived_text lines.now) result }
+    ensures { IsPrinted C.tells (C.taken sink.old) (C.taken sink.new) (C.faults sink.old) (C.faults sink.new) (derived_text lines.now) result }
 {
     let derived = lines.as_slice();
     print_count(sink, line, b"DER ", derived.len())?;
@@ -124,7 +124,7 @@ fn print_lines<C: Sink>(sink: &mut C, line: &mut Vec<u8>, lines: &Derived) -> Re
 }
 
 fn print_parts<C: Sink>(sink: &mut C, line: &mut Vec<u8>, cert: &Cert) -> Result<(), PrintFault>
-    ensures { Printed C.tells (C.taken sink.old) (C.taken sink.new) (C.faults sink.old) (C.faults sink.new) (text_of cert.now) result }
+    ensures { IsPrinted C.tells (C.taken sink.old) (C.taken sink.new) (C.faults sink.old) (C.faults sink.new) (text_of cert.now) result }
 {
     print_problem(sink, line, &cert.part)?;
     print_claimed(sink, line, &cert.claim, &cert.points)?;
@@ -134,11 +134,11 @@ fn print_parts<C: Sink>(sink: &mut C, line: &mut Vec<u8>, cert: &Cert) -> Result
 /// Writes the text that spells the certificate, one write per line, each repeated until the line is taken whole. It keeps one line at
 /// a time.
 ///
-/// `Sink`: a write failed, and the sink counted it. `Memory`: there was no memory for a line. After either a front of the text was
+/// `Sink`: a write failed, and the sink counted it. `Memory`: there was no memory for a line. After either a prefix of the text was
 /// written.
 pub fn print<C: Sink>(alloc: Global, cert: &Cert, sink: &mut C) -> Result<(), PrintFault>
     ensures whole { C.tells ≡ true → OnOk result (C.taken sink.new ≡ C.taken sink.old ++ text_of cert.now) }
-    ensures front { C.tells ≡ true → OnErr result (AppendsFront (C.taken sink.old) (C.taken sink.new) (text_of cert.now)) }
+    ensures prefix { C.tells ≡ true → OnErr result (AppendsPrefix (C.taken sink.old) (C.taken sink.new) (text_of cert.now)) }
     // The count rises exactly where the answer is `Sink`.
     ensures cause { Counts (C.faults sink.old) (C.faults sink.new) (is_sink_fault result) }
 {

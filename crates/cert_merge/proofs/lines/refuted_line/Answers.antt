@@ -3,7 +3,7 @@ use Rattle.std.specs.Prelude.{ℕ, slice_index_or}
 use Rattle.fraction.specs.Rational.{ℚ}
 use Rattle.cert_rows.specs.declared.line.Why.TheVariants.{Lin}
 use Rattle.cert_merge.specs.Closing.{all_placed}
-use Rattle.cert_merge.specs.Setters.{fillings_by}
+use Rattle.cert_merge.specs.Setters.{bound_multipliers_by}
 use Rattle.cert_merge.specs.Valued.{refuting}
 use Rattle.cert_merge.proofs.Refuting.{row_below, refuting_is}
 use Rattle.cert_merge.proofs.lines.refuted_line.Goals as goal
@@ -19,6 +19,6 @@ returns c =
     c.pair-line.ensures ∙ c.index-as_slice-0.is ∙ (λ i. slice_index_or (c.as_slice.ensures i) 0 (sym c.pair-line.ensures i)) in
     let mult : c.in_ok-mult.mult ≡ refuting c.args.problem.now c.args.search.now c.args.setters.now c.args.mult.now =
     c.in_ok-mult.ensures
-    ∙ (λ i. all_placed (fillings_by c.args.problem.now c.args.search.now c.args.setters.now (c.is_positive.ensures i) (c.as_slice-2.ensures i)) (reverse (items i)))
+    ∙ (λ i. all_placed (bound_multipliers_by c.args.problem.now c.args.search.now c.args.setters.now (c.is_positive.ensures i) (c.as_slice-2.ensures i)) (reverse (items i)))
     ∙ refuting_is c.args.problem.now c.args.search.now c.args.setters.now c.args.mult.now c.pair-line.result c.row.result.now c.requires.one first c.row.ensures in
     λ i. (c.in_ok-row.ensures i, Lin (mult i))

@@ -1,5 +1,5 @@
-use Rattle.problem.specs.Limited.{rows_below}
-use Rattle.cert_tree.proofs.Finishing.{certificate_valid, certificate_answers}
+use Rattle.problem.specs.Lemmas.Limited.{rows_below}
+use Rattle.cert_tree.specs.Lemmas.Finishing.{certificate_valid, certificate_answers}
 use Rattle.cert_tree.proofs.laws.finished_searches_are_certified.Goals as goal
 
 pub returns-clause-valid : goal.returns-clause-valid

@@ -1,12 +1,13 @@
-use Rattle.std.proofs.Common.{◌≡◌, arith, ◌∙◌, sym, ap, ℕ}
-use Rattle.fraction.specs.Gcd.{gcd, gcd-step, gcd-zero}
+use Rattle.std.proofs.Common.{◌∙◌}
+use Rattle.fraction.specs.Lemmas.Gcd.{gcd_comm}
+use Rattle.fraction.proofs.Shifts.{gcd_of_zero}
 use Rattle.fraction.proofs.divisors.narrow_gcd.Goals as goal
 
-pub loop-y-preserved : goal.loop-y-preserved
-loop-y-preserved c = gcd-step _ _ (omega arith) ∙ c.loop-y.invariant
+pub returns-then-a-eq0 : goal.returns-then-a-eq0
+returns-then-a-eq0 c = gcd_of_zero _ _ c.if-a-eq0.true ∙ c.lowered-a.ensures
 
-is_gcd : (x y a b : ℕ) → y ≡ 0 → gcd x y ≡ gcd a b → x ≡ gcd a b
-is_gcd x y a b e h = sym (gcd-zero x) ∙ ap (gcd x) (sym e) ∙ h
+pub returns-then-b-eq0 : goal.returns-then-b-eq0
+returns-then-b-eq0 c = gcd_of_zero _ _ c.if-b-eq0.true ∙ c.lowered-b.ensures ∙ gcd_comm _ _ ∙ c.lowered-a.ensures
 
-pub returns : goal.returns
-returns c = is_gcd _ _ _ _ (omega arith) c.loop-y.invariant
+pub returns-else-b-eq0 : goal.returns-else-b-eq0
+returns-else-b-eq0 c = c.shifted_gcd.ensures ∙ gcd_comm _ _ ∙ c.lowered-b.ensures ∙ gcd_comm _ _ ∙ c.lowered-a.ensures

@@ -1,6 +1,6 @@
 use Rattle.std.proofs.Common.{◌+◌, ◌*◌, get_or, refl, ap, ◌∙◌}
 use Rattle.mps_lines.specs.Decimals.{capped}
-use Rattle.mps_lines.specs.Places.{capped_more}
+use Rattle.mps_lines.proofs.Places.{capped_more}
 use Rattle.mps_lines.proofs.decimals.capped_number.Goals as goal
 
 pub loop-digit-preserved : goal.loop-digit-preserved

@@ -1,7 +1,7 @@
 use Rattle.std.proofs.Common.{◌<◌, ◌+◌, length, ap, ◌∙◌, arith, sym, ◌∷◌}
 use Rattle.std.proofs.lemmas.List.{take_rest}
 use Rattle.mps_lines.specs.Lines.{raw_lines}
-use Rattle.mps_lines.specs.Ends.{cut_at, last_line}
+use Rattle.mps_lines.proofs.Ends.{cut_at, last_line}
 use Rattle.mps_lines.proofs.lines.cut.Goals as goal
 
 pub returns-then-at-text-clause-lines : goal.returns-then-at-text-clause-lines

@@ -1,5 +1,5 @@
 use Rattle.std.proofs.Common.{◌-◌, length, arith, sym, ne_eqb}
-use Rattle.mps_lines.specs.Ends.{cr_cut, cr_kept}
+use Rattle.mps_lines.proofs.Ends.{cr_cut, cr_kept}
 use Rattle.mps_lines.proofs.lines.without_cr.Goals as goal
 
 pub returns-then-line-last-eq13 : goal.returns-then-line-last-eq13

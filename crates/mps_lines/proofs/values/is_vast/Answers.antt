@@ -1,7 +1,8 @@
 use Rattle.std.proofs.Common.{ap, sym, ◌∙◌}
 use Rattle.mps_lines.specs.Decimals.{spelt_of}
 use Rattle.mps_lines.specs.Infinities.{is_vast}
-use Rattle.mps_lines.specs.Vast.{vast_above, vast_above_is, vast_below, vast_below_is}
+use Rattle.mps_lines.specs.Vast.{vast_above, vast_below}
+use Rattle.mps_lines.proofs.Vast.{vast_above_is, vast_below_is}
 use Rattle.std.proofs.Common.{◌<◌, ◌^◌, subst}
 use Rattle.mps_lines.proofs.values.is_vast.Goals as goal
 

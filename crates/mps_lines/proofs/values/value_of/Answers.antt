@@ -1,5 +1,5 @@
 use Rattle.std.proofs.Common.{rules, sym}
-use Rattle.mps_lines.specs.Values.{finite_value}
+use Rattle.mps_lines.proofs.ValueLemmas.{finite_value}
 use Rattle.mps_lines.proofs.values.value_of.Goals as goal
 
 pub returns-in-Ok : goal.returns-in-Ok

@@ -1,5 +1,5 @@
 use Rattle.std.proofs.Common.{rules}
-use Rattle.mps_lines.specs.Vast.{vast_parts}
+use Rattle.mps_lines.proofs.Vast.{vast_parts}
 use Rattle.mps_lines.proofs.values.vast.Goals as goal
 
 pub returns-in-Some : goal.returns-in-Some

@@ -1,6 +1,6 @@
 use Rattle.std.proofs.Common.{List, Option, None, ap, sym, ◌∙◌, refl, get_or}
 use Rattle.fraction.specs.Rational.{ℚ}
-use Rattle.mps_reader.specs.SideLines.{none_so_far}
+use Rattle.mps_reader.proofs.SideLines.{none_so_far}
 use Rattle.mps_reader.proofs.empty.no_sides.Goals as goal
 
 pub returns : goal.returns

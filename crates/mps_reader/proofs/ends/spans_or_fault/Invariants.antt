@@ -1,8 +1,7 @@
-use Rattle.std.proofs.Common.{◌≡◌, drop}
-use Rattle.mps_reader.specs.Ended.{behind, ends_of}
+use Rattle.mps_reader.proofs.Ended.{AreFineBefore}
+use Rattle.mps_reader.specs.BoundTables.{summary_in}
 use Rattle.mps_reader.specs.Tables.{table}
 use Rattle.mps_reader.proofs.ends.spans_or_fault.Given as goal
 
 abbrev pub invariant-loop-index : goal.invariant-loop-index
-invariant-loop-index g l =
-    ends_of l.upper (table l.bounds.limits.entries) (table l.columns.entries) ≡ behind l.spans.items (ends_of l.upper (table l.bounds.limits.entries) (drop l.index (table l.columns.entries)))
+invariant-loop-index g l = AreFineBefore l.upper (summary_in (table l.bounds.limits.entries)) (table l.columns.entries) l.spans.items l.index

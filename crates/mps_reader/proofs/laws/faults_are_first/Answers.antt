@@ -1,4 +1,4 @@
-use Rattle.mps_reader.specs.Laws.{found_first, found_is}
+use Rattle.mps_reader.specs.Lemmas.Laws.{found_first, found_is}
 use Rattle.mps_reader.proofs.laws.faults_are_first.Goals as goal
 
 pub returns : goal.returns

@@ -1,4 +1,4 @@
-use Rattle.mps_reader.specs.Laws.{reads_or_refused, never_both, one_problem, one_fault}
+use Rattle.mps_reader.specs.Lemmas.Laws.{reads_or_refused, never_both, one_problem, one_fault}
 use Rattle.mps_reader.proofs.laws.texts_read_or_are_refused.Goals as goal
 
 pub returns : goal.returns

@@ -1,4 +1,4 @@
-use Rattle.mps_reader.specs.BoundLines.{finite_ceil, finite_floor}
+use Rattle.mps_reader.proofs.BoundLines.{finite_ceil, finite_floor}
 use Rattle.mps_reader.proofs.limits.with_line.Goals as goal
 
 pub floor_of-requires : goal.floor_of-requires

@@ -1,5 +1,5 @@
 use Rattle.std.proofs.Common.{get_or, refl, arith}
-use Rattle.mps_reader.specs.Counted.{one_byte}
+use Rattle.mps_reader.proofs.Counted.{one_byte}
 use Rattle.mps_reader.proofs.lines.line_count.Goals as goal
 
 pub loop-byte-preserved : goal.loop-byte-preserved

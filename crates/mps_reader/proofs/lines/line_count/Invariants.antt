@@ -1,6 +1,6 @@
 use Rattle.std.proofs.Common.{◌≡◌, ◌+◌, ◌≤◌, length, drop}
 use Rattle.mps_lines.specs.Lines.{raw_lines}
-use Rattle.mps_reader.specs.Counted.{lines_left}
+use Rattle.mps_reader.proofs.Counted.{lines_left}
 use Rattle.mps_reader.proofs.lines.line_count.Given as goal
 
 abbrev pub invariant-loop-byte : goal.invariant-loop-byte

@@ -1,26 +1,26 @@
 use Rattle.std.proofs.Common.{Ok, Err, sym, ap, ◌∙◌}
-use Rattle.mps_reader.specs.Finished.{kept_names, made_limited, made_said, nothing_said, parts_count, parts_nonzero, parts_ranges, parts_rising, parts_sides, refusal_said}
-use Rattle.mps_reader.specs.TableLimits.{names_ascii}
+use Rattle.mps_reader.proofs.Finished.{keeps, kept_names, made_limited, made_said, nothing_said, parts_count, parts_nonzero, parts_ranges, parts_rising, parts_sides, refusal_said}
+use Rattle.mps_reader.proofs.TableLimits.{names_ascii}
 use Rattle.mps_reader.specs.declared.kinds.Kind.TheVariants as kind
 use Rattle.mps_reader.proofs.problems.problem_of.Goals as goal
 
 pub ranged_parts-requires-clause-count : goal.ranged_parts-requires-clause-count
-ranged_parts-requires-clause-count g c = parts_count c.args.tables c.args.upper c.requires
+ranged_parts-requires-clause-count g c = parts_count c.requires.sections.0 c.args.tables c.requires.sections.1
 
 pub ranged_parts-requires-clause-rising : goal.ranged_parts-requires-clause-rising
-ranged_parts-requires-clause-rising g c = parts_rising c.args.tables c.args.upper c.requires
+ranged_parts-requires-clause-rising g c = parts_rising c.requires.sections.0 c.args.tables c.requires.sections.1
 
 pub ranged_parts-requires-clause-nonzero : goal.ranged_parts-requires-clause-nonzero
-ranged_parts-requires-clause-nonzero g c = parts_nonzero c.args.tables c.args.upper c.requires
+ranged_parts-requires-clause-nonzero g c = parts_nonzero c.requires.sections.0 c.args.tables c.requires.sections.1
 
 pub ranged_parts-requires-clause-sides : goal.ranged_parts-requires-clause-sides
-ranged_parts-requires-clause-sides g c i = parts_sides c.args.tables c.args.upper c.requires i
+ranged_parts-requires-clause-sides g c i = parts_sides c.requires.sections.0 c.args.tables c.requires.sections.1 i
 
 pub ranged_parts-requires-clause-ranges : goal.ranged_parts-requires-clause-ranges
-ranged_parts-requires-clause-ranges g c i = parts_ranges c.args.tables c.args.upper c.requires i
+ranged_parts-requires-clause-ranges g c i = parts_ranges c.requires.sections.0 c.args.tables c.requires.sections.1 i
 
 pub column_names-requires : goal.column_names-requires
-column_names-requires g c = names_ascii c.args.tables.columns.columns.entries (kept_names c.args.tables c.args.upper c.requires)
+column_names-requires g c = names_ascii c.args.tables.columns.columns.entries (kept_names c.requires.sections.0 c.args.tables c.requires.sections.1)
 
 pub returns-in_default-objective-clause-err : goal.returns-in_default-objective-clause-err
 returns-in_default-objective-clause-err g c s h =
@@ -33,13 +33,12 @@ returns-in-Err-clause-err g c s h =
 
 pub make-requires-2 : goal.make-requires-2
 make-requires-2 g c =
-    let k = c.requires in
+    let k = c.requires.sections.1 in
     made_limited c.args.tables k.s k.tables c.args.upper c.in-Some.objective (sym c.in-Some.is ∙ c.in-Ok.ensures.objective)
-    c.in-Ok-spans_or_fault.spans.items c.in-Ok-spans_or_fault.ensures.spans c.in-Ok-column_names.names c.in-Ok-column_names.ensures c.in-Ok.parts.rows.items c.in-Ok.ensures.rows c.make.result c.make.ensures k.keeps k.modest
+    c.in-Ok-spans_or_fault.spans.items c.in-Ok-spans_or_fault.ensures.spans c.in-Ok-column_names.names c.in-Ok-column_names.ensures c.in-Ok.parts.rows.items c.in-Ok.ensures.rows c.make.result c.make.ensures (keeps c.requires.sections.0 c.args.tables k) c.requires.upper
 
 pub returns-clause-ok : goal.returns-clause-ok
 returns-clause-ok g c s h =
-    let k = c.requires in
     made_said c.args.tables s h c.args.upper c.in-Some.objective (sym c.in-Some.is ∙ c.in-Ok.ensures.objective)
     c.in-Ok-spans_or_fault.spans.items c.in-Ok-spans_or_fault.ensures.spans c.in-Ok-column_names.names c.in-Ok-column_names.ensures c.in-Ok.parts.rows.items c.in-Ok.ensures.rows c.make.result c.make.ensures
     ∙ ap Ok (sym c.make-2.ensures)

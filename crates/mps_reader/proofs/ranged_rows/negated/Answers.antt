@@ -1,7 +1,8 @@
 use Rattle.std.proofs.Common.{sym, subst}
 use Rattle.fraction.specs.Rational.{ℚ}
-use Rattle.mps_reader.specs.RangedRows.{IsHeld, neg_held}
+use Rattle.mps_reader.specs.RangedRows.{IsTextNumber}
+use Rattle.mps_reader.proofs.RangedRows.{neg_held}
 use Rattle.mps_reader.proofs.ranged_rows.negated.Goals as goal
 
 pub returns-clause-held : goal.returns-clause-held
-returns-clause-held c = subst (λ (q : ℚ). IsHeld q) (sym c.neg.ensures.value) (neg_held c.args.number c.requires)
+returns-clause-held c = subst (λ (q : ℚ). IsTextNumber q) (sym c.neg.ensures.value) (neg_held c.args.number c.requires)

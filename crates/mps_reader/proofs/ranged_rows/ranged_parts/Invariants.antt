@@ -1,5 +1,5 @@
 use Rattle.std.proofs.Common.{drop}
-use Rattle.mps_reader.specs.RowsMade.{HasRows}
+use Rattle.mps_reader.proofs.RowsMade.{HasRows}
 use Rattle.mps_reader.specs.Tables.{table}
 use Rattle.mps_reader.proofs.ranged_rows.ranged_parts.Given as goal
 

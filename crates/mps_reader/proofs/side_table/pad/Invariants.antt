@@ -1,5 +1,5 @@
 use Rattle.std.proofs.Common.{◌≡◌, ℕ, ◌+◌, ◌-◌, get_or, length}
-use Rattle.mps_reader.specs.declared.side_table.Side.TheVariants as side
+use Rattle.mps_reader.specs.declared.side_table.SideEntry.TheVariants as side
 use Rattle.mps_reader.proofs.side_table.pad.Given as goal
 
 abbrev pub invariant-loop-sides : goal.invariant-loop-sides

@@ -1,5 +1,5 @@
 use Rattle.std.proofs.Common.{◌≡◌, ℕ, ◌+◌, take, ap, subst, sym, ◌∙◌, arith}
-use Rattle.outside.specs.Passing.{started, weaker}
+use Rattle.outside.specs.Lemmas.Passing.{started, weaker}
 use Rattle.node_journal.specs.Gate.{IsBefore}
 use Rattle.node_journal.specs.Records.{records, Holds}
 use Rattle.node_journal.specs.Index.{EndsAt}

@@ -1,11 +1,11 @@
-use Rattle.std.proofs.Common.{◌≡◌, ℕ, ◌-◌, List, ◌++◌, length, take, drop, ap, ◌∙◌, rules, arith, vec_len, subst}
+use Rattle.std.proofs.Common.{◌≡◌, ℕ, ◌-◌, List, ◌++◌, length, ap, ◌∙◌, rules, arith, vec_len, subst}
 use Rattle.outside.specs.Images.{resting}
 use Rattle.outside.specs.declared.moment.Moment.{Moment}
 use Rattle.node_journal.specs.Frames.{tail_of}
 use Rattle.node_journal.specs.Gate.{IsBefore}
 use Rattle.node_journal.specs.History.{SomeFrom}
-use Rattle.node_journal.specs.HistoryLaws.{some_none}
-use Rattle.node_journal.proofs.Written.{gate_within, frame_is, done_is, moments, no_moment}
+use Rattle.node_journal.proofs.HistoryLaws.{some_none}
+use Rattle.node_journal.proofs.Written.{gate_within, done_is, moments, no_moment}
 use Rattle.node_journal.proofs.write_payload.write_payload.Goals as goal
 
 pub returns-then-is_err-clause-any_moment : goal.returns-then-is_err-clause-any_moment
@@ -14,56 +14,28 @@ returns-then-is_err-clause-any_moment g c told =
 
 pub index_mut-requires : goal.index_mut-requires
 index_mut-requires g c =
-    let file = c.args.file.now.items in
-    let staged = c.stage.new.file.items in
-    let tail = tail_of c.args.payload.now in
-    let size = c.len-size.result in
-    let is : staged ≡ file ++ tail = search rules in
-    let at : size ≡ length file = search rules in
-    let len : vec_len c.stage.new.file ≡ length staged = search rules in
-    omega (arith, len, gate_within file tail staged size is at c.requires.gate)
+    let is : c.stage.new.file.items ≡ c.args.file.now.items ++ tail_of c.args.payload.now = search rules in
+    let at : c.len-size.result ≡ length c.args.file.now.items = search rules in
+    let len : vec_len c.stage.new.file ≡ length c.stage.new.file.items = search rules in
+    omega (arith, len, gate_within c.args.file.now.items (tail_of c.args.payload.now) is at c.requires.gate)
 
 pub returns-in-Ok-clause-done : goal.returns-in-Ok-clause-done
 returns-in-Ok-clause-done g c told =
-    let file = c.args.file.now.items in
-    let staged = c.stage.new.file.items in
-    let tail = tail_of c.args.payload.now in
-    let size = c.len-size.result in
-    let is : staged ≡ file ++ tail = search rules in
-    let at : size ≡ length file = search rules in
-    let n = g.D.Disk.now c.args.disk.now in
-    let same : n.seen ≡ file = ap (λ (m : Moment). m.seen) (c.requires.rest told) in
-    let frame = take (length c.deref.result.now - size) (drop size c.deref.result.now) in
-    let bytes : frame ≡ tail = ap (λ (l : List ℕ). take (length l - size) (drop size l)) c.deref.ensures.value ∙ frame_is file tail staged size is at c.requires.gate in
-    c.in-Ok.ensures.done told ∙ ap (λ (l : List ℕ). resting l) (done_is file tail staged size is at c.requires.gate n.seen frame same bytes)
+    let is : c.stage.new.file.items ≡ c.args.file.now.items ++ tail_of c.args.payload.now = search rules in
+    let at : c.len-size.result ≡ length c.args.file.now.items = search rules in
+    c.in-Ok.ensures.done told ∙ ap resting (done_is c.args.file.now.items (tail_of c.args.payload.now) is at c.requires.gate c.deref.ensures.value (c.requires.rest told))
 
 pub returns-in-Ok-clause-any_moment : goal.returns-in-Ok-clause-any_moment
 returns-in-Ok-clause-any_moment g c told =
-    let file = c.args.file.now.items in
-    let staged = c.stage.new.file.items in
-    let tail = tail_of c.args.payload.now in
-    let size = c.len-size.result in
-    let is : staged ≡ file ++ tail = search rules in
-    let at : size ≡ length file = search rules in
-    let n = g.D.Disk.now c.args.disk.now in
-    let same : n.seen ≡ file = ap (λ (m : Moment). m.seen) (c.requires.rest told) in
-    let frame = take (length c.deref.result.now - size) (drop size c.deref.result.now) in
-    let bytes : frame ≡ tail = ap (λ (l : List ℕ). take (length l - size) (drop size l)) c.deref.ensures.value ∙ frame_is file tail staged size is at c.requires.gate in
-    moments file tail staged size is at c.requires.gate (g.D.Disk.past c.args.disk.now) (g.D.Disk.past c.open_behind.new.disk) n (g.D.Disk.now c.open_behind.new.disk) frame same bytes (c.open_behind.ensures.any_moment told)
+    let is : c.stage.new.file.items ≡ c.args.file.now.items ++ tail_of c.args.payload.now = search rules in
+    let at : c.len-size.result ≡ length c.args.file.now.items = search rules in
+    moments c.args.file.now.items (tail_of c.args.payload.now) is at c.requires.gate c.deref.ensures.value (c.requires.rest told) (c.open_behind.ensures.any_moment told)
 
 pub returns-in-Err-clause-any_moment : goal.returns-in-Err-clause-any_moment
 returns-in-Err-clause-any_moment g c told =
-    let file = c.args.file.now.items in
-    let staged = c.stage.new.file.items in
-    let tail = tail_of c.args.payload.now in
-    let size = c.len-size.result in
-    let is : staged ≡ file ++ tail = search rules in
-    let at : size ≡ length file = search rules in
-    let n = g.D.Disk.now c.args.disk.now in
-    let same : n.seen ≡ file = ap (λ (m : Moment). m.seen) (c.requires.rest told) in
-    let frame = take (length c.deref.result.now - size) (drop size c.deref.result.now) in
-    let bytes : frame ≡ tail = ap (λ (l : List ℕ). take (length l - size) (drop size l)) c.deref.ensures.value ∙ frame_is file tail staged size is at c.requires.gate in
-    moments file tail staged size is at c.requires.gate (g.D.Disk.past c.args.disk.now) (g.D.Disk.past c.open_behind.new.disk) n (g.D.Disk.now c.open_behind.new.disk) frame same bytes (c.open_behind.ensures.any_moment told)
+    let is : c.stage.new.file.items ≡ c.args.file.now.items ++ tail_of c.args.payload.now = search rules in
+    let at : c.len-size.result ≡ length c.args.file.now.items = search rules in
+    moments c.args.file.now.items (tail_of c.args.payload.now) is at c.requires.gate c.deref.ensures.value (c.requires.rest told) (c.open_behind.ensures.any_moment told)
 
 pub returns-then-is_err-clause-before : goal.returns-then-is_err-clause-before
 returns-then-is_err-clause-before g c told = some_none (g.D.Disk.past c.args.disk.now) (IsBefore c.args.file.now.items)

@@ -1,7 +1,7 @@
 use Rattle.std.specs.Prelude.{◌≡◌, ◌+◌, ◌-◌, suc}
 use Rattle.std.proofs.Common.{sym, ap, ◌∙◌, subst, arith}
 use Rattle.plain_search.specs.FirstSearch.{step, steps, first_search}
-use Rattle.plain_search.specs.Kept.{state_of, Follows, IsOutcome}
+use Rattle.plain_search.specs.Kept.{state_of, IsStepOf, IsOutcome}
 use Rattle.plain_search.proofs.Ends.{steps_on, steps_stay}
 use Rattle.plain_search.proofs.first.search.Goals as goal
 
@@ -18,7 +18,7 @@ returns-then-not-branch c =
     let p = c.args.problem.now in
     let before = state_of c.loop-step.run.search c.loop-step.run.open.items in
     let after = state_of c.step.new.self.search c.step.new.self.open.items in
-    let f = subst (λ b. Follows (step p c.args.budget before) b before after) c.if-not-branch.true c.in_ok-step.ensures.follows in
+    let f = subst (λ b. IsStepOf (step p c.args.budget before) b before after) c.if-not-branch.true c.in_ok-step.ensures.follows in
     let here : after ≡ first_search p c.args.budget = f.1 ∙ sym (steps_stay p c.args.budget (c.args.budget + 1 - c.loop-step._step) before f.0) ∙ c.loop-step.invariant.rest in
     subst (λ t. IsOutcome t c.handed_out.result) here c.handed_out.ensures
 
@@ -27,7 +27,7 @@ loop-step-preserved c =
     let p = c.args.problem.now in
     let before = state_of c.loop-step.run.search c.loop-step.run.open.items in
     let after = state_of c.step.new.self.search c.step.new.self.open.items in
-    let f = subst (λ b. Follows (step p c.args.budget before) b before after) c.if-not-branch.false c.in_ok-step.ensures.follows in
+    let f = subst (λ b. IsStepOf (step p c.args.budget before) b before after) c.if-not-branch.false c.in_ok-step.ensures.follows in
     let fewer : suc (c.args.budget + 1 - (c.loop-step._step + 1)) ≡ c.args.budget + 1 - c.loop-step._step = omega (arith, c.loop-step-test.true, c.from-step-end.ensures) in record {
       kept = c.in_ok-step.ensures.kept;
       cutoff = c.in_ok-step.ensures.cutoff;

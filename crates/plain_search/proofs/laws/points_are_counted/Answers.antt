@@ -1,4 +1,4 @@
-use Rattle.plain_search.proofs.Numbering.{points_counted}
+use Rattle.problem_box.specs.Lemmas.PointCount.{points_counted}
 use Rattle.plain_search.proofs.laws.points_are_counted.Goals as goal
 
 pub returns : goal.returns

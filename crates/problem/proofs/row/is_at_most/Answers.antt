@@ -1,6 +1,6 @@
 use Rattle.std.proofs.Common.{refl, ◌∙◌, sym}
 use Rattle.std.proofs.lemmas.Bool.{false≢true}
-use Rattle.fraction.specs.Order.{not_at_most, at_most}
+use Rattle.fraction.specs.Lemmas.Order.{not_at_most, at_most}
 use Rattle.problem.proofs.row.is_at_most.Goals as goal
 
 pub returns-in-Greater : goal.returns-in-Greater

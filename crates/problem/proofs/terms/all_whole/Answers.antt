@@ -3,8 +3,8 @@ use Rattle.std.specs.Prelude.{All, ℕ}
 use Rattle.std.proofs.lemmas.List.{take_all}
 use Rattle.std.proofs.lemmas.List.Elements.{All-more}
 use Rattle.fraction.specs.Rational.{ℚ}
-use Rattle.problem.specs.Linear.{IsWhole}
 use Rattle.problem.proofs.terms.all_whole.Goals as goal
+use Rattle.fraction.specs.Whole.{IsWhole}
 
 pub loop-item-preserved : goal.loop-item-preserved
 loop-item-preserved c = All-more (λ (t : ℕ × ℚ). IsWhole t.1) c.args.items.now c.loop-item.item-index c.item-item.result (let l : c.loop-item.item-index < length c.args.items.now = omega arith in l) c.loop-item.invariant

@@ -1,6 +1,6 @@
 use Rattle.std.proofs.Common.{rules, ◌≡◌}
 use Rattle.fraction.specs.Rational.{◌*ℚ◌, whole}
-use Rattle.problem.specs.Modest.{mul_is, add_is}
+use Rattle.fraction.specs.Lemmas.Bounds.{mul_is, add_is}
 use Rattle.row_activity.proofs.activity.with_product.Goals as goal
 
 pub unreachable-requires : goal.unreachable-requires

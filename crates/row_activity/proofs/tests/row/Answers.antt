@@ -3,7 +3,7 @@ use Rattle.std.proofs.lemmas.Int.{ints}
 use Rattle.fraction.specs.Rational.{whole}
 use Rattle.fraction.specs.Bounds.{Within}
 use Rattle.problem.specs.Limited.{IsLimitedRow}
-use Rattle.row_activity.proofs.Samples.{whole_within}
+use Rattle.problem.specs.Lemmas.Modest.{whole_within}
 use Rattle.row_activity.proofs.tests.row.Goals as goal
 
 pub returns : goal.returns

@@ -3,7 +3,7 @@ use Rattle.std.proofs.lemmas.Bool.Decides.{same_from_decides}
 use Rattle.row_activity.specs.Activity.{low_of}
 use Rattle.row_activity.specs.Verdicts.{reaches, is_fixed}
 use Rattle.row_activity.specs.Meaning.{Tells}
-use Rattle.row_activity.specs.Laws.{verdict_tells, Decides-is_fixed}
+use Rattle.row_activity.specs.Lemmas.Laws.{verdict_tells, Decides-is_fixed}
 use Rattle.row_activity.proofs.First.{first_empty_is, none_empty, settled}
 use Rattle.row_activity.proofs.verdict.box_verdict.Goals as goal
 

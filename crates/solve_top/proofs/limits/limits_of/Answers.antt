@@ -1,9 +1,11 @@
-use Rattle.std.proofs.Common.{◌∙◌}
-use Rattle.solve_top.proofs.Asked.{budget_is, upper_is}
+use Rattle.std.proofs.Common.{ap, sym, ◌∙◌}
+use Rattle.solve_top.specs.Commands.{nodes_asked, upper_asked, budget_of, upper_of}
 use Rattle.solve_top.proofs.limits.limits_of.Goals as goal
 
-pub returns-clause-budget : goal.returns-clause-budget
-returns-clause-budget c = c.limits_in.ensures.budget ∙ budget_is _ _ c.in_ok-command.ensures.command
+pub returns-in-Ok-clause-budget : goal.returns-in-Ok-clause-budget
+unfolding budget_of
+returns-in-Ok-clause-budget c = c.limits_in.ensures.budget ∙ ap nodes_asked (sym c.in-Ok.ensures.command)
 
-pub returns-clause-upper : goal.returns-clause-upper
-returns-clause-upper c = c.limits_in.ensures.upper ∙ upper_is _ _ c.in_ok-command.ensures.command
+pub returns-in-Ok-clause-upper : goal.returns-in-Ok-clause-upper
+unfolding upper_of
+returns-in-Ok-clause-upper c = c.limits_in.ensures.upper ∙ ap upper_asked (sym c.in-Ok.ensures.command)

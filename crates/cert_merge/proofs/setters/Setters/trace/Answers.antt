@@ -1,6 +1,6 @@
 use Rattle.std.proofs.Common.{◌≡◌, ◌-◌, ◌+◌, ◌<◌, subst, sym, arith, length}
 use Rattle.cert_merge.specs.Nodes.{branch_of}
-use Rattle.cert_merge.proofs.Tracing.{IsTraced, none_traced, next_traced, column_there, end_traced, whole_traced}
+use Rattle.cert_merge.specs.Lemmas.Tracing.{IsTraced, none_traced, next_traced, column_there, end_traced, whole_traced}
 use Rattle.cert_merge.proofs.setters.Setters.trace.Goals as goal
 
 pub loop-init : goal.loop-init

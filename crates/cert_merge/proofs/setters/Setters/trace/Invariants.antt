@@ -1,5 +1,5 @@
 use Rattle.std.proofs.Common.{◌-◌, length}
-use Rattle.cert_merge.proofs.Tracing.{IsTraced}
+use Rattle.cert_merge.specs.Lemmas.Tracing.{IsTraced}
 use Rattle.cert_merge.proofs.setters.Setters.trace.Given as goal
 
 abbrev pub invariant-loop : goal.invariant-loop

@@ -1,5 +1,5 @@
 use Rattle.std.proofs.Common.{refl, arith}
-use Rattle.mps_reader.specs.State.{pairs_none}
+use Rattle.mps_reader.proofs.State.{pairs_none}
 use Rattle.mps_reader.proofs.columns.Columns.take_pairs.Goals as goal
 
 pub returns-in_default-clause-err : goal.returns-in_default-clause-err

@@ -1,5 +1,5 @@
 use Rattle.std.proofs.Common.{sym, ap, ◌∙◌, length}
-use Rattle.mps_reader.specs.RowTable.{states_length}
+use Rattle.mps_reader.proofs.RowTable.{states_length}
 use Rattle.mps_reader.proofs.row_table.RowTable.len.Goals as goal
 
 pub returns : goal.returns

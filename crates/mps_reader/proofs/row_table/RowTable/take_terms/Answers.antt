@@ -1,9 +1,8 @@
-use Rattle.std.proofs.Common.{◌≡◌, ◌<◌, ℕ, List, Option, None, Some, [], refl, sym, ap, ◌∙◌, arith, subst, length, set, slice_get, get_or}
+use Rattle.std.proofs.Common.{◌≡◌, ℕ, List, Option, None, [], refl, sym, ap, ◌∙◌, arith, set, get_or}
 use Rattle.std.specs.Option.{unwrap_or}
-use Rattle.std.proofs.lemmas.Option.{slice_get_read}
 use Rattle.fraction.specs.Rational.{ℚ}
-use Rattle.mps_reader.specs.RowState.{RowState, kept_terms, unkept}
-use Rattle.mps_reader.specs.RowTable.{entry_set, kept_no_more, row_by, row_kept, state_at, within_entries}
+use Rattle.mps_reader.specs.RowState.{RowState, kept_terms, bare_row}
+use Rattle.mps_reader.proofs.RowTable.{entry_set, kept_at, kept_no_more, row_seen, within_entries}
 use Rattle.mps_reader.specs.declared.row_table.RowEntry.TheVariants as entry
 use Rattle.mps_reader.specs.declared.row_terms.TermRow.{TermRow}
 use Rattle.mps_reader.proofs.row_table.RowTable.take_terms.Goals as goal
@@ -16,41 +15,20 @@ index_mut-requires c = omega (arith, within_entries c.self.inside.kept.items c.s
 
 pub returns-in-Some-clause-terms : goal.returns-in-Some-clause-terms
 returns-in-Some-clause-terms c =
-    let kept = c.self.inside.kept.items in
-    let entries = c.self.inside.entries.items in
-    let i = c.args.index in
-    let q = c.in-Some.spot in
-    let old = c.index_mut-in-Some.result.now in
-    let f = c.deref.ensures.value in
-    let l = within_entries kept entries c.args.self.now i c.self.view_is c.requires in
-    let g : slice_get entries i ≡ Some (entry.Keeps q) = slice_get_read entries (length entries) i c.index.result.now refl l c.index.ensures ∙ ap Some c.in-Some.ensures.entry in
-    let h : slice_get kept q ≡ Some old = slice_get_read kept (length kept) q old refl (subst (λ (ks : List TermRow). q < length ks) f c.in-Some.ensures.within) c.index_mut-in-Some.ensures.value in
-    let o : old.row ≡ i = c.in-Some.ensures.row old (ap (λ (ks : List TermRow). slice_get ks q) f ∙ h) in
-    c.replace.ensures.value ∙ sym (ap kept_terms (row_kept kept entries c.args.self.now i c.self.view_is q old g h o))
+    let k = kept_at c.self.inside.kept.items c.self.inside.entries.items c.args.self.now c.args.index c.self.view_is c.requires c.index.result.now c.index.ensures _ c.deref.ensures.value c.in-Some.spot c.in-Some.ensures.within c.in-Some.ensures.entry c.in-Some.ensures.row c.index_mut-in-Some.result.now c.index_mut-in-Some.ensures.value in
+    c.replace.ensures.value ∙ sym (ap kept_terms k.row)
 
 pub returns-in-Some-clause-rows : goal.returns-in-Some-clause-rows
 returns-in-Some-clause-rows c =
-    let kept = c.self.inside.kept.items in
-    let entries = c.self.inside.entries.items in
-    let i = c.args.index in
-    let q = c.in-Some.spot in
     let old = c.index_mut-in-Some.result.now in
-    let f = c.deref.ensures.value in
-    let l = within_entries kept entries c.args.self.now i c.self.view_is c.requires in
-    let h : slice_get kept q ≡ Some old = slice_get_read kept (length kept) q old refl (subst (λ (ks : List TermRow). q < length ks) f c.in-Some.ensures.within) c.index_mut-in-Some.ensures.value in
-    let o : old.row ≡ i = c.in-Some.ensures.row old (ap (λ (ks : List TermRow). slice_get ks q) f ∙ h) in
+    let k = kept_at c.self.inside.kept.items c.self.inside.entries.items c.args.self.now c.args.index c.self.view_is c.requires c.index.result.now c.index.ensures _ c.deref.ensures.value c.in-Some.spot c.in-Some.ensures.within c.in-Some.ensures.entry c.in-Some.ensures.row old c.index_mut-in-Some.ensures.value in
     let r : TermRow = record { row = old.row; named_by = old.named_by; terms = c.replace.new.dest } in
-    kept_no_more i r o kept q old h o entries l ∙ ap (λ rs. set rs i unkept) c.self.view_is
+    kept_no_more c.args.index r k.own c.self.inside.kept.items c.in-Some.spot old k.there k.own c.self.inside.entries.items k.within ∙ ap (λ rs. set rs c.args.index bare_row) c.self.view_is
 
 pub returns-in-None-clause-terms : goal.returns-in-None-clause-terms
 returns-in-None-clause-terms c =
-    let kept = c.self.inside.kept.items in
-    let entries = c.self.inside.entries.items in
-    let i = c.args.index in
-    let l = within_entries kept entries c.args.self.now i c.self.view_is c.requires in
-    let r = row_by kept entries c.args.self.now i c.self.view_is c.index.result.now (slice_get_read entries (length entries) i c.index.result.now refl l c.index.ensures) in
-    let n : (get_or c.args.self.now i unkept).terms ≡ None =
-    ap (λ (s : RowState). s.terms) (r ∙ ap (λ (ks : List TermRow). state_at ks i c.index.result.now) (sym c.deref.ensures.value)) ∙ c.in-None.ensures.none refl in
+    let n : (get_or c.args.self.now c.args.index bare_row).terms ≡ None =
+    ap (λ (s : RowState). s.terms) (row_seen c.self.inside.kept.items c.self.inside.entries.items c.args.self.now c.args.index c.self.view_is c.requires c.index.result.now c.index.ensures _ c.deref.ensures.value) ∙ c.in-None.ensures.none refl in
     c.new-none.ensures ∙ sym (ap (λ (o : Option (List (ℕ × ℚ))). unwrap_or o []) n)
 
 pub returns-in-None-clause-rows : goal.returns-in-None-clause-rows
@@ -59,4 +37,4 @@ returns-in-None-clause-rows c =
     let entries = c.self.inside.entries.items in
     let i = c.args.index in
     let l = within_entries kept entries c.args.self.now i c.self.view_is c.requires in
-    entry_set kept i entry.Unnamed entries l ∙ ap (λ rs. set rs i unkept) c.self.view_is
+    entry_set kept i entry.Unnamed entries l ∙ ap (λ rs. set rs i bare_row) c.self.view_is

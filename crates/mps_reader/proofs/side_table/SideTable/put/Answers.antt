@@ -1,8 +1,9 @@
 use Rattle.std.proofs.Common.{◌≡◌, ◌<◌, ◌==◌, ℕ, List, ◌∷◌, ◌++◌, [], Option, Some, None, arith, refl, ap, ◌∙◌, get_or, length, set, if◌then◌else◌}
 use Rattle.fraction.specs.Rational.{ℚ}
-use Rattle.mps_reader.specs.SideTable.{gives_number, gives_zero, numbers_from}
+use Rattle.mps_reader.proofs.SideTable.{gives_number, gives_zero}
+use Rattle.mps_reader.specs.SideTable.{numbers_from}
 use Rattle.mps_reader.specs.declared.side_table.RowNumber.{RowNumber}
-use Rattle.mps_reader.specs.declared.side_table.Side.TheVariants as side
+use Rattle.mps_reader.specs.declared.side_table.SideEntry.TheVariants as side
 use Rattle.mps_reader.proofs.side_table.SideTable.put.Goals as goal
 
 pub returns-then-same : goal.returns-then-same

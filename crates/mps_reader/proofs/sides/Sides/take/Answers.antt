@@ -1,48 +1,39 @@
-use Rattle.std.proofs.Common.{◌≡◌, ◌+◌, ◌&&◌, true, false, ℕ, List, Result, Ok, Err, OnOk, is_err, if◌then◌else◌, arith, subst, sym, ap, ◌∙◌}
+use Rattle.std.proofs.Common.{◌≡◌, ◌+◌, true, false, None, ℕ, List, Option, Result, Ok, Err, OnOk, is_err, arith, refl, subst, sym, ◌∙◌}
 use Rattle.fraction.specs.Rational.{ℚ}
-use Rattle.mps_reader.specs.Faults.{is_counted}
-use Rattle.mps_reader.specs.SideLines.{fine_is_new, number_for, sides_more}
+use Rattle.mps_reader.specs.Faults.{side_fault}
+use Rattle.mps_reader.proofs.SideLines.{row_taken}
+use Rattle.mps_reader.proofs.Stopping.{stops_first}
 use Rattle.mps_reader.specs.SideTable.{Gives}
 use Rattle.mps_reader.specs.Tables.{table}
 use Rattle.mps_reader.proofs.sides.Sides.take.Goals as goal
 
-of_fine : {T E P : Type 0} (r : Result T E) → false ≡ is_err r → OnOk r P → P
-of_fine (Ok a) f p = p
-of_fine (Err e) f p = cc
+given : {T E : Type 0} (r : Result T E) (old new : List (Option ℚ)) (i : ℕ) (p q : ℚ) → false ≡ is_err r → OnOk r (Gives old new i p) → p ≡ q → Gives old new i q
+given (Ok a) old new i p q f g e = subst (λ (q : ℚ). Gives old new i q) e g
+given (Err x) old new i p q f g e = cc
 
 zero_more : (n : ℕ) → n ≡ n + 0
 zero_more n = omega arith
 
-pub returns-then-counts_twice-clause-ok : goal.returns-then-counts_twice-clause-ok
-returns-then-counts_twice-clause-ok g c before h =
+pub returns-in-Err-clause-rows : goal.returns-in-Err-clause-rows
+returns-in-Err-clause-rows g c before h =
+    (tt, stops_first c.in-Err.stop (side_fault c.args.are_ranges (table c.args.rows.now.entries) before (c.args.row.now, c.args.value.now)) None (c.in-Err.ensures.err before h))
+
+pub returns-then-counts_twice-clause-rows : goal.returns-then-counts_twice-clause-rows
+returns-then-counts_twice-clause-rows g c before h =
     let st = c.args.self.now in
-    let es = c.args.rows.now.entries in
-    let pair : List ℕ × List ℕ = (c.args.row.now, c.args.value.now) in
-    let i = c.in-Ok.given.index in
-    let type = c.in-Ok.given.kind in
-    let n = c.in-Ok.ensures.ok before h in
-    let w : Gives st.numbers c.put.new.self i (number_for type pair.1) =
-    subst (λ (q : ℚ). Gives st.numbers c.put.new.self i q) c.in-Ok.ensures.number (of_fine c.put.result c.if-is_err.ensures.value c.put.ensures) in
-    let b : (c.args.are_ranges && is_counted type) ≡ true = sym c.counts_twice.ensures ∙ c.if-counts_twice.true in
-    let u : st.ranged + 1 ≡ st.ranged + (if c.args.are_ranges && is_counted type then 1 else 0) = ap (λ b. st.ranged + (if b then 1 else 0)) (sym b) in (
-      n,
-      sides_more c.args.are_ranges es st before h pair i c.in-Ok.ensures.row type c.in-Ok.ensures.kind (fine_is_new c.args.are_ranges (table es) before pair n)
-          (record { numbers = c.put.new.self; group = st.group; ranged = st.ranged + 1 }) w u,
+    let i = c.in-Ok.given.index in (
+      row_taken c.args.are_ranges c.args.rows.now.entries st before h (c.args.row.now, c.args.value.now) i c.in-Ok.ensures.row c.in-Ok.given.kind c.in-Ok.ensures.kind (c.in-Ok.ensures.ok before h)
+          (record { numbers = c.put.new.self; group = st.group; ranged = st.ranged + 1 }) (given c.put.result st.numbers c.put.new.self i _ _ c.if-is_err.ensures.value c.put.ensures c.in-Ok.ensures.number)
+          true (sym c.counts_twice.ensures ∙ c.if-counts_twice.true) refl,
+      tt,
     )
 
-pub returns-else-counts_twice-clause-ok : goal.returns-else-counts_twice-clause-ok
-returns-else-counts_twice-clause-ok g c before h =
+pub returns-else-counts_twice-clause-rows : goal.returns-else-counts_twice-clause-rows
+returns-else-counts_twice-clause-rows g c before h =
     let st = c.args.self.now in
-    let es = c.args.rows.now.entries in
-    let pair : List ℕ × List ℕ = (c.args.row.now, c.args.value.now) in
-    let i = c.in-Ok.given.index in
-    let type = c.in-Ok.given.kind in
-    let n = c.in-Ok.ensures.ok before h in
-    let w : Gives st.numbers c.put.new.self i (number_for type pair.1) =
-    subst (λ (q : ℚ). Gives st.numbers c.put.new.self i q) c.in-Ok.ensures.number (of_fine c.put.result c.if-is_err.ensures.value c.put.ensures) in
-    let b : (c.args.are_ranges && is_counted type) ≡ false = sym c.counts_twice.ensures ∙ c.if-counts_twice.false in
-    let u : st.ranged ≡ st.ranged + (if c.args.are_ranges && is_counted type then 1 else 0) = zero_more st.ranged ∙ ap (λ b. st.ranged + (if b then 1 else 0)) (sym b) in (
-      n,
-      sides_more c.args.are_ranges es st before h pair i c.in-Ok.ensures.row type c.in-Ok.ensures.kind (fine_is_new c.args.are_ranges (table es) before pair n)
-          (record { numbers = c.put.new.self; group = st.group; ranged = st.ranged }) w u,
+    let i = c.in-Ok.given.index in (
+      row_taken c.args.are_ranges c.args.rows.now.entries st before h (c.args.row.now, c.args.value.now) i c.in-Ok.ensures.row c.in-Ok.given.kind c.in-Ok.ensures.kind (c.in-Ok.ensures.ok before h)
+          (record { numbers = c.put.new.self; group = st.group; ranged = st.ranged }) (given c.put.result st.numbers c.put.new.self i _ _ c.if-is_err.ensures.value c.put.ensures c.in-Ok.ensures.number)
+          false (sym c.counts_twice.ensures ∙ c.if-counts_twice.false) (zero_more st.ranged),
+      tt,
     )

@@ -1,7 +1,7 @@
 use Rattle.std.proofs.Common.{rules, ◌≡◌, None, subst}
 use Rattle.node_journal.specs.Appends.{IsWithOrWithout}
-use Rattle.node_journal.specs.History.{IsKept}
-use Rattle.node_journal.specs.HistoryLaws.{continued, continued_stands}
+use Rattle.node_journal.specs.History.{KeepsHistory}
+use Rattle.node_journal.proofs.HistoryLaws.{continued, continued_stands}
 use Rattle.node_journal.specs.Views.{payloads_of}
 use Rattle.node_journal.proofs.Keeping.{since, since_none, kept_added, kept_failed}
 use Rattle.node_journal.proofs.journal.Journal.append.Goals as goal
@@ -11,7 +11,7 @@ invariant_of-self-clause-kept g c told =
     let old = c.args.self.now in
     let D = g.D.Disk in
     let sound : old.fault ≡ None = search rules in
-    let kept = subst (λ f. IsKept old.opened (D.past old.disk) (D.now old.disk) (payloads_of old.payloads) f) sound (old.kept told) in
+    let kept = subst (λ f. KeepsHistory old.opened (D.past old.disk) (D.now old.disk) (payloads_of old.payloads) f) sound (old.kept told) in
     kept_added old.opened (D.past old.disk) (D.now old.disk) old.payloads.file.items (payloads_of old.payloads) c.args.payload.now old.payloads.small old.payloads.whole (old.rest told sound) kept
     (D.past c.write.new.disk) (D.now c.write.new.disk) (c.write.ensures.any_moment told) (c.write.ensures.before told) (payloads_of c.write.new.self) old.fault c.in-Ok.ensures.added
 
@@ -20,7 +20,7 @@ invariant_of-self-in-Err-Disk-clause-kept g c told =
     let old = c.args.self.now in
     let D = g.D.Disk in
     let sound : old.fault ≡ None = search rules in
-    let kept = subst (λ f. IsKept old.opened (D.past old.disk) (D.now old.disk) (payloads_of old.payloads) f) sound (old.kept told) in
+    let kept = subst (λ f. KeepsHistory old.opened (D.past old.disk) (D.now old.disk) (payloads_of old.payloads) f) sound (old.kept told) in
     kept_failed old.opened (D.past old.disk) (D.now old.disk) old.payloads.file.items (payloads_of old.payloads) c.args.payload.now old.payloads.small old.payloads.whole (old.rest told sound) kept
     (D.past c.write.new.disk) (D.now c.write.new.disk) (c.write.ensures.any_moment told) (c.write.ensures.before told) (payloads_of c.write.new.self) _
 
@@ -28,7 +28,7 @@ pub returns-in-Ok-clause-since : goal.returns-in-Ok-clause-since
 returns-in-Ok-clause-since g c told sound =
     let old = c.args.self.now in
     let D = g.D.Disk in
-    let kept = subst (λ f. IsKept old.opened (D.past old.disk) (D.now old.disk) (payloads_of old.payloads) f) sound (old.kept told) in
+    let kept = subst (λ f. KeepsHistory old.opened (D.past old.disk) (D.now old.disk) (payloads_of old.payloads) f) sound (old.kept told) in
     since old.opened (D.past old.disk) (D.now old.disk) old.payloads.file.items (payloads_of old.payloads) c.args.payload.now old.payloads.small old.payloads.whole (old.rest told sound) kept
     (D.past c.write.new.disk) (D.now c.write.new.disk) (c.write.ensures.any_moment told) (c.write.ensures.before told)
 
@@ -36,7 +36,7 @@ pub returns-in-Err-Memory-clause-since : goal.returns-in-Err-Memory-clause-since
 returns-in-Err-Memory-clause-since g c told sound =
     let old = c.args.self.now in
     let D = g.D.Disk in
-    let kept = subst (λ f. IsKept old.opened (D.past old.disk) (D.now old.disk) (payloads_of old.payloads) f) sound (old.kept told) in
+    let kept = subst (λ f. KeepsHistory old.opened (D.past old.disk) (D.now old.disk) (payloads_of old.payloads) f) sound (old.kept told) in
     since_none old.opened (D.past old.disk) (D.now old.disk) old.payloads.file.items (payloads_of old.payloads) c.args.payload.now old.payloads.small old.payloads.whole (old.rest told sound) kept
     (D.past c.write.new.disk) (D.now c.write.new.disk) (c.in-Err-Memory.ensures.memory (search rules))
 
@@ -44,7 +44,7 @@ pub returns-in-Err-Disk-clause-since : goal.returns-in-Err-Disk-clause-since
 returns-in-Err-Disk-clause-since g c told sound =
     let old = c.args.self.now in
     let D = g.D.Disk in
-    let kept = subst (λ f. IsKept old.opened (D.past old.disk) (D.now old.disk) (payloads_of old.payloads) f) sound (old.kept told) in
+    let kept = subst (λ f. KeepsHistory old.opened (D.past old.disk) (D.now old.disk) (payloads_of old.payloads) f) sound (old.kept told) in
     since old.opened (D.past old.disk) (D.now old.disk) old.payloads.file.items (payloads_of old.payloads) c.args.payload.now old.payloads.small old.payloads.whole (old.rest told sound) kept
     (D.past c.write.new.disk) (D.now c.write.new.disk) (c.write.ensures.any_moment told) (c.write.ensures.before told)
 

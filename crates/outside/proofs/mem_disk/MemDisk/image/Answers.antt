@@ -1,5 +1,6 @@
 use Rattle.std.proofs.Common.{rules}
-use Rattle.outside.specs.OnDisk.{disk_now, seen_is}
+use Rattle.outside.specs.OnDisk.{disk_now}
+use Rattle.outside.specs.Lemmas.OnDisk.{seen_is}
 use Rattle.outside.specs.Choice.{moment_of}
 use Rattle.outside.proofs.Choosing.{ordered}
 use Rattle.outside.proofs.mem_disk.MemDisk.image.Goals as goal

@@ -2,7 +2,7 @@ use Rattle.std.proofs.Common.{refl, subst, sym}
 use Rattle.std.specs.Prelude.{All, List}
 use Rattle.problem.specs.declared.row.Row.{Row}
 use Rattle.problem.specs.Modest.{AreModest}
-use Rattle.problem.specs.Limited.{rows_over_point, rows_below, rows_modest, modest_inside}
+use Rattle.problem.specs.Lemmas.Limited.{rows_over_point, rows_below, rows_modest, modest_inside}
 use Rattle.problem.proofs.program.Problem.is_feasible.Goals as goal
 
 pub are_satisfied-requires-clause-columns : goal.are_satisfied-requires-clause-columns

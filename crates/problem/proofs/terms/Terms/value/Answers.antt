@@ -1,4 +1,4 @@
-use Rattle.problem.specs.Modest.{some_value, none_value}
+use Rattle.problem.specs.Lemmas.Modest.{some_value, none_value}
 use Rattle.problem.proofs.terms.Terms.value.Goals as goal
 
 pub returns-in-Some : goal.returns-in-Some

@@ -1,4 +1,4 @@
-use Rattle.std.proofs.Common.{◌≡◌, ◌<◌, ap, ◌∙◌, subst, arith, length, sym}
+use Rattle.std.proofs.Common.{◌<◌, ◌∙◌, subst, arith, length}
 use Rattle.std.specs.Prelude.{All, ◌≤ℤ◌, pos}
 use Rattle.std.proofs.lemmas.Int.{ints}
 use Rattle.std.proofs.lemmas.List.{take_all}

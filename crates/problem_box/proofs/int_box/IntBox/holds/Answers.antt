@@ -1,7 +1,8 @@
 use Rattle.std.proofs.Common.{◌∙◌, ap, arith, length}
 use Rattle.std.proofs.lemmas.Bool.{false≢true}
 use Rattle.std.proofs.lemmas.Bool.Decides.{Decides-at}
-use Rattle.problem_box.specs.Boxes.{is_in_box, Decides-in_box, IsInBox-length}
+use Rattle.problem_box.specs.Boxes.{is_in_box}
+use Rattle.problem_box.specs.Lemmas.Boxes.{Decides-in_box, IsInBox-length}
 use Rattle.problem_box.proofs.int_box.IntBox.holds.Goals as goal
 
 pub returns-then-point-len : goal.returns-then-point-len

@@ -1,0 +1,14 @@
+mod Steps
+mod Held
+mod ColumnLemmas
+mod Combining
+mod Numbering
+mod RoundedLemmas
+mod PriceLemmas
+mod Deciding
+mod Exact
+mod Bounding
+mod Cutting
+mod Staying
+mod Worked
+mod Samples

@@ -1,0 +1,19 @@
+use Rattle.std.proofs.Common.{◌∙◌, sym, arith, drop}
+use Rattle.derivation_book.proofs.PriceLemmas.{next_column, no_column}
+use Rattle.derivation_book.proofs.price.with_columns.Goals as goal
+
+pub returns-in_err-total : goal.returns-in_err-total
+returns-in_err-total c =
+    c.from_residual.ensures
+    ∙ sym (no_column c.args.coefficients.now c.args.area.now c.loop-column.column c.index-coefficients-column.result (omega arith) c.index-coefficients-column.is c.requires.columns
+    c.span.result c.span.ensures c.loop-column.total c.wanted_at-wanted.result.0 (drop c.loop-column.next c.args.target.now) c.wanted_at-wanted.ensures.coefficient (sym c.in_err-total.ensures))
+    ∙ c.loop-column.invariant.left
+
+pub loop-column-preserved : goal.loop-column-preserved
+loop-column-preserved c = record {
+  rising = c.wanted_at-wanted.ensures.rising;
+  left = next_column c.args.coefficients.now c.args.area.now c.loop-column.column c.index-coefficients-column.result (omega arith) c.index-coefficients-column.is c.requires.columns
+      c.span.result c.span.ensures c.loop-column.total c.wanted_at-wanted.result.0 (drop c.loop-column.next c.args.target.now) c.wanted_at-wanted.ensures.coefficient
+      c.in_ok-total.total (drop c.wanted_at-wanted.result.1 c.args.target.now) (sym c.in_ok-total.ensures) c.wanted_at-wanted.ensures.later
+      ∙ c.loop-column.invariant.left;
+}

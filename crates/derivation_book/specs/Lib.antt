@@ -1,0 +1,10 @@
+pub mod Contents
+pub mod Known
+pub mod Sums
+pub mod Adding
+pub mod Rounded
+pub mod Price
+pub mod Cuts
+pub mod Legal
+pub mod Laws
+pub mod Places

@@ -1,0 +1,20 @@
+//! Cuts, and the prices of combinations of rows.
+//!
+//! Multipliers name rows by number: first the problem's rows, then for each column the row of its lower bound and that of its upper bound, then
+//! the cuts. A cut is a combination of these with whole coefficients, its right side rounded up. A combination's price is what it shows that a
+//! target is at least, over a box.
+#![tactic(auto)]
+
+mod book;
+mod combination;
+mod cut;
+mod cut_rows;
+pub mod laws;
+mod legal;
+mod place;
+mod price;
+#[cfg(test)]
+mod tests;
+
+pub use book::Book;
+pub use cut::Cut;

@@ -1,0 +1,104 @@
+//! The price of a combination.
+
+ghost use Rattle.std.specs.Prelude.{◌≡◌, ◌<◌, ◌≤◌, ◌+◌, ℕ, IfOk, All, length, drop};
+ghost use Rattle.problem.specs.Linear.{coefficient};
+ghost use Rattle.problem.specs.Rising.{RiseFrom, AreRising};
+ghost use Rattle.derivation_book.specs.Known.{known_lines};
+ghost use Rattle.derivation_book.specs.Price.{with_bound, with_reduced_cost, with_columns, price};
+
+use crate::book::Book;
+use crate::combination::{Combination, with_product};
+use fraction::Frac;
+use node_events::Mult;
+use problem::{Problem, Term};
+use problem_box::{IntBox, Span};
+use std::alloc::{AllocError, Global};
+
+/// The sum with what is left of a column times the bound that it takes; none exactly where that is cramped.
+fn with_bound(total: Frac, left: Frac, span: Span) -> Option<Frac>
+    ensures { result ≡ with_bound total left span }
+{
+    if left.numer() == 0 {
+        return Some(total);
+    }
+    let bound = if left.numer() > 0 { span.lo } else { span.hi };
+    with_product(total, left, Frac::of(bound as i128))
+}
+
+/// The sum with what a combination leaves of a target at one column; none exactly where that is cramped.
+fn with_reduced_cost(total: Frac, wanted: Frac, combined: Frac, span: Span) -> Option<Frac>
+    ensures { result ≡ with_reduced_cost total wanted combined span }
+{
+    let left = wanted.sub(combined)?;
+    with_bound(total, left, span)
+}
+
+/// The target's coefficient at a column, where the terms before `next` are of earlier columns; and the number of the first term behind the column.
+fn wanted_at(target: &[Term], next: usize, column: usize) -> (Frac, usize)
+    requires { RiseFrom column (drop next target.now) }
+    ensures coefficient { result.0 ≡ coefficient (drop next target.now) column }
+    ensures rising { RiseFrom (column + 1) (drop result.1 target.now) }
+    ensures later { (j : ℕ) → column < j → coefficient (drop result.1 target.now) j ≡ coefficient (drop next target.now) j }
+{
+    if next >= target.len() {
+        return (Frac::of(0), next);
+    }
+    let term = &target[next];
+    if term.column() as usize == column {
+        (term.coefficient(), next + 1)
+    } else {
+        (Frac::of(0), next)
+    }
+}
+
+/// The sum with what coefficients leave of a target at each column; none exactly where that is cramped.
+fn with_columns(side: Frac, target: &[Term], coefficients: &[Frac], area: &IntBox) -> Option<Frac>
+    requires columns { length area.now ≡ length coefficients.now }
+    requires rising { AreRising target.now }
+    ensures { result ≡ with_columns side target.now 0 coefficients.now area.now }
+{
+    let mut total = side;
+    let mut next = 0;
+    for (column, combined) in coefficients.iter().enumerate() {
+        let (wanted, after) = wanted_at(target, next, column);
+        total = with_reduced_cost(total, wanted, *combined, area.span(column))?;
+        next = after;
+    }
+    Some(total)
+}
+
+impl Combination {
+    /// The price over a box with a span for each column; none exactly where that is cramped.
+    fn price(&self, area: &IntBox, target: &[Term]) -> Option<Frac>
+        requires columns { length area.now ≡ length self.now.coefficients }
+        requires rising { AreRising target.now }
+        ensures { result ≡ with_columns self.now.side target.now 0 self.now.coefficients area.now }
+    {
+        with_columns(self.side, target, &self.coefficients, area)
+    }
+}
+
+impl Book {
+    /// What a combination of known rows shows that a target is at least, over a box with a span for each column: the combination's right side, and
+    /// what it leaves of each column of the target times the bound that makes this least. The target's columns rise.
+    ///
+    /// There is none exactly where a product or a sum is cramped. The one error is want of memory.
+    pub fn price(
+        &self,
+        alloc: Global,
+        problem: &Problem,
+        area: &IntBox,
+        target: &[Term],
+        mult: &Mult,
+    ) -> Result<Option<Frac>, AllocError>
+        requires known { All (λ m. m.0 < length (known_lines problem.now self.now.cuts)) mult.now }
+        requires columns { length area.now ≡ length problem.now.spans }
+        requires rising { AreRising target.now }
+        ensures { IfOk result (λ v. v ≡ price problem.now self.now.cuts area.now target.now mult.now) }
+    {
+        match self.combine(alloc, problem, mult.as_slice())? {
+            Some(sums) => Ok(sums.price(area, target)),
+            None => Ok(None),
+        }
+    }
+}

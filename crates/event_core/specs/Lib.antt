@@ -1,0 +1,10 @@
+pub mod States
+pub mod Holds
+pub mod Feasibility
+pub mod Splits
+pub mod Judging
+pub mod After
+pub mod Histories
+pub mod Rooms
+pub mod Sound
+pub mod Laws

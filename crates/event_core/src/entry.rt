@@ -1,0 +1,21 @@
+// What a state keeps of workers and of what was done.
+
+use node_events::Event;
+
+/// A worker that holds a node.
+#[derive(Clone, Copy, Debug, PartialEq, Eq)]
+pub struct Hold {
+    /// The worker's number.
+    pub worker: u32,
+    /// The node.
+    pub node: u32,
+}
+
+/// An event that was applied.
+#[derive(Drop)]
+pub struct Entry {
+    /// The worker whose event it is; none where it was read from a journal.
+    pub worker: Option<u32>,
+    /// The event.
+    pub event: Event,
+}

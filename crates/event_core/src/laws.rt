@@ -1,0 +1,21 @@
+//! Laws of histories.
+
+ghost use Rattle.event_core.specs.Laws.{JournalsAreLegal, BeginningsAreLegal, LegalStatesAreSound};
+
+use problem::Problem;
+
+/// The events of a legal history that are no claim and no release are legal without workers, and lead to the same state but for who holds which node.
+pub fn journals_are_legal(_problem: &Problem)
+    ensures { JournalsAreLegal _problem.now }
+{}
+
+/// The first events of a legal history are legal, and the nodes that have ended stay ended.
+pub fn beginnings_are_legal(_problem: &Problem)
+    ensures { BeginningsAreLegal _problem.now }
+{}
+
+/// What is true of each state that legal events led to: an open node is a leaf, each cut is the rounded row of its multipliers over those before it,
+/// the incumbent is a feasible point with its objective, who is held is open, no worker holds two nodes, and no two workers hold one.
+pub fn legal_states_are_sound(_problem: &Problem)
+    ensures { LegalStatesAreSound _problem.now }
+{}

@@ -1,0 +1,20 @@
+//! The state of a search as a machine over events: which events are admitted, and what each changes.
+//!
+//! A state is what its history of events makes of the problem: the tree of nodes, which of them are open, the cuts, the incumbent, and which
+//! worker holds which node.
+#![tactic(auto)]
+
+mod admit;
+mod changes;
+mod entry;
+mod judge;
+pub mod laws;
+mod parts;
+mod split_rule;
+mod state;
+#[cfg(test)]
+mod tests;
+
+pub use admit::Admit;
+pub use entry::{Entry, Hold};
+pub use state::State;

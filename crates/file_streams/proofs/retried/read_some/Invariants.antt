@@ -1,0 +1,6 @@
+-- What was interrupted consumed nothing.
+use Rattle.std.specs.Io.KnownBytes.{Keeps}
+use Rattle.file_streams.proofs.retried.read_some.Given as goal
+
+abbrev pub invariant-loop : goal.invariant-loop
+invariant-loop g l = Keeps (g.R.Read.remaining l.initial.from) (g.R.Read.remaining l.from)

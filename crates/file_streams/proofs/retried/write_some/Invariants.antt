@@ -1,0 +1,6 @@
+-- What was interrupted appended nothing.
+use Rattle.std.specs.Io.KnownBytes.{Keeps}
+use Rattle.file_streams.proofs.retried.write_some.Given as goal
+
+abbrev pub invariant-loop : goal.invariant-loop
+invariant-loop g l = Keeps (g.W.Write.contents l.initial.to) (g.W.Write.contents l.to)

@@ -1,0 +1,68 @@
+// A source that is a file.
+ghost use Rattle.std.specs.Prelude.{◌≡◌, ◌≤◌, length, IfOk};
+
+use crate::inode::Inode;
+use crate::retried::read_some;
+use outside::{Failed, Got, Source};
+use std::fs::File;
+use std::rt::Files;
+
+/// A file that is read from its front on. Where it can't be opened each read fails. Its count stays at the last number of 64 bits.
+#[derive(Drop)]
+pub struct FileSource {
+    file: Option<File>,
+    faults: u64,
+}
+
+impl FileSource {
+    /// Opens the file at this path, if there is a path. A failure to do so shows at the first read.
+    pub fn open<R: Files<File = File>>(files: &R, path: Option<&str>) -> FileSource
+        ensures { result.faults ≡ 0 }
+    {
+        let file = match path {
+            Some(path) => File::open(files, path).ok(),
+            None => None,
+        };
+        FileSource { file, faults: 0 }
+    }
+
+    /// Which file is open, if one is.
+    pub fn inode(&self) -> Result<Option<Inode>, Failed> {
+        match &self.file {
+            Some(file) => Ok(Some(Inode::of(file)?)),
+            None => Ok(None),
+        }
+    }
+
+    // How many bytes came; none are at the end.
+    fn try_read(&mut self, buf: &mut [u8]) -> Result<usize, Failed>
+        ensures faults { self.new.faults ≡ self.old.faults }
+        ensures bound { IfOk result (λ n. n ≤ length buf.new) }
+    {
+        match &mut self.file {
+            Some(file) => read_some(file, buf).map_err(|_| Failed),
+            None => Err(Failed),
+        }
+    }
+}
+
+impl Source for FileSource {
+    ghost use Rattle.std.specs.Prelude.{false, []};
+
+    ghost tells = { false };
+
+    ghost left = { λ _. [] };
+
+    ghost faults = { λ s. s.faults };
+
+    fn read(&mut self, buf: &mut [u8]) -> Got {
+        match self.try_read(buf) {
+            Ok(0) => Got::End,
+            Ok(count) => Got::Gave(count),
+            Err(Failed) => {
+                self.faults = self.faults.saturating_add(1);
+                Got::Failed
+            }
+        }
+    }
+}

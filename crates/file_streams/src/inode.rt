@@ -1,0 +1,65 @@
+// Which file it is, whatever it is called.
+use outside::Failed;
+use std::fs;
+use std::fs::{File, Metadata};
+use std::io::ErrorKind;
+use std::os::unix::fs::{FileTypeExt, MetadataExt};
+use std::rt::Files;
+
+/// Where the system shows the files of the standard streams. `std` has no other way to ask for one that it did not open.
+const STANDARD_OUTPUT: &str = "/proc/self/fd/1";
+
+const STANDARD_ERROR: &str = "/proc/self/fd/2";
+
+/// A file by its numbers, which all its names and all that have it open share: its device's, and its own there.
+#[derive(Clone, Copy, Debug, PartialEq, Eq)]
+pub struct Inode {
+    device: u64,
+    number: u64,
+    /// Whether it keeps what is written to it, as a plain file and a disk do. A terminal, a pipe or a socket passes that on.
+    pub keeps_bytes: bool,
+}
+
+impl Inode {
+    /// The file that is open.
+    pub(crate) fn of(file: &File) -> Result<Inode, Failed> {
+        match file.metadata() {
+            Ok(data) => Ok(inode_of(&data)),
+            Err(_) => Err(Failed),
+        }
+    }
+
+    /// The file that the path leads to now, if there is one.
+    pub(crate) fn at<R: Files>(files: &R, path: Option<&str>) -> Result<Option<Inode>, Failed> {
+        let Some(path) = path else {
+            return Ok(None);
+        };
+        match fs::metadata(files, path) {
+            Ok(data) => Ok(Some(inode_of(&data))),
+            Err(error) if is_absence(error.kind()) => Ok(None),
+            Err(_) => Err(Failed),
+        }
+    }
+
+    /// The file that standard output writes to. This fails where /proc isn't mounted.
+    pub(crate) fn of_standard_output<R: Files>(files: &R) -> Result<Inode, Failed> {
+        Inode::at(files, Some(STANDARD_OUTPUT))?.ok_or(Failed)
+    }
+
+    /// The file that standard error writes to, likewise.
+    pub(crate) fn of_standard_error<R: Files>(files: &R) -> Result<Inode, Failed> {
+        Inode::at(files, Some(STANDARD_ERROR))?.ok_or(Failed)
+    }
+}
+
+fn inode_of(data: &Metadata) -> Inode {
+    Inode {
+        device: data.dev(),
+        number: data.ino(),
+        keeps_bytes: data.is_file() || data.file_type().is_block_device(),
+    }
+}
+
+fn is_absence(kind: ErrorKind) -> bool {
+    kind == ErrorKind::NotFound || kind == ErrorKind::NotADirectory
+}

@@ -1,0 +1,46 @@
+// One read and one write, each tried again where a signal interrupts it. Every stream here goes through them.
+ghost use Rattle.std.specs.Prelude.{◌≡◌, ◌≢◌, ◌≤◌, ◌<◌, ◌↔◌, length, take, IsTrue, IfOk, IfErr, OnErr};
+ghost use Rattle.std.specs.Io.KnownBytes.{Appends, Consumes, IsAtEnd, Keeps};
+ghost use Rattle.std.specs.IoError.{error_kind};
+
+use std::io;
+use std::io::{ErrorKind, Read, Write};
+
+fn is_interrupted(error: &io::Error) -> bool
+    ensures { IsTrue result ↔ (error_kind error.now ≡ ErrorKind.Interrupted) }
+{
+    error.kind() == ErrorKind::Interrupted
+}
+
+/// Reads once into the front of the buffer, and answers how many bytes came: none at the end. An error took none.
+pub(crate) fn read_some<R: Read>(from: &mut R, buf: &mut [u8]) -> io::Result<usize>
+    ensures bound { IfOk result (λ n. n ≤ length buf.new) }
+    ensures bytes { IfOk result (λ n. Consumes (R.remaining from.old) (R.remaining from.new) (take n buf.new)) }
+    ensures end { IfOk result (λ n. n ≡ 0 → 0 < length buf.old → IsAtEnd (R.remaining from.new)) }
+    ensures failed { OnErr result (Keeps (R.remaining from.old) (R.remaining from.new)) }
+    ensures retried { IfErr result (λ e. error_kind e ≢ ErrorKind.Interrupted) }
+{
+    for _ in 0..u64::MAX {
+        match from.read(buf) {
+            Err(error) if is_interrupted(&error) => {}
+            done => return done,
+        }
+    }
+    Err(io::Error::from(ErrorKind::TimedOut))
+}
+
+/// Writes once, and answers how many bytes were taken, from the front of the piece. An error took none.
+pub(crate) fn write_some<W: Write>(to: &mut W, piece: &[u8]) -> io::Result<usize>
+    ensures bound { IfOk result (λ n. n ≤ length piece.now) }
+    ensures bytes { IfOk result (λ n. Appends (W.contents to.old) (W.contents to.new) (take n piece.now)) }
+    ensures failed { OnErr result (Keeps (W.contents to.old) (W.contents to.new)) }
+    ensures retried { IfErr result (λ e. error_kind e ≢ ErrorKind.Interrupted) }
+{
+    for _ in 0..u64::MAX {
+        match to.write(piece) {
+            Err(error) if is_interrupted(&error) => {}
+            done => return done,
+        }
+    }
+    Err(io::Error::from(ErrorKind::TimedOut))
+}

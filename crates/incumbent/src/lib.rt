@@ -1,0 +1,9 @@
+//! The incumbent of a search: the best feasible point so far.
+#![tactic(auto)]
+
+mod best;
+pub mod laws;
+#[cfg(test)]
+mod tests;
+
+pub use best::{Best, Incumbent};

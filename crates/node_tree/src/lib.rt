@@ -1,0 +1,12 @@
+//! The tree of a search over boxes: each node's box is the root's, cut by the branches on the way to the node.
+#![tactic(auto)]
+
+mod branch;
+pub mod laws;
+mod path;
+#[cfg(test)]
+mod tests;
+mod tree;
+
+pub use branch::{Branch, Side};
+pub use tree::Tree;

@@ -1,0 +1,2 @@
+-- Lemmas that other crates, or the definitions themselves, stand on. Contracts cite none of them.
+pub mod Numerals
