@@ -68,11 +68,12 @@ fn a_file_under_another_name_is_spared(rt: HostRuntime) -> Result<(), Fail> {
     assert_eq!(rt; FileSink::new(&rt, by_path).write(b"VER"), Put::Failed);
     let source = FileSource::open(&rt, Some(path.as_str()));
     let while_open = Destination {
+        path: Some(other.as_str()),
         spared: Spared {
             open: source.inode(),
             paths: [None, None],
         },
-        ..by_path
+        streams: (rt.stdout(), rt.stderr()),
     };
     fs::remove_file(&rt, path.as_str())?;
     let mut sink = FileSink::new(&rt, while_open);
