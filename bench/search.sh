@@ -1,8 +1,8 @@
 #!/bin/sh
-# How fast the proved search goes through a knapsack of 30 columns, beside the same search in plain Rust (bench/search/plain.rs), in one run
-# on one machine: nodes a second of both, the ratio of their times, and the bytes a node. Then the certificate of an equation without a
-# solution is printed, and its text isn't kept: the derived lines, the seconds, and the peak of the memory beside the text's length. Build
-# the program first: `rt run` in crates/plain_search_bench.
+# How fast the proved search goes through knapsacks of 30 columns, beside the same search in plain Rust without events (bench/search/plain.rs),
+# in one run on one machine: nodes a second of both and their ratio, and the bytes that a node takes in both. Then the bytes that an event takes,
+# and those that a node takes beside its events. It builds the program first, which proves what isn't proved yet.
 . "$(dirname "$0")/common.sh"
-prepare plain_search_bench search
+(cd crates/core_search_bench && rt run >/dev/null)
+prepare core_search_bench search
 python3 bench/search/table.py "$work/plain" "$proved"

@@ -1,10 +1,8 @@
-// The search of crates/plain_search_bench in plain Rust, for bench/search.sh: the same knapsack, the same verdicts, the same tree.
+// The search of crates/core_search in plain Rust, for bench/search.sh: the same knapsacks, the same verdicts, the same tree, and no events.
 use std::cmp::Ordering;
 use std::env;
 use std::error::Error;
 use std::time::Instant;
-
-const COLUMNS: usize = 30;
 
 #[derive(Clone, Copy)]
 struct Frac {
@@ -213,8 +211,8 @@ impl Run {
 }
 
 /// Numbers of a linear congruential generator, so many from `least` on.
-fn numbers(state: &mut u64, least: i16) -> Vec<i16> {
-    (0..COLUMNS)
+fn numbers(columns: usize, state: &mut u64, least: i16) -> Vec<i16> {
+    (0..columns)
         .map(|_| {
             *state = state.wrapping_mul(6_364_136_223_846_793_005).wrapping_add(1_442_695_040_888_963_407);
             least + ((*state >> 33) % 200) as i16
@@ -226,14 +224,14 @@ fn terms(numbers: Vec<i16>) -> Terms {
     (0..).zip(numbers).filter(|&(_, n)| n != 0).map(|(column, n)| (column, Frac::of(n.into()))).collect()
 }
 
-fn knapsack(seed: u64) -> Problem {
+fn knapsack(columns: usize, seed: u64) -> Problem {
     let mut state = seed;
-    let weights = terms(numbers(&mut state, 1));
-    let values = terms(numbers(&mut state, -200));
+    let weights = terms(numbers(columns, &mut state, 1));
+    let values = terms(numbers(columns, &mut state, -200));
     Problem {
-        rows: vec![Row { terms: weights, rhs: Frac::of(50 * COLUMNS as i128) }],
+        rows: vec![Row { terms: weights, rhs: Frac::of(50 * columns as i128) }],
         objective: values,
-        root: vec![Span { lo: 0, hi: 1 }; COLUMNS],
+        root: vec![Span { lo: 0, hi: 1 }; columns],
     }
 }
 
@@ -252,8 +250,8 @@ fn sum(nodes: &[Node]) -> i64 {
 /// Prints the nanoseconds, the nodes, how the search ended, and what tells that it was done.
 fn main() -> Result<(), Box<dyn Error>> {
     let words: Vec<String> = env::args().skip(1).collect();
-    let [seed, budget] = words.as_slice() else { return Err("SEED BUDGET".into()) };
-    let problem = knapsack(seed.parse()?);
+    let [columns, seed, budget] = words.as_slice() else { return Err("COLUMNS SEED BUDGET".into()) };
+    let problem = knapsack(columns.parse()?, seed.parse()?);
     let budget = budget.parse()?;
     let start = Instant::now();
     let mut run = Run::new(&problem);

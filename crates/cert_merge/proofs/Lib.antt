@@ -1,11 +1,10 @@
 pub mod Parts
 pub mod Claims
+pub mod Tracing
+pub mod Places
+pub mod NodeLines
+pub mod Sources
+pub mod Closed
+pub mod Ordered
 pub mod WorkedTree
 pub mod WorkedTables
-pub mod OpenNodes
-pub mod Placing
-pub mod Refuting
-pub mod RisingFillings
-pub mod Endings
-pub mod NodeLines
-pub mod WorkedProblem

@@ -1,6 +1,5 @@
 -- Certificates that were worked out by hand are what the table gives for their searches.
-use Rattle.std.specs.Prelude.{◌≡◌, ◌<◌, ℕ, zero, suc, ℤ, pos, negsuc, false, List, [], ◌∷◌, Option, Some, None, refl, codes, length}
-use Rattle.std.proofs.Common.{inl, inr, arith}
+use Rattle.std.specs.Prelude.{◌≡◌, ℕ, ℤ, pos, negsuc, false, List, [], ◌∷◌, None, refl, codes}
 use Rattle.std.specs.Fmt.{digits}
 use Rattle.fraction.specs.Gcd.{gcd, gcd_within}
 use Rattle.fraction.specs.Rational.{ℚ, whole, frac, ◌+ℚ◌, ◌*ℚ◌, neg_ℚ}
@@ -15,10 +14,14 @@ use Rattle.cert_rows.specs.declared.line.Why.TheVariants.{Asm, Lin, Rnd, Uns}
 use Rattle.cert_rows.specs.declared.certificate.Goal.{Goal}
 use Rattle.cert_rows.specs.declared.certificate.Goal.TheVariants.{Infeas, Range}
 use Rattle.cert_rows.specs.declared.certificate.Cert.{Cert}
-use Rattle.cert_merge.specs.Search.{Cut, Side, low, high, Ending, empty, refute, bound, split, Node, Search, node_at}
-use Rattle.cert_merge.specs.Merged.{merged}
-use Rattle.cert_merge.specs.Plain.{IsPlainEnding, IsPlain}
-use Rattle.cert_merge.specs.Setters.{IsBranchWithin}
+use Rattle.node_events.specs.declared.proof.Proof.TheVariants.{Empty, Refute, Bound}
+use Rattle.node_events.specs.declared.reason.Reason.TheVariants.{Unsettled}
+use Rattle.node_events.specs.declared.event.Event.{Event}
+use Rattle.node_events.specs.declared.event.Event.TheVariants.{Offer, Split, Close}
+use Rattle.derivation_book.specs.declared.cut.Cut.{Cut}
+use Rattle.event_core.specs.declared.entry.Entry.{Entry}
+use Rattle.event_core.specs.Histories.{state_of}
+use Rattle.cert_merge.specs.Merged.{certificate_of, merged}
 
 abbrev n : ℕ → ℚ
 n k = whole (pos k)
@@ -46,16 +49,21 @@ y = (1, n 1) ∷ []
 abbrev one : List (ℕ × ℚ) → List Row → ℤ → ℤ → Problem
 one objective rows lo hi = record { names = codes "x" ∷ []; rows = rows; objective = objective; spans = span lo hi ∷ [] }
 
--- node 0 alone
-abbrev alone : List Cut → Ending → Option (List ℤ) → Search
-alone cuts ending incumbent = record { cuts = cuts; nodes = record { branch = None; ending = ending } ∷ []; incumbent = incumbent }
+-- events without a worker
+abbrev events : List Event → List Entry
+events [] = []
+events (e ∷ es) = record { worker = None; event = e } ∷ events es
+
+-- with these cuts
+abbrev merged_with : Problem → List Cut → List Entry → Cert
+merged_with p cs es = certificate_of (record (state_of p es) { cuts = cs }) es
 
 -- what is derived, claimed and listed
 abbrev shown : Cert → Goal × List (List ℤ) × List (CertRow × Why)
 shown c = (c.claim, c.points, c.lines)
 
 -- minimise 3x, x >= 1, x in 2..2
-table1 : merged (one ((0, n 3) ∷ []) (bare G (n 1) x ∷ []) (pos 2) (pos 2)) (alone [] (bound [] false) (Some (pos 2 ∷ []))) ≡ record {
+table1 : merged (one ((0, n 3) ∷ []) (bare G (n 1) x ∷ []) (pos 2) (pos 2)) (events (Offer (pos 2 ∷ []) ∷ Close 0 (Bound [] false) ∷ [])) ≡ record {
   part = record {
     names = codes "x" ∷ [];
     objective = (0, n 3) ∷ [];
@@ -69,7 +77,7 @@ unfolding frac gcd gcd_within ◌+ℚ◌ ◌*ℚ◌ neg_ℚ digits
 table1 = refl
 
 -- minimise x, 2x >= 11, x in 0..5
-table2 : shown (merged (one x (bare G (n 11) ((0, n 2) ∷ []) ∷ []) (pos 0) (pos 5)) (alone [] (refute ((0, n 1) ∷ [])) None))
+table2 : shown (merged (one x (bare G (n 11) ((0, n 2) ∷ []) ∷ []) (pos 0) (pos 5)) (events (Close 0 (Refute ((0, n 1) ∷ [])) ∷ [])))
     ≡ (Infeas, [], (row (codes "N0") G (n 1) [], Lin ((0, n 1) ∷ (2, m 1) ∷ [])) ∷ [])
 unfolding frac gcd gcd_within ◌+ℚ◌ ◌*ℚ◌ neg_ℚ digits
 table2 = refl
@@ -78,23 +86,23 @@ table2 = refl
 abbrev cut3 : Cut
 cut3 = record { row = bare G (n 2) x; mult = (0, frac (pos 1) 2) ∷ [] }
 
-table3 : shown (merged (one x (bare G (n 3) ((0, n 2) ∷ []) ∷ []) (pos 0) (pos 5)) (alone (cut3 ∷ []) (bound ((3, n 1) ∷ []) false) (Some (pos 2 ∷ []))))
+table3 : shown (merged_with (one x (bare G (n 3) ((0, n 2) ∷ []) ∷ []) (pos 0) (pos 5)) (cut3 ∷ []) (events (Offer (pos 2 ∷ []) ∷ Close 0 (Bound ((3, n 1) ∷ []) false) ∷ [])))
     ≡ (Range (n 2) (n 2), (pos 2 ∷ []) ∷ [], (row (codes "K0") G (n 2) x, Rnd ((0, frac (pos 1) 2) ∷ [])) ∷ (row (codes "N0") G (n 2) x, Lin ((3, n 1) ∷ [])) ∷ [])
 unfolding frac gcd gcd_within ◌+ℚ◌ ◌*ℚ◌ neg_ℚ digits
 table3 = refl
 
 -- minimise x, x in 3..2
-table4 : shown (merged (one x [] (pos 3) (pos 2)) (alone [] (empty 0) None)) ≡ (Infeas, [], (row (codes "N0") G (n 1) [], Lin ((0, n 1) ∷ (1, m 0) ∷ [])) ∷ [])
+table4 : shown (merged (one x [] (pos 3) (pos 2)) (events (Close 0 (Empty 0) ∷ []))) ≡ (Infeas, [], (row (codes "N0") G (n 1) [], Lin ((0, n 1) ∷ (1, m 0) ∷ [])) ∷ [])
 unfolding frac gcd gcd_within ◌+ℚ◌ ◌*ℚ◌ neg_ℚ digits
 table4 = refl
 
 -- minimise nothing, x in 0..5
-table5 : shown (merged (one [] [] (pos 0) (pos 5)) (alone [] (bound [] false) (Some (pos 0 ∷ [])))) ≡ (Range (n 0) (n 0), (pos 0 ∷ []) ∷ [], (row (codes "N0") G (n 0) [], Lin []) ∷ [])
+table5 : shown (merged (one [] [] (pos 0) (pos 5)) (events (Offer (pos 0 ∷ []) ∷ Close 0 (Bound [] false) ∷ []))) ≡ (Range (n 0) (n 0), (pos 0 ∷ []) ∷ [], (row (codes "N0") G (n 0) [], Lin []) ∷ [])
 unfolding frac gcd gcd_within ◌+ℚ◌ ◌*ℚ◌ neg_ℚ digits
 table5 = refl
 
 -- minimise x / 2, x in 1..5
-table20 : shown (merged (one ((0, frac (pos 1) 2) ∷ []) [] (pos 1) (pos 5)) (alone [] (bound [] false) (Some (pos 1 ∷ []))))
+table20 : shown (merged (one ((0, frac (pos 1) 2) ∷ []) [] (pos 1) (pos 5)) (events (Offer (pos 1 ∷ []) ∷ Close 0 (Bound [] false) ∷ [])))
     ≡ (Range (frac (pos 1) 2) (frac (pos 1) 2), (pos 1 ∷ []) ∷ [], (row (codes "N0") G (frac (pos 1) 2) ((0, frac (pos 1) 2) ∷ []), Lin ((0, frac (pos 1) 2) ∷ [])) ∷ [])
 unfolding frac gcd gcd_within ◌+ℚ◌ ◌*ℚ◌ neg_ℚ digits
 table20 = refl
@@ -103,20 +111,15 @@ table20 = refl
 abbrev even : Problem
 even = record { names = codes "x" ∷ codes "y" ∷ []; rows = bare E (n 3) ((0, n 2) ∷ (1, n 2) ∷ []) ∷ []; objective = []; spans = span (pos 0) (pos 1) ∷ span (pos 0) (pos 1) ∷ [] }
 
-abbrev reached : ℕ → ℕ → Side → ℤ → Ending → Node
-reached parent column side b ending = record { branch = Some (record { parent = parent; column = column; side = side; bound = b }); ending = ending }
+-- row 0 as it stands, and with its signs turned
+abbrev by_row : ℕ → Event
+by_row i = Close i (Refute ((0, n 1) ∷ []))
 
-abbrev tree : Search
-tree = record {
-  cuts = [];
-  nodes =
-      record { branch = None; ending = split 1 (pos 0) 1 2 } ∷
-      reached 0 1 high (pos 0) (refute ((0, n 1) ∷ [])) ∷
-      reached 0 1 low (pos 1) (split 0 (pos 0) 3 4) ∷
-      reached 2 0 high (pos 0) (refute ((0, n 1) ∷ [])) ∷
-      reached 2 0 low (pos 1) (refute ((0, m 0) ∷ [])) ∷ [];
-  incumbent = None;
-}
+abbrev by_turned_row : ℕ → Event
+by_turned_row i = Close i (Refute ((0, m 0) ∷ []))
+
+abbrev tree : List Entry
+tree = events (Split 0 1 (pos 0) Unsettled ∷ by_row 1 ∷ Split 2 0 (pos 0) Unsettled ∷ by_turned_row 4 ∷ by_row 3 ∷ [])
 
 table6 : shown (merged even tree) ≡ (
   Infeas,
@@ -140,7 +143,7 @@ cuts11 =
     record { row = bare G (n 2) ((0, n 1) ∷ (1, n 1) ∷ []); mult = (0, frac (pos 1) 2) ∷ [] } ∷
     record { row = bare G (m 0) ((0, m 0) ∷ (1, m 0) ∷ []); mult = (0, frac (negsuc 0) 2) ∷ [] } ∷ []
 
-table11 : shown (merged even (alone cuts11 (refute ((0, frac (negsuc 0) 2) ∷ (5, n 1) ∷ [])) None)) ≡ (
+table11 : shown (merged_with even cuts11 (events (Close 0 (Refute ((0, frac (negsuc 0) 2) ∷ (5, n 1) ∷ [])) ∷ []))) ≡ (
   Infeas,
   [],
   (row (codes "K0") G (n 2) ((0, n 1) ∷ (1, n 1) ∷ []), Rnd ((0, frac (pos 1) 2) ∷ [])) ∷
@@ -151,17 +154,8 @@ unfolding frac gcd gcd_within ◌+ℚ◌ ◌*ℚ◌ neg_ℚ digits
 table11 = refl
 
 -- the same rows, split on x first, without cuts
-abbrev pub x_first : Search
-x_first = record {
-  cuts = [];
-  nodes =
-      record { branch = None; ending = split 0 (pos 0) 1 2 } ∷
-      reached 0 0 high (pos 0) (refute ((0, n 1) ∷ [])) ∷
-      reached 0 0 low (pos 1) (split 1 (pos 0) 3 4) ∷
-      reached 2 1 high (pos 0) (refute ((0, n 1) ∷ [])) ∷
-      reached 2 1 low (pos 1) (refute ((0, m 0) ∷ [])) ∷ [];
-  incumbent = None;
-}
+abbrev x_first : List Entry
+x_first = events (Split 0 0 (pos 0) Unsettled ∷ by_row 1 ∷ Split 2 1 (pos 0) Unsettled ∷ by_row 3 ∷ by_turned_row 4 ∷ [])
 
 table_x_first : shown (merged even x_first) ≡ (
   Infeas,
@@ -178,24 +172,3 @@ table_x_first : shown (merged even x_first) ≡ (
 )
 unfolding frac gcd gcd_within ◌+ℚ◌ ◌*ℚ◌ neg_ℚ digits
 table_x_first = refl
-
--- and it is a search that can be merged, with any rows and columns of the same numbers
-module _ (p : Problem) (rows : length p.rows ≡ 1) (columns : length p.spans ≡ 2) where
-  plain_branches : (i : ℕ) → i < 5 → IsBranchWithin x_first (length p.spans) (node_at x_first i).branch
-  plain_branches zero l = tt
-  plain_branches (suc zero) l = (omega arith, omega (arith, columns))
-  plain_branches (suc (suc zero)) l = (omega arith, omega (arith, columns))
-  plain_branches (suc (suc (suc zero))) l = (omega arith, omega (arith, columns))
-  plain_branches (suc (suc (suc (suc zero)))) l = (omega arith, omega (arith, columns))
-  plain_branches (suc (suc (suc (suc (suc i))))) l = absurd (omega (arith, l))
-
-  plain_endings : (i : ℕ) → i < 5 → IsPlainEnding p x_first (node_at x_first i).ending
-  plain_endings zero l = ((omega arith, omega arith), (omega arith, omega arith))
-  plain_endings (suc zero) l = (omega (arith, rows), inl refl)
-  plain_endings (suc (suc zero)) l = ((omega arith, omega arith), (omega arith, omega arith))
-  plain_endings (suc (suc (suc zero))) l = (omega (arith, rows), inl refl)
-  plain_endings (suc (suc (suc (suc zero)))) l = (omega (arith, rows), inr refl)
-  plain_endings (suc (suc (suc (suc (suc i))))) l = absurd (omega (arith, l))
-
-  pub x_first_is_plain : IsPlain p x_first
-  x_first_is_plain = record { no_cuts = refl; branches = plain_branches; endings = plain_endings; incumbent = tt; numbered = omega (arith, rows, columns) }

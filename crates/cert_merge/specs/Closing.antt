@@ -1,47 +1,39 @@
 -- How a node is closed: a combination of rows and cuts, filled up by bounds of the node's box.
 use Rattle.std.specs.Prelude.{◌≡◌, ℕ, ◌+◌, ◌<◌, pos, int_lt, nat_lt, if◌then◌else◌, List, [], ◌∷◌, length, All}
-use Rattle.std.specs.Ordering.{int_eq}
-use Rattle.fraction.specs.Rational.{ℚ, whole, ◌+ℚ◌, ◌*ℚ◌, neg_ℚ}
+use Rattle.fraction.specs.Rational.{ℚ}
 use Rattle.problem_box.specs.declared.span.Span.{Span}
-use Rattle.problem.specs.Linear.{Terms, Multipliers, coefficient}
+use Rattle.problem.specs.Linear.{Terms, Multipliers}
 use Rattle.cert_rows.specs.Lines.{CertLine, row_at}
-use Rattle.cert_rows.specs.Combination.{combined_terms, combined_rhs}
+use Rattle.cert_rows.specs.Combination.{combined_terms}
 use Rattle.cert_rows.specs.Validity.{lower_row, upper_row}
+use Rattle.derivation_book.specs.Rounded.{is_zero}
+use Rattle.derivation_book.specs.Price.{reduced_cost}
 
 -- the lines that state a column's bounds
-pub record Source : Type 0 where
+pub record BoundSource : Type 0 where
   pub lower : ℕ
   pub upper : ℕ
 
 -- line `lower` is `x_j >= lo` and line `upper` is `x_j <= hi`
-pub record StatesBounds (ls : List CertLine) (j : ℕ) (s : Span) (o : Source) : Type 0 where
+pub record StatesBounds (ls : List CertLine) (j : ℕ) (s : Span) (o : BoundSource) : Type 0 where
   pub lower_there : o.lower < length ls
   pub upper_there : o.upper < length ls
   pub lower : row_at ls o.lower ≡ lower_row j s
   pub upper : row_at ls o.upper ≡ upper_row j s
 
 -- for each column from j on
-abbrev pub AreSources : List CertLine → ℕ → List Span → List Source → Type 0
+abbrev pub AreSources : List CertLine → ℕ → List Span → List BoundSource → Type 0
 AreSources ls j [] [] = Unit {0}
 AreSources ls j [] (o ∷ os) = ⊥
 AreSources ls j (s ∷ ss) [] = ⊥
 AreSources ls j (s ∷ ss) (o ∷ os) = StatesBounds ls j s o × AreSources ls (j + 1) ss os
 
--- what a combination leaves of a column of the target
-abbrev pub reduced_cost : Terms → Terms → ℕ → ℚ
-reduced_cost target terms j = coefficient target j +ℚ neg_ℚ (coefficient terms j)
-
 -- what is left of each column goes to the line of its lower bound where it is above 0, to that of its upper bound where it is below 0
-abbrev pub bound_multipliers : (ℕ → ℚ) → ℕ → List Source → Multipliers
+abbrev pub bound_multipliers : (ℕ → ℚ) → ℕ → List BoundSource → Multipliers
 bound_multipliers r j [] = []
 bound_multipliers r j (o ∷ os) =
-    if int_eq (r j).num (pos 0) then bound_multipliers r (j + 1) os
+    if is_zero (r j) then bound_multipliers r (j + 1) os
     else (if int_lt (pos 0) (r j).num then o.lower else o.upper, r j) ∷ bound_multipliers r (j + 1) os
-
--- the sum of what is left times the bound that it goes to
-abbrev pub bound_multipliers_price : (ℕ → ℚ) → ℕ → List Span → ℚ
-bound_multipliers_price r j [] = whole (pos 0)
-bound_multipliers_price r j (s ∷ ss) = r j *ℚ whole (if int_lt (pos 0) (r j).num then s.lo else s.hi) +ℚ bound_multipliers_price r (j + 1) ss
 
 -- a multiplier put into rising order
 abbrev pub placed : ℕ × ℚ → Multipliers → Multipliers
@@ -53,12 +45,8 @@ all_placed [] ks = ks
 all_placed (m ∷ ms) ks = placed m (all_placed ms ks)
 
 -- the multipliers of a closed node: those of its proof, and the bound multipliers
-abbrev pub closing_multipliers : List CertLine → Terms → Multipliers → List Source → Multipliers
+abbrev pub closing_multipliers : List CertLine → Terms → Multipliers → List BoundSource → Multipliers
 closing_multipliers ls target mult os = all_placed (bound_multipliers (reduced_cost target (combined_terms ls mult)) 0 os) mult
-
--- its right side, the price of the proof over the node's box
-abbrev pub price : List CertLine → Terms → Multipliers → List Span → ℚ
-price ls target mult ss = combined_rhs ls mult +ℚ bound_multipliers_price (reduced_cost target (combined_terms ls mult)) 0 ss
 
 -- the terms name columns below n
 abbrev pub AreBelow : ℕ → Terms → Type 0

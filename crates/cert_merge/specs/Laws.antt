@@ -1,5 +1,5 @@
 -- What certificates promise.
-use Rattle.std.specs.Prelude.{◌≡◌, List, ◌<◌, ◌-◌, [], length, slice_index_or}
+use Rattle.std.specs.Prelude.{◌≡◌, List, ◌<◌, ◌-◌, [], length, All, slice_index_or}
 use Rattle.fraction.specs.Rational.{ℚ}
 use Rattle.problem.specs.Problem.{Problem}
 use Rattle.problem.specs.Best.{IsVoid}
@@ -14,7 +14,19 @@ use Rattle.cert_rows.specs.Lines.{CertLine}
 use Rattle.cert_rows.specs.Combination.{combined_terms, combined_rhs}
 use Rattle.cert_rows.specs.Domination.{Dominates}
 use Rattle.problem.specs.Linear.{Terms, Multipliers, SameCoefficients}
-use Rattle.cert_merge.specs.Closing.{Source, AreSources, AreBelow, closing_multipliers, price}
+use Rattle.problem.specs.Rising.{AreRising, AreNonzero}
+use Rattle.cert_rows.specs.declared.line.CertRow.{CertRow}
+use Rattle.cert_rows.specs.declared.line.Why.{Why}
+use Rattle.cert_rows.specs.declared.line.Why.TheVariants.{Asm, Lin, Rnd, Uns}
+use Rattle.node_events.specs.declared.proof.Proof.{Proof}
+use Rattle.node_events.specs.declared.proof.Proof.TheVariants.{Empty, Refute, Bound}
+use Rattle.node_events.specs.declared.event.Event.{Event}
+use Rattle.node_events.specs.declared.event.Event.TheVariants.{Claim, Release, Cut, Offer, Split, Close}
+use Rattle.derivation_book.specs.Price.{exact_price}
+use Rattle.event_core.specs.declared.entry.Entry.{Entry}
+use Rattle.cert_merge.specs.Closing.{BoundSource, AreSources, AreBelow, closing_multipliers}
+use Rattle.cert_merge.specs.Endings.{IsFinished}
+use Rattle.cert_merge.specs.Merged.{merged}
 use Rattle.cert_merge.specs.Tree.{NodeLine, derived_of, AreNodeLines, paths_with, IsConcluded}
 
 -- where a valid certificate claims infeasibility, no point is feasible
@@ -34,9 +46,9 @@ pub record Closes (ls : List CertLine) (target : Terms) (p : ℚ) (ms : Multipli
 -- the multipliers of a closed node give its target and its price
 abbrev pub ClosingsClose : Type 0
 ClosingsClose =
-    (ls : List CertLine) (target : Terms) (mult : Multipliers) (ss : List Span) (os : List Source)
+    (ls : List CertLine) (target : Terms) (mult : Multipliers) (ss : List Span) (os : List BoundSource)
     → AreSources ls 0 ss os → IsCombination ls G mult → AreBelow (length ss) target → AreBelow (length ss) (combined_terms ls mult)
-    → Closes ls target (price ls target mult ss) (closing_multipliers ls target mult os)
+    → Closes ls target (exact_price ls target mult ss) (closing_multipliers ls target mult os)
 
 -- the lines of a finished tree follow, and the last one dominates the goal and assumes nothing
 abbrev pub FinishedTreesFollow : Type 0
@@ -44,3 +56,35 @@ FinishedTreesFollow =
     (ls : List CertLine) (goal : Row) → Dominates goal goal → (ns : List NodeLine) → AreNodeLines ls goal [] ns
     → 0 < length (paths_with [] ns) → slice_index_or (paths_with [] ns) (length (paths_with [] ns) - 1) [] ≡ []
     → AllFollow ls (derived_of ns) × IsConcluded (with_derived ls (derived_of ns)) goal
+
+-- ---- multipliers in order
+-- the numbers rise, and no multiplier is 0
+abbrev pub AreOrdered : Multipliers → Type 0
+AreOrdered mult = AreRising mult × AreNonzero mult
+
+-- the multipliers of a reason, if it has any
+abbrev pub ReasonIsOrdered : Why → Type 0
+ReasonIsOrdered Asm = Unit {0}
+ReasonIsOrdered (Lin mult) = AreOrdered mult
+ReasonIsOrdered (Rnd mult) = AreOrdered mult
+ReasonIsOrdered (Uns i1 l1 i2 l2) = Unit {0}
+
+-- those of a proof
+abbrev pub ProofIsOrdered : Proof → Type 0
+ProofIsOrdered (Empty column) = Unit {0}
+ProofIsOrdered (Refute mult) = AreOrdered mult
+ProofIsOrdered (Bound mult rounded) = AreOrdered mult
+
+-- those of an event
+abbrev pub EventIsOrdered : Event → Type 0
+EventIsOrdered (Claim i) = Unit {0}
+EventIsOrdered (Release i) = Unit {0}
+EventIsOrdered (Cut mult) = AreOrdered mult
+EventIsOrdered (Offer x) = Unit {0}
+EventIsOrdered (Split i j b reason) = Unit {0}
+EventIsOrdered (Close i proof) = ProofIsOrdered proof
+
+-- the multipliers of each line are in order, where those of the events are
+abbrev pub MergedIsOrdered : Problem → Type 0
+MergedIsOrdered p =
+    (es : List Entry) → IsFinished p es → All (λ (e : Entry). EventIsOrdered e.event) es → All (λ (d : CertRow × Why). ReasonIsOrdered d.1) (merged p es).lines

@@ -3,4 +3,7 @@ pub mod LongerLines
 pub mod Closings
 pub mod Filling
 pub mod TreeLemmas
-pub mod Tracing
+pub mod Setting
+pub mod Placing
+pub mod BoundLines
+pub mod Finished

@@ -1,12 +1,8 @@
 pub mod Closing
-pub mod Search
-pub mod Open
-pub mod Nodes
+pub mod Endings
 pub mod Numbers
 pub mod Merged
 pub mod Tree
 pub mod Laws
 pub mod Setters
-pub mod Plain
-pub mod Valued
 pub mod Lemmas

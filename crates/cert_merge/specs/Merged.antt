@@ -1,12 +1,15 @@
--- The certificate of a finished search: a table from its nodes to lines. Nothing here says that the lines are valid.
-use Rattle.std.specs.Prelude.{ℕ, zero, suc, ◌+◌, pos, negsuc, Bool, true, false, List, [], ◌∷◌, ◌++◌, map, length, Option, Some, None, codes}
+-- The certificate of a search that has ended: a table from its state, and from the proofs with which its nodes were closed. Nothing here says that
+-- the lines are valid.
+use Rattle.std.specs.Prelude.{ℕ, zero, suc, ◌+◌, pos, negsuc, Bool, true, false, List, [], ◌∷◌, ◌++◌, length, Option, Some, None, codes}
 use Rattle.std.specs.Fmt.{decimal}
-use Rattle.fraction.specs.Rational.{whole}
+use Rattle.fraction.specs.Rational.{ℚ, whole}
 use Rattle.problem_box.specs.declared.span.Span.{Span}
-use Rattle.problem.specs.declared.row.Sense.TheVariants.{G}
+use Rattle.problem.specs.declared.row.Sense.{Sense}
+use Rattle.problem.specs.declared.row.Sense.TheVariants.{G, L}
 use Rattle.problem.specs.declared.row.Row.{Row}
+use Rattle.problem.specs.Linear.{Point, Terms, Multipliers}
+use Rattle.problem.specs.Rows.{Rows}
 use Rattle.problem.specs.Problem.{Problem}
-use Rattle.problem.specs.Feasible.{objective_at}
 use Rattle.cert_rows.specs.declared.line.CertRow.{CertRow}
 use Rattle.cert_rows.specs.declared.line.Why.{Why}
 use Rattle.cert_rows.specs.declared.line.Why.TheVariants.{Asm, Lin, Rnd, Uns}
@@ -14,13 +17,23 @@ use Rattle.cert_rows.specs.declared.certificate.Goal.{Goal}
 use Rattle.cert_rows.specs.declared.certificate.Goal.TheVariants.{Infeas, Range}
 use Rattle.cert_rows.specs.declared.certificate.Part.{Part}
 use Rattle.cert_rows.specs.declared.certificate.Cert.{Cert}
-use Rattle.cert_rows.specs.Lines.{CertLine}
-use Rattle.cert_rows.specs.Validity.{lower_row, upper_row, bound_rows, objective_row}
+use Rattle.cert_rows.specs.Validity.{lower_row, upper_row, objective_row}
+use Rattle.node_events.specs.declared.proof.Proof.{Proof}
+use Rattle.node_events.specs.declared.proof.Proof.TheVariants.{Empty, Refute, Bound}
+use Rattle.node_tree.specs.declared.branch.Side.{Side}
+use Rattle.node_tree.specs.declared.branch.Side.TheVariants.{Low, High}
+use Rattle.node_tree.specs.declared.branch.Branch.{Branch}
+use Rattle.node_tree.specs.declared.branch.Node.{Node}
+use Rattle.node_tree.specs.Nodes.{children_at}
+use Rattle.derivation_book.specs.declared.cut.Cut.{Cut}
+use Rattle.derivation_book.specs.Known.{known_lines}
+use Rattle.incumbent.specs.Offers.{point_of}
+use Rattle.event_core.specs.declared.entry.Entry.{Entry}
+use Rattle.event_core.specs.States.{State, tree_of, cutoff}
+use Rattle.event_core.specs.Histories.{state_of}
 use Rattle.cert_merge.specs.Closing.{closing_multipliers, placed}
-use Rattle.cert_merge.specs.Search.{Cut, Side, low, high, Branch, Ending, empty, refute, bound, split, Node, Search, node_at}
+use Rattle.cert_merge.specs.Endings.{proof_of}
 use Rattle.cert_merge.specs.Numbers.{assumption_line, node_line, line_of_bound, sources_of}
-use Rattle.problem.specs.Linear.{Point, Terms, Multipliers}
-use Rattle.problem.specs.Rows.{Rows}
 
 -- ---- labels
 -- a letter with a number
@@ -46,9 +59,9 @@ part_of p = record { names = p.names; objective = p.objective; rows = row_lines 
 
 -- ---- the claim
 -- the incumbent's value is the least one, or no point is feasible
-abbrev pub claim_of : Problem → Option Point → Goal
-claim_of p (Some x) = Range (objective_at p x) (objective_at p x)
-claim_of p None = Infeas
+abbrev pub claim_of : Option ℚ → Goal
+claim_of (Some v) = Range v v
+claim_of None = Infeas
 
 abbrev pub points_of : Option Point → List Point
 points_of (Some x) = x ∷ []
@@ -59,23 +72,27 @@ abbrev pub absurd_row : Row
 absurd_row = record { sense = G; rhs = whole (pos 1); terms = [] }
 
 -- what node 0 has to show: `objective >= value`, or `0 >= 1`
-abbrev pub goal_row : Problem → Option Point → Row
-goal_row p (Some x) = objective_row p (objective_at p x)
+abbrev pub goal_row : Problem → Option ℚ → Row
+goal_row p (Some v) = objective_row p v
 goal_row p None = absurd_row
 
 -- ---- cuts, numbered from i on
+abbrev pub cut_line : ℕ → Cut → CertRow × Why
+cut_line i c = (labelled (label_of (codes "K") i) c.row, Rnd c.mult)
+
 abbrev pub cut_lines : ℕ → List Cut → List (CertRow × Why)
 cut_lines i [] = []
-cut_lines i (c ∷ cs) = (labelled (label_of (codes "K") i) c.row, Rnd c.mult) ∷ cut_lines (i + 1) cs
+cut_lines i (c ∷ cs) = cut_line i c ∷ cut_lines (i + 1) cs
 
 -- ---- assumptions
--- `x <= bound` or `x >= bound`
+-- a lower bound is a row of sense G, an upper one of sense L
+abbrev pub sense_for : Side → Sense
+sense_for Low = G
+sense_for High = L
+
+-- `x >= bound` or `x <= bound`
 abbrev pub branch_row : Branch → Row
-branch_row b = stated b.side
-  where
-    stated : Side → Row
-    stated high = upper_row b.column (record { lo = b.bound; hi = b.bound })
-    stated low = lower_row b.column (record { lo = b.bound; hi = b.bound })
+branch_row b = record { sense = sense_for b.side; rhs = whole b.bound; terms = (b.column, whole (pos 1)) ∷ [] }
 
 abbrev pub assumption_of : ℕ → Option Branch → List (CertRow × Why)
 assumption_of i None = []
@@ -87,46 +104,56 @@ assumption_lines i [] = []
 assumption_lines i (n ∷ ns) = assumption_of i n.branch ++ assumption_lines (i + 1) ns
 
 -- ---- nodes
--- the lines that the multipliers of a closed node may name beside assumptions: rows, bounds and cuts
-abbrev pub base_lines : Problem → List Cut → List CertLine
-base_lines p cs = map (λ r. record { row = r; assumes = [] }) (p.rows ++ bound_rows 0 p.spans ++ map (λ (c : Cut). c.row) cs)
-
--- the multipliers of a node for a target, filled up by the bounds of its box
-abbrev pub with_bound_multipliers : Problem → Search → ℕ → Terms → Multipliers → Multipliers
-with_bound_multipliers p s i target mult = closing_multipliers (base_lines p s.cuts) target mult (sources_of p s i)
+-- the multipliers of a node for a target: those of its proof, and those of the bounds of its box
+abbrev pub node_multipliers : State → ℕ → Terms → Multipliers → Multipliers
+node_multipliers s i target mult = closing_multipliers (known_lines s.problem s.cuts) target mult (sources_of s i)
 
 -- the bounds of a column that cross: lower less upper
-abbrev pub crossing : Problem → Search → ℕ → ℕ → Multipliers
-crossing p s i j = placed (line_of_bound p s i j low, whole (pos 1)) ((line_of_bound p s i j high, whole (negsuc 0)) ∷ [])
+abbrev pub crossing : State → ℕ → ℕ → Multipliers
+crossing s i j = placed (line_of_bound s i j Low, whole (pos 1)) ((line_of_bound s i j High, whole (negsuc 0)) ∷ [])
 
 -- by rounding, or without
 abbrev pub bound_reason : Bool → Multipliers → Why
 bound_reason true mult = Rnd mult
 bound_reason false mult = Lin mult
 
-abbrev pub ending_line : Problem → Search → ℕ → Ending → Row × Why
-ending_line p s i (empty j) = (absurd_row, Lin (crossing p s i j))
-ending_line p s i (refute mult) = (absurd_row, Lin (with_bound_multipliers p s i [] mult))
-ending_line p s i (bound mult rounded) = (goal_row p s.incumbent, bound_reason rounded (with_bound_multipliers p s i p.objective mult))
-ending_line p s i (split j b left right) =
-    (goal_row p s.incumbent, Uns (node_line p s left) (assumption_line p s left) (node_line p s right) (assumption_line p s right))
+-- a node that was closed with this proof
+abbrev pub closed_line : State → ℕ → Proof → Row × Why
+closed_line s i (Empty j) = (absurd_row, Lin (crossing s i j))
+closed_line s i (Refute mult) = (absurd_row, Lin (node_multipliers s i [] mult))
+closed_line s i (Bound mult rounded) = (goal_row s.problem (cutoff s), bound_reason rounded (node_multipliers s i s.problem.objective mult))
 
-abbrev pub node_of : Problem → Search → ℕ → CertRow × Why
-node_of p s i = named (ending_line p s i (node_at s i).ending)
-  where
-    named : Row × Why → CertRow × Why
-    named l = (labelled (label_of (codes "N") i) l.0, l.1)
+-- a node that was split into these two
+abbrev pub split_line : State → ℕ × ℕ → Row × Why
+split_line s c = (goal_row s.problem (cutoff s), Uns (node_line s c.0) (assumption_line s c.0) (node_line s c.1) (assumption_line s c.1))
+
+-- node i by its children and its proof; what an open node has to show would be assumed
+abbrev pub line_by : State → ℕ → Option (ℕ × ℕ) → Option Proof → Row × Why
+line_by s i (Some c) proof = split_line s c
+line_by s i None (Some proof) = closed_line s i proof
+line_by s i None None = (goal_row s.problem (cutoff s), Asm)
+
+abbrev pub for_node : ℕ → Row × Why → CertRow × Why
+for_node i l = (labelled (label_of (codes "N") i) l.0, l.1)
+
+abbrev pub node_of : State → List Entry → ℕ → CertRow × Why
+node_of s es i = for_node i (line_by s i (children_at (tree_of s) i) (proof_of es i))
 
 -- the nodes below k, from the greatest number down
-abbrev pub node_lines : Problem → Search → ℕ → List (CertRow × Why)
-node_lines p s zero = []
-node_lines p s (suc i) = node_of p s i ∷ node_lines p s i
+abbrev pub node_lines : State → List Entry → ℕ → List (CertRow × Why)
+node_lines s es zero = []
+node_lines s es (suc i) = node_of s es i ∷ node_lines s es i
 
 -- ---- the whole
-abbrev pub merged : Problem → Search → Cert
-merged p s = record {
-  part = part_of p;
-  claim = claim_of p s.incumbent;
-  points = points_of s.incumbent;
-  lines = cut_lines 0 s.cuts ++ assumption_lines 0 s.nodes ++ node_lines p s (length s.nodes);
+-- of a state, and of the events that led to it
+abbrev pub certificate_of : State → List Entry → Cert
+certificate_of s es = record {
+  part = part_of s.problem;
+  claim = claim_of (cutoff s);
+  points = points_of (point_of s.incumbent);
+  lines = cut_lines 0 s.cuts ++ assumption_lines 0 s.nodes ++ node_lines s es (length s.nodes);
 }
+
+-- of the events of a search
+abbrev pub merged : Problem → List Entry → Cert
+merged p es = certificate_of (state_of p es) es

@@ -1,39 +1,44 @@
 -- The numbers of a certificate's lines: rows, bounds, cuts, assumptions, nodes from the greatest number down to 0.
-use Rattle.std.specs.Prelude.{ℕ, ◌+◌, ◌-◌, ◌*◌, List, [], ◌∷◌, length, Option, Some, None}
+use Rattle.std.specs.Prelude.{◌<◌, ℕ, ◌+◌, ◌-◌, ◌*◌, ◌^◌, List, [], ◌∷◌, length, Option, Some, None}
 use Rattle.problem_box.specs.declared.span.Span.{Span}
 use Rattle.problem.specs.Problem.{Problem}
-use Rattle.cert_merge.specs.Search.{Search, Side, low, high, path_of, setter}
-use Rattle.cert_merge.specs.Closing.{Source}
+use Rattle.node_tree.specs.declared.branch.Side.{Side}
+use Rattle.node_tree.specs.declared.branch.Side.TheVariants.{Low, High}
+use Rattle.node_tree.specs.Paths.{setter, path_at}
+use Rattle.derivation_book.specs.Known.{first_cut}
+use Rattle.event_core.specs.States.{State, tree_of}
+use Rattle.cert_merge.specs.Closing.{BoundSource}
 
--- the rows, and two bounds per column, stand before the cuts
-abbrev pub cut_line : Problem → ℕ → ℕ
-cut_line p i = length p.rows + 2 * length p.spans + i
-
--- the assumption of node i, which is at least 1, behind the cuts
-abbrev pub assumption_line : Problem → Search → ℕ → ℕ
-assumption_line p s i = cut_line p (length s.cuts) + (i - 1)
+-- the assumption of node i, which is at least 1, behind the rows, the bounds and the cuts
+abbrev pub assumption_line : State → ℕ → ℕ
+assumption_line s i = first_cut s.problem + length s.cuts + (i - 1)
 
 -- node i, behind the assumptions
-abbrev pub node_line : Problem → Search → ℕ → ℕ
-node_line p s i = cut_line p (length s.cuts) + (length s.nodes - 1) + (length s.nodes - 1 - i)
+abbrev pub node_line : State → ℕ → ℕ
+node_line s i = first_cut s.problem + length s.cuts + (length s.nodes - 1) + (length s.nodes - 1 - i)
 
 -- the row that states a column's bound in the problem
 abbrev pub bound_line : Problem → ℕ → Side → ℕ
-bound_line p j low = length p.rows + 2 * j
-bound_line p j high = length p.rows + 2 * j + 1
+bound_line p j Low = length p.rows + 2 * j
+bound_line p j High = length p.rows + 2 * j + 1
+
+-- the line of a column's bound that this node's branch set, or no branch
+abbrev pub set_line : State → ℕ → Side → Option ℕ → ℕ
+set_line s j side None = bound_line s.problem j side
+set_line s j side (Some k) = assumption_line s k
 
 -- the line that states the bound in a node's box: the assumption of the deepest node that set it, else the bound in the problem
-abbrev pub line_of_bound : Problem → Search → ℕ → ℕ → Side → ℕ
-line_of_bound p s i j side = chosen (setter j side (path_of s i i))
-  where
-    chosen : Option ℕ → ℕ
-    chosen None = bound_line p j side
-    chosen (Some k) = assumption_line p s k
+abbrev pub line_of_bound : State → ℕ → ℕ → Side → ℕ
+line_of_bound s i j side = set_line s j side (setter j side (path_at (tree_of s) i))
 
 -- for each column from j on
-abbrev pub sources_from : Problem → Search → ℕ → ℕ → List Span → List Source
-sources_from p s i j [] = []
-sources_from p s i j (b ∷ bs) = record { lower = line_of_bound p s i j low; upper = line_of_bound p s i j high } ∷ sources_from p s i (j + 1) bs
+abbrev pub sources_from : State → ℕ → ℕ → List Span → List BoundSource
+sources_from s i j [] = []
+sources_from s i j (b ∷ bs) = record { lower = line_of_bound s i j Low; upper = line_of_bound s i j High } ∷ sources_from s i (j + 1) bs
 
-abbrev pub sources_of : Problem → Search → ℕ → List Source
-sources_of p s i = sources_from p s i 0 p.spans
+abbrev pub sources_of : State → ℕ → List BoundSource
+sources_of s i = sources_from s i 0 s.problem.spans
+
+-- the lines are numbered below 2^32
+abbrev pub IsNumbered : State → Type 0
+IsNumbered s = first_cut s.problem + length s.cuts + 2 * length s.nodes < 2 ^ 32

@@ -1,36 +1,27 @@
-// The certificate of a finished search.
-ghost use Rattle.std.specs.Prelude.{◌≡◌, ◌<◌, ◌+◌, ◌++◌, ◌^◌, IfOk, OnOk, IfSome, length};
-ghost use Rattle.problem_box.specs.Boxes.{IsInBox};
-ghost use Rattle.cert_merge.specs.Merged.{assumption_lines, node_lines, claim_of, points_of, merged};
-ghost use Rattle.cert_merge.specs.Plain.{IsPlain};
-ghost use Rattle.cert_merge.specs.Valued.{value_of};
+// The certificate of a search that has ended.
+ghost use Rattle.std.specs.Prelude.{◌≡◌, ◌<◌, ◌++◌, IfOk, OnOk, length};
+ghost use Rattle.incumbent.specs.Offers.{point_of};
+ghost use Rattle.event_core.specs.States.{open_count};
+ghost use Rattle.cert_merge.specs.Numbers.{IsNumbered};
+ghost use Rattle.cert_merge.specs.Merged.{cut_lines, assumption_lines, node_lines, claim_of, points_of, merged};
 
-use crate::lines::{assumption, node};
+use crate::closings::closings;
+use crate::lines::{assumption, cut_line, node_line};
 use crate::part::problem_part;
-use crate::search::Search;
 use crate::setters::Setters;
 use cert_rows::{Cert, CertRow, Derived, Goal, Points, Why};
+use derivation_book::Book;
+use event_core::State;
 use fraction::Frac;
-use problem::Problem;
+use incumbent::Incumbent;
+use node_tree::Tree;
 use std::alloc::{AllocError, Global};
 
-/// The incumbent's value, if there is an incumbent.
-fn value_of(problem: &Problem, search: &Search) -> Option<Frac>
-    requires { IfSome search.now.incumbent (IsInBox problem.now.spans) }
-    ensures { result ≡ value_of problem.now search.now.incumbent }
-{
-    match search.incumbent() {
-        Some(point) => Some(problem.value(point.as_slice())),
-        None => None,
-    }
-}
-
 /// That the incumbent's value is the least one, or that no point is feasible.
-fn claim(problem: &Problem, search: &Search) -> Goal
-    requires { IfSome search.now.incumbent (IsInBox problem.now.spans) }
-    ensures { result ≡ claim_of problem.now search.now.incumbent }
+fn claim(value: Option<Frac>) -> Goal
+    ensures { result ≡ claim_of value }
 {
-    match value_of(problem, search) {
+    match value {
         Some(value) => Goal::Range {
             lb: value,
             ub: value,
@@ -40,26 +31,37 @@ fn claim(problem: &Problem, search: &Search) -> Goal
 }
 
 /// The incumbent alone, or no point.
-fn points(alloc: Global, search: &Search) -> Result<Points, AllocError>
-    ensures { IfOk result (λ p. p ≡ points_of search.now.incumbent) }
+fn points(alloc: Global, incumbent: &Incumbent) -> Result<Points, AllocError>
+    ensures { IfOk result (λ p. p ≡ points_of (point_of incumbent.now)) }
 {
     let mut items = Vec::new(alloc);
-    if let Some(point) = search.incumbent() {
+    if let Some(point) = incumbent.point() {
         items.push(point.copy(alloc)?)?;
     }
     Ok(Points::make(items))
+}
+
+/// Adds the cuts, in the order of their numbers.
+fn push_cuts(alloc: Global, lines: &mut Vec<(CertRow, Why)>, book: &Book) -> Result<(), AllocError>
+    ensures { OnOk result (lines.new.items ≡ lines.old.items ++ cut_lines 0 book.now.cuts) }
+{
+    for i in 0..book.len() {
+        lines.push(cut_line(alloc, book, i)?)?;
+    }
+    Ok(())
 }
 
 /// Adds the assumptions, in the order of their nodes.
 fn push_assumptions(
     alloc: Global,
     lines: &mut Vec<(CertRow, Why)>,
-    search: &Search,
+    tree: &Tree,
 ) -> Result<(), AllocError>
-    ensures { OnOk result (lines.new.items ≡ lines.old.items ++ assumption_lines 0 search.now.nodes) }
+    ensures { OnOk result (lines.new.items ≡ lines.old.items ++ assumption_lines 0 tree.now.nodes) }
 {
-    for i in 0..search.len() {
-        if let Some(branch) = search.branch(i) {
+    tree.conditions_hold();
+    for i in 0..tree.len() {
+        if let Some(branch) = tree.branch(i as u32) {
             lines.push(assumption(alloc, i, branch)?)?;
         }
     }
@@ -70,34 +72,39 @@ fn push_assumptions(
 fn push_nodes(
     alloc: Global,
     lines: &mut Vec<(CertRow, Why)>,
-    problem: &Problem,
-    search: &Search,
+    state: &State,
 ) -> Result<(), AllocError>
-    requires { IsPlain problem.now search.now }
-    ensures { OnOk result (lines.new.items ≡ lines.old.items ++ node_lines problem.now search.now (length search.now.nodes)) }
+    requires ended { open_count state.now.state ≡ 0 }
+    requires numbered { IsNumbered state.now.state }
+    ensures { OnOk result (lines.new.items ≡ lines.old.items ++ node_lines state.now.state state.now.history (length state.now.state.nodes)) }
 {
-    let value = value_of(problem, search);
-    let mut setters = Setters::new(alloc, problem.columns())?;
-    for done in 0..search.len() {
-        let i = (search.len() - 1 - done) as u32;
-        setters.trace(search, i);
-        lines.push(node(alloc, problem, search, &setters, value, i)?)?;
+    let tree = state.tree();
+    tree.conditions_hold();
+    let closings = closings(alloc, state.history(), tree.len())?;
+    let mut setters = Setters::new(alloc, state.problem().columns())?;
+    for done in 0..tree.len() {
+        let node = (tree.len() - 1 - done) as u32;
+        setters.trace(tree, node);
+        lines.push(node_line(alloc, state, &closings, &setters, node)?)?;
     }
     Ok(())
 }
 
-/// The certificate of a finished search. Its conditions: no cuts; each node that isn't split is closed by an empty column, by the
-/// objective's own bounds, or by one row times 1 or -1; branches, endings and the incumbent are those of the problem's columns and rows;
-/// and all lines are numbered below 2^32. The one error is want of memory.
-pub fn merge(alloc: Global, problem: &Problem, search: &Search) -> Result<Cert, AllocError>
-    requires { IsPlain problem.now search.now }
-    ensures { IfOk result (λ c. c ≡ merged problem.now search.now) }
+/// The certificate of a search in which no node is open: that the incumbent is a best point, or that no point is feasible. The one error is want
+/// of memory.
+pub fn merge(alloc: Global, state: &State) -> Result<Cert, AllocError>
+    requires { open_count state.now.state ≡ 0 }
+    ensures { IfOk result (λ c. c ≡ merged state.now.state.problem state.now.history) }
 {
-    let part = problem_part(alloc, problem)?;
-    let claim = claim(problem, search);
-    let points = points(alloc, search)?;
+    state.conditions_hold();
+    state.tree().conditions_hold();
+    state.problem().limits_hold();
+    let part = problem_part(alloc, state.problem())?;
+    let claim = claim(state.incumbent().cutoff());
+    let points = points(alloc, state.incumbent())?;
     let mut lines = Vec::new(alloc);
-    push_assumptions(alloc, &mut lines, search)?;
-    push_nodes(alloc, &mut lines, problem, search)?;
+    push_cuts(alloc, &mut lines, state.book())?;
+    push_assumptions(alloc, &mut lines, state.tree())?;
+    push_nodes(alloc, &mut lines, state)?;
     Ok(Cert::make(part, claim, points, Derived::make(lines)))
 }

@@ -1,6 +1,6 @@
 //! Laws of certificates.
 
-ghost use Rattle.cert_merge.specs.Laws.{InfeasibilityHolds, RangeHolds, ClosingsClose, FinishedTreesFollow};
+ghost use Rattle.cert_merge.specs.Laws.{InfeasibilityHolds, RangeHolds, ClosingsClose, FinishedTreesFollow, MergedIsOrdered};
 
 use cert_rows::Cert;
 use problem::Problem;
@@ -19,4 +19,9 @@ pub fn closings_close()
 /// The lines of a finished tree follow, and the last one shows the goal without assumptions.
 pub fn finished_trees_follow()
     ensures { FinishedTreesFollow }
+{}
+
+/// In the certificate of a finished search the multipliers of each line rise by their numbers, and none is 0, as it is with those of the events.
+pub fn multipliers_are_ordered(_problem: &Problem)
+    ensures { MergedIsOrdered _problem.now }
 {}

@@ -1,18 +1,13 @@
-//! Certificates of finished searches, and the laws of certificates.
+//! Certificates of searches that have ended, and the laws of certificates.
 #![tactic(auto)]
 
 mod certificate;
+mod closings;
 pub mod laws;
 mod lines;
 mod multipliers;
-mod node;
 mod numbers;
 mod part;
-mod search;
 mod setters;
-#[cfg(test)]
-mod tests;
 
 pub use certificate::merge;
-pub use node::{Branch, Cut, Ending, Node, Side};
-pub use search::{OpenSearch, Search};

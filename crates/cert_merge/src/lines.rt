@@ -1,29 +1,43 @@
 // The derived lines of a certificate.
-ghost use Rattle.std.specs.Prelude.{◌≡◌, ◌<◌, false, [], IfOk, length, codes};
-ghost use Rattle.cert_rows.specs.declared.line.Why.TheVariants.{Asm, Lin, Uns};
-ghost use Rattle.cert_merge.specs.Search.{node_at};
-ghost use Rattle.cert_merge.specs.Nodes.{side_of, branch_of};
-ghost use Rattle.cert_merge.specs.Numbers.{assumption_line, node_line};
-ghost use Rattle.cert_merge.specs.Merged.{label_of, labelled, absurd_row, branch_row, node_of};
-ghost use Rattle.cert_merge.specs.Closing.{all_placed};
-ghost use Rattle.cert_merge.specs.Plain.{IsNumbered, IsOneRow, IsPlain};
-ghost use Rattle.cert_merge.specs.Setters.{AreSetters, NameNodes, bound_multipliers_by, crossing_by};
-ghost use Rattle.cert_merge.specs.Valued.{value_of, row_to_show, node_row, sense_for, refuting};
+ghost use Rattle.std.specs.Prelude.{◌≡◌, ◌<◌, [], IfOk, length, option_map, slice_get, codes};
+ghost use Rattle.node_tree.specs.Nodes.{children_at};
+ghost use Rattle.derivation_book.specs.Legal.{AreProofMultipliers, IsLegalProof};
+ghost use Rattle.derivation_book.specs.Price.{HasPrice};
+ghost use Rattle.event_core.specs.States.{tree_of, box_of, cutoff, open_count};
+ghost use Rattle.cert_merge.specs.Endings.{AreClosings};
+ghost use Rattle.cert_merge.specs.Numbers.{IsNumbered};
+ghost use Rattle.cert_merge.specs.Merged.{label_of, labelled, absurd_row, goal_row, sense_for, branch_row, cut_line, node_multipliers, bound_reason, crossing, closed_line, split_line, for_node, node_of};
+ghost use Rattle.cert_merge.specs.Setters.{AreSettersOf};
+ghost use Rattle.cert_rows.specs.declared.line.Why.TheVariants.{Asm, Lin};
+ghost use Rattle.node_events.specs.declared.proof.Proof.TheVariants.{Empty, Refute, Bound};
 
-use crate::multipliers::{crossing, fill, is_positive};
-use crate::node::{Branch, Ending, Side};
+use crate::closings::proof_at;
+use crate::multipliers::{crossing, node_multipliers};
 use crate::numbers::{assumption_number, node_number};
-use crate::part::{label, unit_terms};
-use crate::search::Search;
+use crate::part::{labelled_row, unit_terms};
 use crate::setters::Setters;
-use cert_rows::{CertRow, Why};
+use cert_rows::{CertRow, Label, Why};
+use derivation_book::Book;
+use event_core::State;
 use fraction::Frac;
+use node_events::{Mult, Proof};
+use node_tree::{Branch, Side};
 use problem::{Problem, Sense, Terms};
 use std::alloc::{AllocError, Global};
 
+/// The line of a cut that is there.
+pub fn cut_line(alloc: Global, book: &Book, index: usize) -> Result<(CertRow, Why), AllocError>
+    requires { index < length book.now.cuts }
+    ensures { IfOk result (λ l. option_map (cut_line index) (slice_get book.now.cuts index) ≡ Some l) }
+{
+    let row = labelled_row(alloc, b'K', index, book.cut(index))?;
+    let mult = book.mult(index).terms().copy(alloc)?;
+    Ok((row, Why::Rnd { mult }))
+}
+
 /// The sense of a row that states a bound.
 fn sense_for(side: Side) -> Sense
-    ensures { result ≡ sense_for (side_of side) }
+    ensures { result ≡ sense_for side }
 {
     match side {
         Side::Low => Sense::G,
@@ -33,12 +47,11 @@ fn sense_for(side: Side) -> Sense
 
 /// The assumption of a node: the bound that its branch sets.
 pub fn assumption(alloc: Global, node: usize, branch: Branch) -> Result<(CertRow, Why), AllocError>
-    ensures { IfOk result (λ l. l ≡ (labelled (label_of (codes "A") node) (branch_row (branch_of branch)), Asm)) }
+    ensures { IfOk result (λ l. l ≡ (labelled (label_of (codes "A") node) (branch_row branch), Asm)) }
 {
-    let label = label(alloc, "A", node)?;
     let terms = unit_terms(alloc, branch.column as usize)?;
     let row = CertRow {
-        label,
+        label: Label::make(b'A', node),
         sense: sense_for(branch.side),
         rhs: Frac::of(branch.bound as i128),
         terms,
@@ -47,16 +60,15 @@ pub fn assumption(alloc: Global, node: usize, branch: Branch) -> Result<(CertRow
 }
 
 /// The row `0 >= 1` of a node.
-fn absurd_row(alloc: Global, node: u32) -> Result<CertRow, AllocError>
-    ensures { IfOk result (λ r. r ≡ node_row node absurd_row) }
+fn absurd_row(alloc: Global, node: u32) -> CertRow
+    ensures { result ≡ labelled (label_of (codes "N") node) absurd_row }
 {
-    let label = label(alloc, "N", node as usize)?;
-    Ok(CertRow {
-        label,
+    CertRow {
+        label: Label::make(b'N', node as usize),
         sense: Sense::G,
         rhs: Frac::of(1),
         terms: Terms::new(alloc),
-    })
+    }
 }
 
 /// The row of a node that shows what node 0 has to: the objective is at least the incumbent's value, or `0 >= 1`.
@@ -66,15 +78,14 @@ fn goal_row(
     value: Option<Frac>,
     node: u32,
 ) -> Result<CertRow, AllocError>
-    ensures { IfOk result (λ r. r ≡ node_row node (row_to_show problem.now value)) }
+    ensures { IfOk result (λ r. r ≡ labelled (label_of (codes "N") node) (goal_row problem.now value)) }
 {
     match value {
-        None => absurd_row(alloc, node),
+        None => Ok(absurd_row(alloc, node)),
         Some(rhs) => {
-            let label = label(alloc, "N", node as usize)?;
             let terms = problem.objective().copy(alloc)?;
             Ok(CertRow {
-                label,
+                label: Label::make(b'N', node as usize),
                 sense: Sense::G,
                 rhs,
                 terms,
@@ -86,136 +97,141 @@ fn goal_row(
 /// The line of a node whose bounds of a column cross.
 fn crossed_line(
     alloc: Global,
-    problem: &Problem,
-    search: &Search,
+    state: &State,
     setters: &Setters,
     node: u32,
     column: u32,
 ) -> Result<(CertRow, Why), AllocError>
-    requires numbered { IsNumbered problem.now search.now }
-    requires columns { length setters.now ≡ length problem.now.spans }
-    requires nodes { NameNodes (length search.now.nodes) setters.now }
-    requires there { column < length problem.now.spans }
-    ensures { IfOk result (λ l. l ≡ (node_row node absurd_row, Lin (crossing_by problem.now search.now setters.now column))) }
+    requires numbered { IsNumbered state.now.state }
+    requires setters { AreSettersOf state.now.state node setters.now }
+    requires there { column < length state.now.state.problem.spans }
+    ensures { IfOk result (λ l. l ≡ for_node node (closed_line state.now.state node (Empty column))) }
 {
-    let row = absurd_row(alloc, node)?;
-    let mult = crossing(alloc, problem, search, setters, column)?;
+    let row = absurd_row(alloc, node);
+    let mult = crossing(alloc, state, setters, node, column)?;
     Ok((row, Why::Lin { mult }))
 }
 
-/// The line of a node that one row refutes over the node's box.
+/// The line of a node that a combination refutes over the node's box.
 fn refuted_line(
     alloc: Global,
-    problem: &Problem,
-    search: &Search,
+    state: &State,
     setters: &Setters,
     node: u32,
-    mult: &Terms,
+    mult: &Mult,
 ) -> Result<(CertRow, Why), AllocError>
-    requires numbered { IsNumbered problem.now search.now }
-    requires columns { length setters.now ≡ length problem.now.spans }
-    requires nodes { NameNodes (length search.now.nodes) setters.now }
-    requires one { IsOneRow problem.now mult.now }
-    ensures { IfOk result (λ l. l ≡ (node_row node absurd_row, Lin (refuting problem.now search.now setters.now mult.now))) }
+    requires numbered { IsNumbered state.now.state }
+    requires setters { AreSettersOf state.now.state node setters.now }
+    requires multipliers { AreProofMultipliers state.now.state.problem state.now.state.cuts mult.now }
+    requires priced { HasPrice state.now.state.problem state.now.state.cuts [] mult.now }
+    ensures { IfOk result (λ l. l ≡ for_node node (closed_line state.now.state node (Refute mult.now))) }
 {
-    problem.limits_hold();
-    let row = absurd_row(alloc, node)?;
-    let (line, factor) = mult.as_slice()[0].pair();
-    let terms = &problem.row(line as usize).terms;
-    let mut items = Vec::new(alloc);
-    items.push((line, factor))?;
-    let mult = fill(
-        alloc,
-        problem,
-        search,
-        setters,
-        is_positive(factor),
-        terms.as_slice(),
-        items,
-    )?;
+    let row = absurd_row(alloc, node);
+    let mult = node_multipliers(alloc, state, setters, node, &[], mult)?;
     Ok((row, Why::Lin { mult }))
 }
 
-/// The line of a node over whose box the objective reaches the incumbent's value by itself.
+/// Why a bound of the objective follows.
+fn bound_reason(rounded: bool, mult: Terms) -> Why
+    ensures { result ≡ bound_reason rounded mult }
+{
+    if rounded {
+        Why::Rnd { mult }
+    } else {
+        Why::Lin { mult }
+    }
+}
+
+/// The line of a node over whose box a combination bounds the objective by the incumbent's value.
 fn bounded_line(
     alloc: Global,
-    problem: &Problem,
-    search: &Search,
+    state: &State,
     setters: &Setters,
-    value: Option<Frac>,
     node: u32,
+    mult: &Mult,
+    rounded: bool,
 ) -> Result<(CertRow, Why), AllocError>
-    requires numbered { IsNumbered problem.now search.now }
-    requires columns { length setters.now ≡ length problem.now.spans }
-    requires nodes { NameNodes (length search.now.nodes) setters.now }
-    ensures { IfOk result (λ l. l ≡ (node_row node (row_to_show problem.now value), Lin (all_placed (bound_multipliers_by problem.now search.now setters.now false problem.now.objective) []))) }
+    requires numbered { IsNumbered state.now.state }
+    requires setters { AreSettersOf state.now.state node setters.now }
+    requires multipliers { AreProofMultipliers state.now.state.problem state.now.state.cuts mult.now }
+    requires priced { HasPrice state.now.state.problem state.now.state.cuts state.now.state.problem.objective mult.now }
+    ensures { IfOk result (λ l. l ≡ for_node node (closed_line state.now.state node (Bound mult.now rounded))) }
 {
+    let problem = state.problem();
     problem.limits_hold();
-    let row = goal_row(alloc, problem, value, node)?;
-    let mult = fill(
-        alloc,
-        problem,
-        search,
-        setters,
-        false,
-        problem.objective().as_slice(),
-        Vec::new(alloc),
-    )?;
-    Ok((row, Why::Lin { mult }))
+    let row = goal_row(alloc, problem, state.incumbent().cutoff(), node)?;
+    let target = problem.objective().as_slice();
+    let mult = node_multipliers(alloc, state, setters, node, target, mult)?;
+    Ok((row, bound_reason(rounded, mult)))
+}
+
+/// The line of a node that was closed by this proof, which is legal as things stand.
+fn closed_line(
+    alloc: Global,
+    state: &State,
+    setters: &Setters,
+    node: u32,
+    proof: &Proof,
+) -> Result<(CertRow, Why), AllocError>
+    requires numbered { IsNumbered state.now.state }
+    requires setters { AreSettersOf state.now.state node setters.now }
+    requires legal { IsLegalProof state.now.state.problem state.now.state.cuts (box_of state.now.state node) (cutoff state.now.state) proof.now }
+    ensures { IfOk result (λ l. l ≡ for_node node (closed_line state.now.state node proof.now)) }
+{
+    match proof {
+        Proof::Empty { column } => crossed_line(alloc, state, setters, node, *column),
+        Proof::Refute { mult } => refuted_line(alloc, state, setters, node, mult),
+        Proof::Bound { mult, rounded } => {
+            bounded_line(alloc, state, setters, node, mult, *rounded)
+        }
+    }
 }
 
 /// The line of a node that was split into two.
 fn split_line(
     alloc: Global,
-    problem: &Problem,
-    search: &Search,
-    value: Option<Frac>,
+    state: &State,
     node: u32,
     left: u32,
     right: u32,
 ) -> Result<(CertRow, Why), AllocError>
-    requires numbered { IsNumbered problem.now search.now }
-    requires left { left < length search.now.nodes }
-    requires right { right < length search.now.nodes }
-    ensures { IfOk result (λ l. l ≡ (
-      node_row node (row_to_show problem.now value),
-      Uns (node_line problem.now search.now left) (assumption_line problem.now search.now left) (node_line problem.now search.now right) (assumption_line problem.now search.now right),
-    )) }
+    requires numbered { IsNumbered state.now.state }
+    requires left { left < length state.now.state.nodes }
+    requires right { right < length state.now.state.nodes }
+    ensures { IfOk result (λ l. l ≡ for_node node (split_line state.now.state (left, right))) }
 {
-    let row = goal_row(alloc, problem, value, node)?;
+    let row = goal_row(alloc, state.problem(), state.incumbent().cutoff(), node)?;
     let why = Why::Uns {
-        i1: node_number(problem, search, left),
-        l1: assumption_number(problem, search, left),
-        i2: node_number(problem, search, right),
-        l2: assumption_number(problem, search, right),
+        i1: node_number(state, left),
+        l1: assumption_number(state, left),
+        i2: node_number(state, right),
+        l2: assumption_number(state, right),
     };
     Ok((row, why))
 }
 
-/// The line of a node whose setters these are.
-pub fn node(
+/// The line of a node of a search that has ended: these are the places of the events that closed nodes, and the node's setters.
+pub fn node_line(
     alloc: Global,
-    problem: &Problem,
-    search: &Search,
+    state: &State,
+    closings: &[usize],
     setters: &Setters,
-    value: Option<Frac>,
     node: u32,
 ) -> Result<(CertRow, Why), AllocError>
-    requires plain { IsPlain problem.now search.now }
-    requires value { value ≡ value_of problem.now search.now.incumbent }
-    requires there { node < length search.now.nodes }
-    requires columns { length setters.now ≡ length problem.now.spans }
-    requires setters { AreSetters search.now node setters.now }
-    requires nodes { NameNodes (length search.now.nodes) setters.now }
-    ensures { IfOk result (λ l. l ≡ node_of problem.now search.now node) }
+    requires ended { open_count state.now.state ≡ 0 }
+    requires numbered { IsNumbered state.now.state }
+    requires there { node < length state.now.state.nodes }
+    requires places { AreClosings state.now.history closings.now }
+    requires all { length closings.now ≡ length state.now.state.nodes }
+    requires setters { AreSettersOf state.now.state node setters.now }
+    ensures { IfOk result (λ l. l ≡ node_of state.now.state state.now.history node) }
 {
-    problem.limits_hold();
-    match search.ending(node as usize) {
-        Ending::Empty { column } => crossed_line(alloc, problem, search, setters, node, *column),
-        Ending::Refute { mult } => refuted_line(alloc, problem, search, setters, node, mult),
-        Ending::Bound { .. } => bounded_line(alloc, problem, search, setters, value, node),
-        Ending::Split { left, right, .. } => split_line(
-            alloc, problem, search, value, node, *left, *right,
-        ),
+    state.conditions_hold();
+    match state.tree().children(node) {
+        Some((left, right)) => split_line(alloc, state, node, left, right),
+        None => {
+            let proof = proof_at(state.history(), closings[node as usize], node);
+            closed_line(alloc, state, setters, node, proof)
+        }
     }
 }

@@ -1,117 +1,157 @@
 // The multipliers of closed nodes.
-ghost use Rattle.std.specs.Prelude.{◌≡◌, ◌<◌, ◌≤◌, ℕ, pos, int_lt, [], length, All, IfOk, OnOk, reverse, take, map};
-ghost use Rattle.std.specs.List.{insert};
-ghost use Rattle.fraction.specs.Rational.{ℚ};
-ghost use Rattle.cert_merge.specs.Closing.{placed, all_placed};
-ghost use Rattle.cert_merge.specs.Plain.{IsNumbered};
-ghost use Rattle.cert_merge.specs.Setters.{NameNodes, signed, bound_multiplier_by, bound_multipliers_by, crossing_by};
+ghost use Rattle.std.specs.Prelude.{◌≡◌, ◌<◌, ◌++◌, [], ◌∷◌, pos, int_lt, if◌then◌else◌, IfOk, OnOk, length, slice_index_or};
+ghost use Rattle.std.specs.List.Sorted.{IsPermutation, IsNonDecreasingBy};
+ghost use Rattle.fraction.specs.Rational.{whole};
+ghost use Rattle.problem.specs.Rising.{AreRising};
+ghost use Rattle.node_tree.specs.declared.branch.Side.TheVariants.{Low, High};
+ghost use Rattle.derivation_book.specs.Rounded.{is_zero};
+ghost use Rattle.derivation_book.specs.Legal.{AreProofMultipliers};
+ghost use Rattle.derivation_book.specs.Price.{HasPrice};
+ghost use Rattle.cert_merge.specs.Closing.{bound_multipliers};
+ghost use Rattle.cert_merge.specs.Numbers.{set_line, IsNumbered};
+ghost use Rattle.cert_merge.specs.Merged.{node_multipliers, crossing};
+ghost use Rattle.cert_merge.specs.Setters.{set_at, NameNodes, AreSettersOf, sources_by};
 
-use crate::node::Side;
 use crate::numbers::bound_number;
-use crate::search::Search;
 use crate::setters::Setters;
+use event_core::State;
 use fraction::Frac;
-use problem::{Problem, Term, Terms};
+use node_events::Mult;
+use node_tree::Side;
+use problem::{Term, Terms};
 use std::alloc::{AllocError, Global};
 
-/// Whether a number is above 0.
-pub fn is_positive(value: Frac) -> bool
-    ensures { result ≡ int_lt (pos 0) value.num }
+/// The line of a bound of a column in the box of the node whose setters these are.
+fn line_of(state: &State, setters: &Setters, column: u32, side: Side) -> u32
+    requires numbered { IsNumbered state.now.state }
+    requires columns { length setters.now ≡ length state.now.state.problem.spans }
+    requires nodes { NameNodes (length state.now.state.nodes) setters.now }
+    requires there { column < length setters.now }
+    ensures { result ≡ set_line state.now.state column side (set_at setters.now column side) }
 {
-    value.numer() > 0
+    bound_number(state, column, side, setters.get(column as usize, side))
 }
 
-/// Where a multiplier goes in a list whose lines fall: behind those of greater lines. Mostly it is the end.
-fn place_of(items: &[(u32, Frac)], line: u32) -> usize
-    ensures there { result ≤ length items.now }
-    ensures place { (v : ℚ) → placed (line, v) (reverse items.now) ≡ reverse (insert items.now result (line, v)) }
+/// What is left of a column, on the line of the bound that it goes to.
+fn bound_multiplier(state: &State, setters: &Setters, column: u32, left: Frac) -> (u32, Frac)
+    requires numbered { IsNumbered state.now.state }
+    requires columns { length setters.now ≡ length state.now.state.problem.spans }
+    requires nodes { NameNodes (length state.now.state.nodes) setters.now }
+    requires there { column < length setters.now }
+    ensures { result ≡ (if int_lt (pos 0) left.num then set_line state.now.state column Low (set_at setters.now column Low) else set_line state.now.state column High (set_at setters.now column High), left) }
 {
-    let mut at = items.len();
-    while at > 0 && items[at - 1].0 <= line {
-        at -= 1;
-    }
-    at
-}
-
-/// Puts a multiplier into a list whose lines fall.
-fn place(items: &mut Vec<(u32, Frac)>, item: (u32, Frac)) -> Result<(), AllocError>
-    ensures { OnOk result (reverse items.new.items ≡ placed item (reverse items.old.items)) }
-{
-    let at = place_of(items.as_slice(), item.0);
-    items.insert(at, item)?;
-    Ok(())
-}
-
-/// What a closed node leaves of a column, on the line of the bound that it goes to.
-fn bound_multiplier_by(
-    problem: &Problem,
-    search: &Search,
-    setters: &Setters,
-    negated: bool,
-    term: (u32, Frac),
-) -> (u32, Frac)
-    requires numbered { IsNumbered problem.now search.now }
-    requires columns { length setters.now ≡ length problem.now.spans }
-    requires nodes { NameNodes (length search.now.nodes) setters.now }
-    requires there { term.0 < length problem.now.spans }
-    ensures { result ≡ bound_multiplier_by problem.now search.now setters.now negated term }
-{
-    let value = if negated { term.1.neg() } else { term.1 };
-    let side = if is_positive(value) {
+    let side = if left.numer() > 0 {
         Side::Low
     } else {
         Side::High
     };
-    (bound_number(problem, search, setters, term.0, side), value)
+    (line_of(state, setters, column, side), left)
 }
 
-/// The multipliers of a proof, whose lines fall, filled up by the bounds of a node's box to what these terms leave.
-pub fn fill(
-    alloc: Global,
-    problem: &Problem,
-    search: &Search,
+/// Puts what is left of a column, if anything is, behind other multipliers.
+fn push_bound(
+    items: &mut Vec<(u32, Frac)>,
+    state: &State,
     setters: &Setters,
-    negated: bool,
-    terms: &[Term],
-    mult: Vec<(u32, Frac)>,
-) -> Result<Terms, AllocError>
-    requires numbered { IsNumbered problem.now search.now }
-    requires columns { length setters.now ≡ length problem.now.spans }
-    requires nodes { NameNodes (length search.now.nodes) setters.now }
-    requires there { All (λ t. t.0 < length problem.now.spans) terms.now }
-    ensures { IfOk result (λ m. m ≡ all_placed (bound_multipliers_by problem.now search.now setters.now negated terms.now) (reverse mult.items)) }
+    column: u32,
+    left: Frac,
+) -> Result<(), AllocError>
+    requires numbered { IsNumbered state.now.state }
+    requires columns { length setters.now ≡ length state.now.state.problem.spans }
+    requires nodes { NameNodes (length state.now.state.nodes) setters.now }
+    requires there { column < length setters.now }
+    ensures { OnOk result (items.new.items ≡ (if is_zero left then items.old.items else items.old.items ++ (if int_lt (pos 0) left.num then set_line state.now.state column Low (set_at setters.now column Low) else set_line state.now.state column High (set_at setters.now column High), left) ∷ [])) }
 {
-    let mut items = mult;
-    for done in 0..terms.len() {
-        let term = terms[terms.len() - 1 - done].pair();
-        place(
-            &mut items,
-            bound_multiplier_by(problem, search, setters, negated, term),
-        )?;
+    if left.numer() != 0 {
+        items.push(bound_multiplier(state, setters, column, left))?;
     }
-    items.reverse();
+    Ok(())
+}
+
+/// What is left of each column, on the line of the bound that it goes to.
+fn bound_multipliers(
+    alloc: Global,
+    state: &State,
+    setters: &Setters,
+    costs: &[Frac],
+) -> Result<Vec<(u32, Frac)>, AllocError>
+    requires numbered { IsNumbered state.now.state }
+    requires columns { length setters.now ≡ length state.now.state.problem.spans }
+    requires nodes { NameNodes (length state.now.state.nodes) setters.now }
+    requires costs { length costs.now ≡ length setters.now }
+    ensures { IfOk result (λ v. v.items ≡ bound_multipliers (λ j. slice_index_or costs.now j (whole (pos 0))) 0 (sources_by state.now.state 0 setters.now)) }
+{
+    state.problem().limits_hold();
+    let mut items = Vec::new(alloc);
+    for (column, left) in costs.iter().enumerate() {
+        push_bound(&mut items, state, setters, column as u32, *left)?;
+    }
+    Ok(items)
+}
+
+/// Puts multipliers behind others.
+fn push_all(items: &mut Vec<(u32, Frac)>, mult: &[Term]) -> Result<(), AllocError>
+    ensures { OnOk result (items.new.items ≡ items.old.items ++ mult.now) }
+{
+    for multiplier in mult {
+        items.push(multiplier.pair())?;
+    }
+    Ok(())
+}
+
+/// The multipliers by rising number.
+fn sorted(alloc: Global, mut items: Vec<(u32, Frac)>) -> Result<Terms, AllocError>
+    ensures moved { IfOk result (λ t. IsPermutation items.items t) }
+    ensures rising { IfOk result (λ t. IsNonDecreasingBy (λ m. m.0) t) }
+{
+    items.sort_unstable_by_key(|item| item.0);
     Terms::make(alloc, items.as_slice())
+}
+
+/// The multipliers of a node that a combination closes: those of the combination, and what it leaves of the target's columns on the lines of
+/// the bounds of the node's box.
+pub fn node_multipliers(
+    alloc: Global,
+    state: &State,
+    setters: &Setters,
+    _node: u32,
+    target: &[Term],
+    mult: &Mult,
+) -> Result<Terms, AllocError>
+    requires numbered { IsNumbered state.now.state }
+    requires setters { AreSettersOf state.now.state _node setters.now }
+    requires rising { AreRising target.now }
+    requires multipliers { AreProofMultipliers state.now.state.problem state.now.state.cuts mult.now }
+    requires priced { HasPrice state.now.state.problem state.now.state.cuts target.now mult.now }
+    ensures { IfOk result (λ m. m ≡ node_multipliers state.now.state _node target.now mult.now) }
+{
+    state.conditions_hold();
+    let costs = state
+        .book()
+        .reduced_costs(alloc, state.problem(), target, mult)?;
+    let mut items = bound_multipliers(alloc, state, setters, &costs)?;
+    push_all(&mut items, mult.as_slice())?;
+    sorted(alloc, items)
 }
 
 /// The multipliers of a node whose box has a column without numbers: the lower bound once, less the upper one.
 pub fn crossing(
     alloc: Global,
-    problem: &Problem,
-    search: &Search,
+    state: &State,
     setters: &Setters,
+    _node: u32,
     column: u32,
 ) -> Result<Terms, AllocError>
-    requires numbered { IsNumbered problem.now search.now }
-    requires columns { length setters.now ≡ length problem.now.spans }
-    requires nodes { NameNodes (length search.now.nodes) setters.now }
-    requires there { column < length problem.now.spans }
-    ensures { IfOk result (λ m. m ≡ crossing_by problem.now search.now setters.now column) }
+    requires numbered { IsNumbered state.now.state }
+    requires setters { AreSettersOf state.now.state _node setters.now }
+    requires there { column < length state.now.state.problem.spans }
+    ensures { IfOk result (λ m. m ≡ crossing state.now.state _node column) }
 {
-    let mut items = Vec::new(alloc);
-    let upper = bound_number(problem, search, setters, column, Side::High);
-    items.push((upper, Frac::of(-1)))?;
-    let lower = bound_number(problem, search, setters, column, Side::Low);
-    place(&mut items, (lower, Frac::of(1)))?;
-    items.reverse();
-    Terms::make(alloc, items.as_slice())
+    let lower = (line_of(state, setters, column, Side::Low), Frac::of(1));
+    let upper = (line_of(state, setters, column, Side::High), Frac::of(-1));
+    if lower.0 < upper.0 {
+        Terms::make(alloc, &[lower, upper])
+    } else {
+        Terms::make(alloc, &[upper, lower])
+    }
 }

@@ -1,40 +1,45 @@
 // The numbers of a certificate's lines.
-ghost use Rattle.std.specs.Prelude.{◌≡◌, ◌<◌, ◌+◌, ◌*◌, length};
-ghost use Rattle.cert_merge.specs.Nodes.{side_of};
-ghost use Rattle.cert_merge.specs.Numbers.{assumption_line, node_line, bound_line};
-ghost use Rattle.cert_merge.specs.Plain.{IsNumbered};
-ghost use Rattle.cert_merge.specs.Setters.{NameNodes, line_by};
+ghost use Rattle.std.specs.Prelude.{◌≡◌, ◌<◌, ◌+◌, length, IfSome};
+ghost use Rattle.derivation_book.specs.Known.{first_cut};
+ghost use Rattle.cert_merge.specs.Numbers.{assumption_line, node_line, bound_line, set_line, IsNumbered};
 
-use crate::node::Side;
-use crate::search::Search;
-use crate::setters::Setters;
+use event_core::State;
+use node_tree::Side;
 use problem::Problem;
 
-/// The line of the assumption of a node that is there. Node 0 has none, and stands with node 1.
-pub fn assumption_number(problem: &Problem, search: &Search, node: u32) -> u32
-    requires numbered { IsNumbered problem.now search.now }
-    requires there { node < length search.now.nodes }
-    ensures { result ≡ assumption_line problem.now search.now node }
+/// The line of the first assumption.
+fn first_assumption(state: &State) -> usize
+    requires { IsNumbered state.now.state }
+    ensures { result ≡ first_cut state.now.state.problem + length state.now.state.cuts }
 {
-    let first = problem.rows() + 2 * problem.columns() + search.cuts();
-    (first + (node as usize).saturating_sub(1)) as u32
+    let problem = state.problem();
+    problem.limits_hold();
+    problem.rows() + 2 * problem.columns() + state.book().len()
+}
+
+/// The line of the assumption of a node that is there. Node 0 has none, and stands with node 1.
+pub fn assumption_number(state: &State, node: u32) -> u32
+    requires numbered { IsNumbered state.now.state }
+    requires there { node < length state.now.state.nodes }
+    ensures { result ≡ assumption_line state.now.state node }
+{
+    (first_assumption(state) + (node as usize).saturating_sub(1)) as u32
 }
 
 /// The line of a node that is there.
-pub fn node_number(problem: &Problem, search: &Search, node: u32) -> u32
-    requires numbered { IsNumbered problem.now search.now }
-    requires there { node < length search.now.nodes }
-    ensures { result ≡ node_line problem.now search.now node }
+pub fn node_number(state: &State, node: u32) -> u32
+    requires numbered { IsNumbered state.now.state }
+    requires there { node < length state.now.state.nodes }
+    ensures { result ≡ node_line state.now.state node }
 {
-    let first = problem.rows() + 2 * problem.columns() + search.cuts();
-    let greatest = search.len() - 1;
-    (first + greatest + (greatest - node as usize)) as u32
+    let greatest = state.tree().len() - 1;
+    (first_assumption(state) + greatest + (greatest - node as usize)) as u32
 }
 
 /// The row of a column's bound in the problem.
 fn bound_row(problem: &Problem, column: u32, side: Side) -> u32
     requires { column < length problem.now.spans }
-    ensures { result ≡ bound_line problem.now column (side_of side) }
+    ensures { result ≡ bound_line problem.now column side }
 {
     problem.limits_hold();
     let lower = problem.rows() as u32 + 2 * column;
@@ -44,22 +49,15 @@ fn bound_row(problem: &Problem, column: u32, side: Side) -> u32
     }
 }
 
-/// The line of a column's bound in the box of the node whose setters these are.
-pub fn bound_number(
-    problem: &Problem,
-    search: &Search,
-    setters: &Setters,
-    column: u32,
-    side: Side,
-) -> u32
-    requires numbered { IsNumbered problem.now search.now }
-    requires columns { length setters.now ≡ length problem.now.spans }
-    requires nodes { NameNodes (length search.now.nodes) setters.now }
-    requires there { column < length problem.now.spans }
-    ensures { result ≡ line_by problem.now search.now setters.now column (side_of side) }
+/// The line of a column's bound that this node's branch set, or no branch.
+pub fn bound_number(state: &State, column: u32, side: Side, setter: Option<u32>) -> u32
+    requires numbered { IsNumbered state.now.state }
+    requires column_there { column < length state.now.state.problem.spans }
+    requires node_there { IfSome setter (λ k. k < length state.now.state.nodes) }
+    ensures { result ≡ set_line state.now.state column side setter }
 {
-    match setters.get(column as usize, side) {
-        Some(node) => assumption_number(problem, search, node),
-        None => bound_row(problem, column, side),
+    match setter {
+        Some(node) => assumption_number(state, node),
+        None => bound_row(state.problem(), column, side),
     }
 }

@@ -1,27 +1,14 @@
 // The problem part of a certificate.
 ghost use Rattle.std.specs.Prelude.{◌≡◌, ◌<◌, ◌≤◌, ◌++◌, ◌^◌, [], ◌∷◌, pos, IfOk, OnOk, ℕ, take, length, codes, map};
-ghost use Rattle.std.specs.Fmt.{decimal};
 ghost use Rattle.fraction.specs.Rational.{whole};
 ghost use Rattle.cert_rows.specs.Validity.{lower_row, upper_row};
 ghost use Rattle.cert_merge.specs.Merged.{label_of, labelled, row_lines, bound_lines, part_of};
 
 use cert_rows::{CertRow, CertRows, Label, Part};
 use fraction::Frac;
-use itoa::Buffer;
 use problem::{Problem, Row, Sense, Terms};
 use problem_box::{IntBox, Span};
 use std::alloc::{AllocError, Global};
-
-/// A letter with a number.
-pub fn label(alloc: Global, letter: &str, number: usize) -> Result<Label, AllocError>
-    ensures { IfOk result (λ l. l ≡ label_of letter.now number) }
-{
-    let mut text = String::new(alloc);
-    text.push_str(letter)?;
-    let mut buffer = Buffer::new();
-    text.push_str(buffer.format(number))?;
-    Ok(Label::make(text))
-}
 
 /// One column with the coefficient 1.
 pub fn unit_terms(alloc: Global, column: usize) -> Result<Terms, AllocError>
@@ -31,13 +18,18 @@ pub fn unit_terms(alloc: Global, column: usize) -> Result<Terms, AllocError>
     Terms::make(alloc, &[(column as u32, Frac::of(1))])
 }
 
-fn labelled_row(alloc: Global, number: usize, row: &Row) -> Result<CertRow, AllocError>
-    ensures { IfOk result (λ r. r ≡ labelled (label_of (codes "R") number) row.now) }
+/// A row with a letter and a number.
+pub fn labelled_row(
+    alloc: Global,
+    letter: u8,
+    number: usize,
+    row: &Row,
+) -> Result<CertRow, AllocError>
+    ensures { IfOk result (λ r. r ≡ labelled (label_of (letter ∷ []) number) row.now) }
 {
-    let label = label(alloc, "R", number)?;
     let terms = row.terms.copy(alloc)?;
     Ok(CertRow {
-        label,
+        label: Label::make(letter, number),
         sense: row.sense,
         rhs: row.rhs,
         terms,
@@ -48,10 +40,9 @@ fn lower_line(alloc: Global, column: usize, span: Span) -> Result<CertRow, Alloc
     requires { column < 2 ^ 32 }
     ensures { IfOk result (λ r. r ≡ labelled (label_of (codes "L") column) (lower_row column span)) }
 {
-    let label = label(alloc, "L", column)?;
     let terms = unit_terms(alloc, column)?;
     Ok(CertRow {
-        label,
+        label: Label::make(b'L', column),
         sense: Sense::G,
         rhs: Frac::of(span.lo as i128),
         terms,
@@ -62,10 +53,9 @@ fn upper_line(alloc: Global, column: usize, span: Span) -> Result<CertRow, Alloc
     requires { column < 2 ^ 32 }
     ensures { IfOk result (λ r. r ≡ labelled (label_of (codes "U") column) (upper_row column span)) }
 {
-    let label = label(alloc, "U", column)?;
     let terms = unit_terms(alloc, column)?;
     Ok(CertRow {
-        label,
+        label: Label::make(b'U', column),
         sense: Sense::L,
         rhs: Frac::of(span.hi as i128),
         terms,
@@ -76,7 +66,7 @@ fn push_rows(alloc: Global, lines: &mut Vec<CertRow>, problem: &Problem) -> Resu
     ensures { OnOk result (lines.new.items ≡ lines.old.items ++ row_lines 0 problem.now.rows) }
 {
     for i in 0..problem.rows() {
-        lines.push(labelled_row(alloc, i, problem.row(i))?)?;
+        lines.push(labelled_row(alloc, b'R', i, problem.row(i))?)?;
     }
     Ok(())
 }

@@ -1,10 +1,8 @@
 // The nodes of a path that set the bounds of a node's box.
 ghost use Rattle.std.specs.Prelude.{◌≡◌, ◌<◌, ℕ, IfOk, length, slice_index_or};
-ghost use Rattle.cert_merge.specs.Nodes.{side_of, branch_of};
-ghost use Rattle.cert_merge.specs.Setters.{no_setter, set_by, set_at, with_setter, noted, AreSetters, NameNodes, AreBranches};
+ghost use Rattle.cert_merge.specs.Setters.{no_setter, set_by, set_at, with_setter, noted, AreSetters, NameNodes};
 
-use crate::node::{Branch, Side};
-use crate::search::Search;
+use node_tree::{Branch, Side, Tree};
 use std::alloc::{AllocError, Global};
 use std::marker::Model;
 
@@ -18,7 +16,7 @@ pub struct Setter {
 impl Setter {
     /// The node that set this bound.
     fn get(self, side: Side) -> Option<u32>
-        ensures { result ≡ set_by (side_of side) self }
+        ensures { result ≡ set_by side self }
     {
         match side {
             Side::Low => self.low,
@@ -28,7 +26,7 @@ impl Setter {
 
     /// Node `node` set the bound, unless a deeper one did.
     fn with(self, side: Side, node: u32) -> Setter
-        ensures { result ≡ with_setter (side_of side) node self }
+        ensures { result ≡ with_setter side node self }
     {
         match side {
             Side::Low => Setter {
@@ -73,10 +71,17 @@ impl Setters {
         Ok(Setters { columns: table })
     }
 
+    /// How many columns there are.
+    pub fn len(&self) -> usize
+        ensures { result ≡ length self.now }
+    {
+        self.columns.len()
+    }
+
     /// The node that set a bound of a column that is there.
     pub fn get(&self, column: usize, side: Side) -> Option<u32>
         requires { column < length self.now }
-        ensures { result ≡ set_at self.now column (side_of side) }
+        ensures { result ≡ set_at self.now column side }
     {
         self.columns[column].get(side)
     }
@@ -84,7 +89,7 @@ impl Setters {
     /// Notes what a branch to a node sets, where no deeper node did.
     fn note(&mut self, node: u32, branch: Branch)
         requires { branch.column < length self.old }
-        ensures { self.new ≡ noted self.old node (branch_of branch) }
+        ensures { self.new ≡ noted self.old node branch }
     {
         let column = branch.column as usize;
         let setter = self.columns[column];
@@ -105,23 +110,19 @@ impl Setters {
     }
 
     /// Makes this the table of a node: one walk up its path, the deepest node first.
-    pub fn trace(&mut self, search: &Search, node: u32)
-        requires there { node < length search.now.nodes }
-        requires branches { AreBranches search.now (length self.old) }
+    pub fn trace(&mut self, tree: &Tree, node: u32)
+        requires there { node < length tree.now.nodes }
+        requires columns { length self.old ≡ length tree.now.root }
         ensures length { length self.new ≡ length self.old }
-        ensures setters { AreSetters search.now node self.new }
-        ensures nodes { NameNodes (length search.now.nodes) self.new }
+        ensures setters { AreSetters tree.now node self.new }
+        ensures nodes { NameNodes (length tree.now.nodes) self.new }
     {
+        tree.conditions_hold();
         self.clear();
-        let mut current = node;
-        for _ in 0..node {
-            match search.branch(current as usize) {
-                None => return,
-                Some(branch) => {
-                    self.note(current, branch);
-                    current = branch.parent;
-                }
-            }
+        let mut at = node;
+        while let Some(branch) = tree.branch(at) {
+            self.note(at, branch);
+            at = branch.parent;
         }
     }
 }

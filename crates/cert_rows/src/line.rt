@@ -1,48 +1,57 @@
 // The lines of a certificate.
-ghost use Rattle.std.specs.Prelude.{◌≡◌, string_bytes};
+ghost use Rattle.std.specs.Prelude.{◌≡◌, ◌∷◌};
+ghost use Rattle.std.specs.Fmt.{decimal};
 
 use fraction::Frac;
 use problem::{Sense, Terms};
 use std::marker::Model;
 
-/// A label, seen as its text.
+/// A label: a letter with a number, as `N12`. It is seen as its text.
+///
+/// A certificate has a label for each of its lines, so a label keeps no text.
 #[derive(Debug, Drop)]
 pub struct Label {
-    text: String,
+    letter: u8,
+    number: usize,
 }
 
 impl Model for Label {
-    ghost use Rattle.std.specs.Prelude.{List, ℕ, string_bytes};
+    ghost use Rattle.std.specs.Prelude.{List, ℕ, ◌∷◌};
+    ghost use Rattle.std.specs.Fmt.{decimal};
 
     ghost Value = { List ℕ };
 
-    ghost view = { λ l. string_bytes l.text };
+    ghost view = { λ l. l.letter ∷ decimal l.number };
 }
 
 impl Label {
-    /// The label with this text.
-    pub fn make(text: String) -> Label
-        ensures { result ≡ string_bytes text }
+    /// The label of a letter, by its code, and a number.
+    pub fn make(letter: u8, number: usize) -> Label
+        ensures { result ≡ letter ∷ decimal number }
     {
-        Label { text }
+        Label { letter, number }
     }
 
-    /// The text's bytes.
-    pub fn as_bytes(&self) -> &[u8]
-        ensures { result.now ≡ self.now }
+    /// The letter and the number.
+    pub fn parts(&self) -> (u8, usize)
+        ensures { self.now ≡ result.0 ∷ decimal result.1 }
     {
-        self.text.as_bytes()
+        (self.letter, self.number)
     }
 }
 
 /// A row with its label.
+///
+/// The fields stand in this order so that a row takes 80 bytes: a certificate has a row for each of its lines.
 #[derive(Drop)]
 pub struct CertRow {
-    pub label: Label,
-    pub sense: Sense,
     pub rhs: Frac,
     pub terms: Terms,
+    pub label: Label,
+    pub sense: Sense,
 }
+
+const _: () = prove!(size_of::<CertRow>() == 80);
 
 /// Why a line follows from earlier ones. A multiplier is a line's number with the factor of that line; lines are numbered from 0 over
 /// the rows of the problem part and the derived lines behind them.

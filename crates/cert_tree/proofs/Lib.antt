@@ -1,1 +1,10 @@
-pub mod WorkedSearch
+pub mod Extending
+pub mod Base
+pub mod Cuts
+pub mod Assumed
+pub mod Paths
+pub mod Sources
+pub mod Closed
+pub mod Nodes
+pub mod Finishing
+pub mod Worked

@@ -1,37 +1,38 @@
--- What finished searches promise.
-use Rattle.std.specs.Prelude.{◌≡◌, ℕ, ℤ, List, Option, Some, None}
-use Rattle.problem_box.specs.declared.span.Span.{Span}
-use Rattle.problem_box.specs.Changes.{cut_low, cut_high}
-use Rattle.problem.specs.Problem.{Problem}
-use Rattle.problem.specs.Best.{IsBest, IsVoid}
-use Rattle.cert_rows.specs.Validity.{IsValid}
-use Rattle.cert_merge.specs.Search.{Side, low, high, Branch, Search, node_at}
-use Rattle.cert_merge.specs.Merged.{merged}
-use Rattle.cert_tree.specs.Finished.{box_at, IsFinished}
+-- What the certificates of finished searches promise.
+use Rattle.std.specs.Prelude.{◌≡◌, ◌↔◌, List, [], ◌∷◌}
+use Rattle.fraction.specs.Rational.{ℚ}
 use Rattle.problem.specs.Linear.{Point}
+use Rattle.problem.specs.Problem.{Problem}
+use Rattle.problem.specs.Feasible.{objective_at}
+use Rattle.problem.specs.Best.{IsBest, IsVoid}
+use Rattle.cert_rows.specs.declared.certificate.Goal.{Goal}
+use Rattle.cert_rows.specs.declared.certificate.Goal.TheVariants.{Infeas, Range}
+use Rattle.cert_rows.specs.Validity.{IsValid}
+use Rattle.event_core.specs.declared.entry.Entry.{Entry}
+use Rattle.cert_merge.specs.Endings.{IsFinished}
+use Rattle.cert_merge.specs.Merged.{merged}
 
 -- the certificate of a finished search is valid
 abbrev pub MergedIsValid : Problem → Type 0
-MergedIsValid p = (s : Search) → IsFinished p s → IsValid p (merged p s)
+MergedIsValid p = (es : List Entry) → IsFinished p es → IsValid p (merged p es)
 
--- the incumbent is a best point; where there is none, no point is feasible
-abbrev pub IsAnswer : Problem → Option Point → Type 0
-IsAnswer p None = IsVoid p
-IsAnswer p (Some x) = IsBest p x
+-- one point is listed, which is a best one, and its objective is both ends of the range
+pub record ListsBest (p : Problem) (points : List Point) (lb ub : ℚ) : Type 0 where
+  pub point : Point
+  pub listed : points ≡ point ∷ []
+  pub best : IsBest p point
+  pub lower : lb ≡ objective_at p point
+  pub upper : ub ≡ objective_at p point
 
--- the incumbent of a finished search answers the problem
-abbrev pub FinishedIsAnswered : Problem → Type 0
-FinishedIsAnswered p = (s : Search) → IsFinished p s → IsAnswer p s.incumbent
+-- what is claimed is true: no point is feasible, or a best one is listed
+abbrev pub IsTrueClaim : Problem → List Point → Goal → Type 0
+IsTrueClaim p points Infeas = IsVoid p
+IsTrueClaim p points (Range lb ub) = ListsBest p points lb ub
 
--- the box with the bound that a branch sets
-abbrev pub cut_on : Side → List Span → ℕ → ℤ → List Span
-cut_on low ss j b = cut_low ss j b
-cut_on high ss j b = cut_high ss j b
+-- so it is in the certificate of a finished search
+abbrev pub MergedIsTrue : Problem → Type 0
+MergedIsTrue p = (es : List Entry) → IsFinished p es → IsTrueClaim p (merged p es).points (merged p es).claim
 
--- node 0 has the root's box, and each other node its parent's, cut by its branch
-pub record AreBoxes (p : Problem) (s : Search) : Type 0 where
-  pub of_root : box_at p s 0 ≡ p.spans
-  pub of_child : (i : ℕ) (b : Branch) → (node_at s i).branch ≡ Some b → box_at p s i ≡ cut_on b.side (box_at p s b.parent) b.column b.bound
-
-abbrev pub BoxesAreCut : Type 0
-BoxesAreCut = (p : Problem) (s : Search) → IsFinished p s → AreBoxes p s
+-- infeasibility is claimed exactly where no point is feasible
+abbrev pub InfeasibilityIsExact : Problem → Type 0
+InfeasibilityIsExact p = (es : List Entry) → IsFinished p es → (IsVoid p ↔ ((merged p es).claim ≡ Infeas))

@@ -1,4 +1,1 @@
-pub mod Finished
-pub mod Continued
 pub mod Laws
-pub mod Lemmas

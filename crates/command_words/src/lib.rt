@@ -6,8 +6,6 @@ mod fault;
 mod paths;
 mod solve_matches;
 mod table;
-#[cfg(test)]
-mod tests;
 mod words;
 
 pub use command::{Command, parse};

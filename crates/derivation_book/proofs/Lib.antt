@@ -1,14 +1,2 @@
-mod Steps
-mod Held
-mod ColumnLemmas
-mod Combining
-mod Numbering
-mod RoundedLemmas
-mod PriceLemmas
-mod Deciding
-mod Exact
-mod Bounding
-mod Cutting
-mod Staying
+mod Leaving
 mod Worked
-mod Samples

@@ -8,3 +8,4 @@ pub mod Cuts
 pub mod Legal
 pub mod Laws
 pub mod Places
+pub mod Lemmas

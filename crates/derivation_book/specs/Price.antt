@@ -1,5 +1,5 @@
 -- The price of a combination: what it shows that a target is at least, over a box.
-use Rattle.std.specs.Prelude.{ℕ, ◌+◌, ℤ, pos, int_lt, if◌then◌else◌, List, [], ◌∷◌, length, Option, Some}
+use Rattle.std.specs.Prelude.{◌≡◌, ℕ, ◌+◌, ℤ, pos, int_lt, if◌then◌else◌, List, [], ◌∷◌, length, Option, Some}
 use Rattle.std.specs.Option.{option_and_then}
 use Rattle.fraction.specs.Rational.{ℚ, whole, ◌+ℚ◌, ◌*ℚ◌, neg_ℚ}
 use Rattle.fraction.specs.Checked.{sub_checked}
@@ -36,6 +36,13 @@ with_columns total target j (c ∷ cs) (s ∷ ss) = option_and_then (λ t. with_
 abbrev pub price : Problem → List Cut → List Span → Terms → Multipliers → Option ℚ
 price p cs box target mult =
     option_and_then (λ q. with_columns q.side target 0 q.coefficients box) (combined (known_lines p cs) mult (length p.spans))
+
+-- over some box the combination has a price
+pub record HasPrice (p : Problem) (cs : List Cut) (target : Terms) (mult : Multipliers) : Type 0 where
+  pub box : List Span
+  pub columns : length box ≡ length p.spans
+  pub value : ℚ
+  pub priced : price p cs box target mult ≡ Some value
 
 -- ---- as an exact sum
 -- what a combination leaves of a column of the target

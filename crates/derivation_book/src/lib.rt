@@ -13,8 +13,6 @@ pub mod laws;
 mod legal;
 mod place;
 mod price;
-#[cfg(test)]
-mod tests;
 
 pub use book::Book;
 pub use cut::Cut;

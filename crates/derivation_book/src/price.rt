@@ -1,10 +1,13 @@
 //! The price of a combination.
 
-ghost use Rattle.std.specs.Prelude.{◌≡◌, ◌<◌, ◌≤◌, ◌+◌, ℕ, IfOk, All, length, drop};
+ghost use Rattle.std.specs.Prelude.{◌≡◌, ◌<◌, ◌≤◌, ◌+◌, ℕ, pos, IfOk, IsSome, All, length, drop, slice_index_or};
+ghost use Rattle.fraction.specs.Rational.{whole, ◌+ℚ◌, neg_ℚ};
+ghost use Rattle.fraction.specs.Checked.{sub_checked};
 ghost use Rattle.problem.specs.Linear.{coefficient};
 ghost use Rattle.problem.specs.Rising.{RiseFrom, AreRising};
+ghost use Rattle.cert_rows.specs.Combination.{combined_terms};
 ghost use Rattle.derivation_book.specs.Known.{known_lines};
-ghost use Rattle.derivation_book.specs.Price.{with_bound, with_reduced_cost, with_columns, price};
+ghost use Rattle.derivation_book.specs.Price.{with_bound, with_reduced_cost, with_columns, price, reduced_cost, HasPrice};
 
 use crate::book::Book;
 use crate::combination::{Combination, with_product};
@@ -67,6 +70,26 @@ fn with_columns(side: Frac, target: &[Term], coefficients: &[Frac], area: &IntBo
     Some(total)
 }
 
+/// What coefficients leave of a target at each column, no difference being cramped. The one error is want of memory.
+fn left_over(alloc: Global, target: &[Term], coefficients: &[Frac]) -> Result<Vec<Frac>, AllocError>
+    requires rising { AreRising target.now }
+    requires fits { (j : ℕ) → j < length coefficients.now → IsSome (sub_checked (coefficient target.now j) (slice_index_or coefficients.now j (whole (pos 0)))) }
+    ensures length { IfOk result (λ v. length v.items ≡ length coefficients.now) }
+    ensures left { IfOk result (λ v. (j : ℕ) → j < length coefficients.now → slice_index_or v.items j (whole (pos 0)) ≡ coefficient target.now j +ℚ neg_ℚ (slice_index_or coefficients.now j (whole (pos 0)))) }
+{
+    let mut items = Vec::with_capacity(alloc, coefficients.len())?;
+    let mut next = 0;
+    for (column, combined) in coefficients.iter().enumerate() {
+        let (wanted, after) = wanted_at(target, next, column);
+        match wanted.sub(*combined) {
+            Some(left) => items.push(left)?,
+            None => unreachable!(),
+        }
+        next = after;
+    }
+    Ok(items)
+}
+
 impl Combination {
     /// The price over a box with a span for each column; none exactly where that is cramped.
     fn price(&self, area: &IntBox, target: &[Term]) -> Option<Frac>
@@ -75,6 +98,16 @@ impl Combination {
         ensures { result ≡ with_columns self.now.side target.now 0 self.now.coefficients area.now }
     {
         with_columns(self.side, target, &self.coefficients, area)
+    }
+
+    /// What is left of a target at each column, no difference being cramped. The one error is want of memory.
+    fn left_over(&self, alloc: Global, target: &[Term]) -> Result<Vec<Frac>, AllocError>
+        requires rising { AreRising target.now }
+        requires fits { (j : ℕ) → j < length self.now.coefficients → IsSome (sub_checked (coefficient target.now j) (slice_index_or self.now.coefficients j (whole (pos 0)))) }
+        ensures length { IfOk result (λ v. length v.items ≡ length self.now.coefficients) }
+        ensures left { IfOk result (λ v. (j : ℕ) → j < length self.now.coefficients → slice_index_or v.items j (whole (pos 0)) ≡ coefficient target.now j +ℚ neg_ℚ (slice_index_or self.now.coefficients j (whole (pos 0)))) }
+    {
+        left_over(alloc, target, &self.coefficients)
     }
 }
 
@@ -99,6 +132,27 @@ impl Book {
         match self.combine(alloc, problem, mult.as_slice())? {
             Some(sums) => Ok(sums.price(area, target)),
             None => Ok(None),
+        }
+    }
+    /// What a combination of known rows leaves of each column of a target, where it has a price over some box. The target's columns rise.
+    ///
+    /// The one error is want of memory.
+    pub fn reduced_costs(
+        &self,
+        alloc: Global,
+        problem: &Problem,
+        target: &[Term],
+        mult: &Mult,
+    ) -> Result<Vec<Frac>, AllocError>
+        requires known { All (λ m. m.0 < length (known_lines problem.now self.now.cuts)) mult.now }
+        requires rising { AreRising target.now }
+        requires priced { HasPrice problem.now self.now.cuts target.now mult.now }
+        ensures length { IfOk result (λ v. length v.items ≡ length problem.now.spans) }
+        ensures costs { IfOk result (λ v. (j : ℕ) → j < length problem.now.spans → slice_index_or v.items j (whole (pos 0)) ≡ reduced_cost target.now (combined_terms (known_lines problem.now self.now.cuts) mult.now) j) }
+    {
+        match self.combine(alloc, problem, mult.as_slice())? {
+            Some(sums) => sums.left_over(alloc, target),
+            None => unreachable!(),
         }
     }
 }

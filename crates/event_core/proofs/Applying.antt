@@ -1,5 +1,5 @@
 -- A history with one event more.
-use Rattle.std.specs.Prelude.{◌≡◌, ◌≤◌, ◌+◌, ℕ, ℤ, Bool, true, List, [], ◌∷◌, ◌++◌, length, Option, Some, None, refl}
+use Rattle.std.specs.Prelude.{◌≡◌, ◌≤◌, ◌+◌, ℕ, ℤ, List, [], ◌∷◌, ◌++◌, length, Option, Some, None, refl}
 use Rattle.std.proofs.Common.{sym, ap, ◌∙◌, subst, arith}
 use Rattle.std.proofs.lemmas.List.{length_push}
 use Rattle.std.proofs.lemmas.Option.{same_Some}
@@ -12,16 +12,16 @@ use Rattle.derivation_book.specs.Rounded.{rounded_row}
 use Rattle.derivation_book.specs.declared.cut.Cut.{Cut as MadeCut}
 use Rattle.incumbent.specs.Offers.{IsImprovement}
 use Rattle.event_core.specs.declared.entry.Entry.{Entry}
-use Rattle.event_core.specs.declared.entry.Hold.{Hold}
+use Rattle.event_core.specs.declared.entry.Holder.{Holder}
 use Rattle.event_core.specs.States.{State, first_state}
 use Rattle.event_core.specs.After.{after, after_cut}
-use Rattle.event_core.specs.Histories.{IsLegal, state_of, AreLegal, state_from}
+use Rattle.event_core.specs.Histories.{IsLegal, state_of, AreLegal}
 use Rattle.event_core.specs.Rooms.{HasEntryRoom, IsMade}
 use Rattle.event_core.specs.Sound.{IsSound}
-use Rattle.event_core.proofs.Passing.{release_passed}
-use Rattle.event_core.proofs.Running.{state_from-append, legal_more}
-use Rattle.event_core.proofs.HoldLemmas.{length-without_hold, fewer-without_hold}
-use Rattle.event_core.proofs.Sounding.{legal_sound, is_improvement}
+use Rattle.event_core.specs.Lemmas.Passing.{release_passed}
+use Rattle.event_core.specs.Lemmas.Running.{state_from-append, legal_more, after-problem}
+use Rattle.event_core.specs.Lemmas.Holds.{length-without_hold, fewer-without_hold}
+use Rattle.event_core.specs.Lemmas.Sounding.{legal_sound, is_improvement}
 
 -- what a state and its history keep, with room for so many entries
 pub record IsHistoryOf (s : State) (es : List Entry) (n : ℕ) : Type 0 where
@@ -40,19 +40,6 @@ offer_made s w e x y cut o p l m q =
     let same : x ≡ y = same_Some x y (sym made ∙ q) in
     subst (IsImprovement s.problem s.incumbent) same (is_improvement s w x (subst (IsLegal s w) p l))
 
--- ---- the problem stays
-cut_problem : (s : State) (mult : List (ℕ × ℚ)) (o : Option Row) → (after_cut s mult o).problem ≡ s.problem
-cut_problem s mult None = refl
-cut_problem s mult (Some r) = refl
-
-pub after-problem : (s : State) (w : Option ℕ) (e : Event) → (after s w e).problem ≡ s.problem
-after-problem s w (Claim i) = refl
-after-problem s w (Release i) = refl
-after-problem s w (Cut mult) = cut_problem s mult (rounded_row s.problem s.cuts mult)
-after-problem s w (Offer x) = refl
-after-problem s w (Split i j b r) = refl
-after-problem s w (Close i proof) = refl
-
 -- ---- room for the releases
 cut_holds : (s : State) (mult : List (ℕ × ℚ)) (o : Option Row) → (after_cut s mult o).holds ≡ s.holds
 cut_holds s mult None = refl
@@ -67,7 +54,7 @@ entries_fit s (Some w) (Release i) n l h r =
     let p = release_passed s (Some w) i l.admitted in
     let f = fewer-without_hold w i s.holds p.yours in
     omega (arith, f, r)
-entries_fit s w (Cut mult) n l h r = let e = ap (λ (hs : List Hold). length hs) (cut_holds s mult (rounded_row s.problem s.cuts mult)) in omega (arith, e, h)
+entries_fit s w (Cut mult) n l h r = let e = ap (λ (hs : List Holder). length hs) (cut_holds s mult (rounded_row s.problem s.cuts mult)) in omega (arith, e, h)
 entries_fit s w (Offer x) n l h r = omega (arith, h)
 entries_fit s w (Split i j b q) n l h r = let f = length-without_hold i s.holds in omega (arith, f, h)
 entries_fit s w (Close i proof) n l h r = let f = length-without_hold i s.holds in omega (arith, f, h)

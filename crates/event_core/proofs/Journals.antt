@@ -1,6 +1,6 @@
 -- The events that a journal has.
 use Rattle.std.specs.Prelude.{◌≡◌, ℕ, ℤ, Bool, true, false, cond, List, [], ◌∷◌, Option, Some, None, slice_get, refl}
-use Rattle.std.proofs.Common.{sym, ap, ◌∙◌, subst}
+use Rattle.std.proofs.Common.{sym, subst}
 use Rattle.problem.specs.Problem.{Problem}
 use Rattle.problem.specs.declared.row.Row.{Row}
 use Rattle.fraction.specs.Rational.{ℚ}
@@ -16,9 +16,9 @@ use Rattle.event_core.specs.States.{State, first_state, box_of, cutoff, is_open}
 use Rattle.event_core.specs.Splits.{has_both, is_reason}
 use Rattle.event_core.specs.Judging.{judged, judged_split, judged_close}
 use Rattle.event_core.specs.After.{after, after_cut}
-use Rattle.event_core.specs.Histories.{is_journaled, IsLegal, state_from, AreLegalFrom, AreLegal, state_of, journaled}
+use Rattle.event_core.specs.Histories.{is_journaled, state_from, AreLegalFrom, AreLegal, journaled}
 use Rattle.event_core.specs.Laws.{unheld, AreJournaled}
-use Rattle.event_core.proofs.Passing.{passing, split_passed, close_passed}
+use Rattle.event_core.specs.Lemmas.Passing.{passing, split_passed, close_passed}
 
 unheld_split : (s : State) (w : Option ℕ) (i j : ℕ) (b : ℤ) (r : Reason) → judged_split s w i j b r ≡ Yes → judged_split (unheld s) None i j b r ≡ Yes
 unheld_split s w i j b r e =

@@ -1,12 +1,5 @@
-pub mod Passing
-pub mod Running
 pub mod Journals
-pub mod HoldLemmas
-pub mod EndedLemmas
-pub mod Boxes
-pub mod Sounding
 pub mod Offering
 pub mod Applying
 pub mod Samples
 pub mod Worked
-pub mod Points

@@ -2,7 +2,6 @@
 use Rattle.std.specs.Prelude.{◌≡◌, ℤ, Bool, List, Option}
 use Rattle.problem.specs.Feasible.{objective_at}
 use Rattle.incumbent.specs.Offers.{is_better}
-use Rattle.event_core.specs.declared.admit.Admit.{Admit}
 use Rattle.event_core.specs.declared.admit.Admit.TheVariants.{Yes, BadPoint, NotBetter}
 use Rattle.problem.specs.Problem.{Problem}
 use Rattle.incumbent.specs.declared.best.Best.{Best}

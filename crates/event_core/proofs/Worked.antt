@@ -1,16 +1,14 @@
 -- Answers that were worked out by hand.
-use Rattle.std.specs.Prelude.{◌≡◌, ℕ, ℤ, pos, negsuc, int_lt, List, [], ◌∷◌, Option, Some, None, replicate, refl}
+use Rattle.std.specs.Prelude.{◌≡◌, ℕ, pos, negsuc, List, [], ◌∷◌, Some, None, replicate, refl}
 use Rattle.fraction.specs.Gcd.{gcd, gcd_within}
 use Rattle.fraction.specs.Rational.{ℚ, whole, frac, ◌+ℚ◌, ◌*ℚ◌, neg_ℚ, floor, ceil}
 use Rattle.fraction.specs.Checked.{add_fits, add_checked, mul_fits, mul_checked, compare}
-use Rattle.problem_box.specs.declared.span.Span.{Span}
 use Rattle.problem.specs.declared.row.Sense.{Sense}
-use Rattle.problem.specs.declared.row.Sense.TheVariants.{G, L, E}
+use Rattle.problem.specs.declared.row.Sense.TheVariants.{G}
 use Rattle.problem.specs.declared.row.Row.{Row}
-use Rattle.problem.specs.Problem.{Problem}
 use Rattle.node_events.specs.declared.event.Event.{Event}
 use Rattle.node_events.specs.declared.event.Event.TheVariants.{Claim, Release, Cut, Offer, Split, Close}
-use Rattle.node_events.specs.declared.proof.Proof.TheVariants.{Empty, Refute, Bound}
+use Rattle.node_events.specs.declared.proof.Proof.TheVariants.{Refute}
 use Rattle.node_events.specs.declared.reason.Reason.TheVariants.{Unsettled}
 use Rattle.derivation_book.specs.declared.cut.Cut.{Cut as MadeCut}
 use Rattle.event_core.specs.declared.admit.Admit.{Admit}

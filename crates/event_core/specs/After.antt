@@ -1,6 +1,5 @@
 -- The state after an event.
-use Rattle.std.specs.Prelude.{ℕ, ℤ, true, false, List, [], ◌∷◌, ◌++◌, Option, Some, None, slice_set}
-use Rattle.fraction.specs.Rational.{ℚ}
+use Rattle.std.specs.Prelude.{ℕ, ℤ, true, false, [], ◌∷◌, ◌++◌, Option, Some, None, slice_set}
 use Rattle.problem.specs.declared.row.Row.{Row}
 use Rattle.node_tree.specs.Splits.{with_split}
 use Rattle.node_events.specs.declared.event.Event.{Event}

@@ -1,5 +1,5 @@
 -- The test of feasible points.
-use Rattle.std.specs.Prelude.{ℤ, Bool, ◌&&◌, List}
+use Rattle.std.specs.Prelude.{Bool, ◌&&◌}
 use Rattle.std.specs.List.{list_all}
 use Rattle.std.specs.declared.cmp.Ordering.{Ordering}
 use Rattle.std.specs.Ordering.{is_ge, is_le, is_eq}

@@ -1,6 +1,5 @@
 -- Which events are admitted: the first refusal of the others.
-use Rattle.std.specs.Prelude.{ℕ, ℤ, Bool, true, false, not, nat_lt, ◌||◌, List, length, Option, Some, None, slice_get}
-use Rattle.fraction.specs.Rational.{ℚ}
+use Rattle.std.specs.Prelude.{ℕ, ℤ, Bool, true, false, not, nat_lt, ◌||◌, length, Option, Some, None, slice_get}
 use Rattle.problem.specs.declared.row.Row.{Row}
 use Rattle.problem.specs.Feasible.{objective_at}
 use Rattle.node_events.specs.declared.proof.Proof.{Proof}

@@ -8,3 +8,4 @@ pub mod Histories
 pub mod Rooms
 pub mod Sound
 pub mod Laws
+pub mod Lemmas

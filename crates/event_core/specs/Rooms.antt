@@ -1,6 +1,5 @@
 -- A state with its history, and what was made ready for the next event.
-use Rattle.std.specs.Prelude.{◌≡◌, ◌<◌, ◌≤◌, ◌+◌, ℕ, ℤ, List, length, Option, Some, None}
-use Rattle.fraction.specs.Rational.{ℚ}
+use Rattle.std.specs.Prelude.{◌≡◌, ◌<◌, ◌≤◌, ◌+◌, ℕ, List, length, Option, Some, None}
 use Rattle.problem.specs.declared.row.Row.{Row}
 use Rattle.node_events.specs.declared.event.Event.{Event}
 use Rattle.node_events.specs.declared.event.Event.TheVariants.{Claim, Release, Cut, Offer, Split}

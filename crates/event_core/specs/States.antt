@@ -10,7 +10,7 @@ use Rattle.node_tree.specs.Paths.{box_at}
 use Rattle.derivation_book.specs.declared.cut.Cut.{Cut}
 use Rattle.incumbent.specs.declared.best.Best.{Best}
 use Rattle.incumbent.specs.Offers.{cutoff_of}
-use Rattle.event_core.specs.declared.entry.Hold.{Hold}
+use Rattle.event_core.specs.declared.entry.Holder.{Holder}
 
 -- the problem, the nodes in the order of their numbers, for each node whether it has ended (it was split or closed), the cuts, the incumbent, and who holds which node
 pub record State : Type 0 where
@@ -19,7 +19,7 @@ pub record State : Type 0 where
   pub ended : List Bool
   pub cuts : List Cut
   pub incumbent : Option Best
-  pub holds : List Hold
+  pub holds : List Holder
 
 -- node 0 alone, which is open; no cut, no incumbent, and nobody holds a node
 abbrev pub first_state : Problem → State

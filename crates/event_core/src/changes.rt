@@ -11,7 +11,7 @@ ghost use Rattle.event_core.specs.Histories.{IsLegal};
 ghost use Rattle.event_core.specs.Rooms.{HasNumbers, HasRoom, IsMade};
 ghost use Rattle.event_core.specs.Sound.{IsSound};
 
-use crate::entry::Hold;
+use crate::entry::Holder;
 use crate::parts::Parts;
 use derivation_book::Cut;
 use node_events::Event;
@@ -19,7 +19,7 @@ use node_tree::laws::boxes_are_cut;
 use problem::Point;
 
 /// Nobody holds the node from now on.
-fn remove_holds(holds: &mut Vec<Hold>, node: u32)
+fn remove_holds(holds: &mut Vec<Holder>, node: u32)
     ensures { holds.new.items ≡ without_hold node holds.old.items }
 {
     holds.retain(|hold| hold.node != node);
@@ -32,7 +32,7 @@ impl Parts {
         ensures { self.new.state ≡ after_claim self.old.state worker node }
     {
         if let Some(worker) = worker {
-            self.holds.push_reserved(Hold { worker, node });
+            self.holds.push_reserved(Holder { worker, node });
         }
     }
 

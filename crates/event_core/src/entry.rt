@@ -4,7 +4,7 @@ use node_events::Event;
 
 /// A worker that holds a node.
 #[derive(Clone, Copy, Debug, PartialEq, Eq)]
-pub struct Hold {
+pub struct Holder {
     /// The worker's number.
     pub worker: u32,
     /// The node.

@@ -19,7 +19,7 @@ const MOST_CUTS: usize = 256;
 
 impl Parts {
     /// Whether the node is there and has not ended.
-    fn is_open(&self, node: u32) -> bool
+    pub(crate) fn is_open(&self, node: u32) -> bool
         ensures { result ≡ is_open self.now.state node }
     {
         let node = node as usize;

@@ -14,8 +14,9 @@ pub fn beginnings_are_legal(_problem: &Problem)
     ensures { BeginningsAreLegal _problem.now }
 {}
 
-/// What is true of each state that legal events led to: an open node is a leaf, each cut is the rounded row of its multipliers over those before it,
-/// the incumbent is a feasible point with its objective, who is held is open, no worker holds two nodes, and no two workers hold one.
+/// What is true of each state that legal events led to: its nodes are a tree, whose open nodes are leaves; it has at most 256 cuts, and each is the
+/// rounded row of its multipliers over those before it; the incumbent is a feasible point with its objective; who is held is open, no worker holds
+/// two nodes, and no two workers hold one.
 pub fn legal_states_are_sound(_problem: &Problem)
     ensures { LegalStatesAreSound _problem.now }
 {}

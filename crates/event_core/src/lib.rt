@@ -16,5 +16,5 @@ mod state;
 mod tests;
 
 pub use admit::Admit;
-pub use entry::{Entry, Hold};
+pub use entry::{Entry, Holder};
 pub use state::State;

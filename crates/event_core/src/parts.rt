@@ -4,7 +4,7 @@ ghost use Rattle.derivation_book.specs.Rounded.{rounded_row};
 ghost use Rattle.event_core.specs.States.{first_state};
 ghost use Rattle.event_core.specs.Rooms.{cut_with};
 
-use crate::entry::Hold;
+use crate::entry::Holder;
 use derivation_book::{Book, Cut};
 use incumbent::Incumbent;
 use node_events::Mult;
@@ -24,7 +24,7 @@ pub struct Parts {
     pub(crate) open_nodes: usize,
     pub(crate) book: Book,
     pub(crate) incumbent: Incumbent,
-    pub(crate) holds: Vec<Hold>,
+    pub(crate) holds: Vec<Holder>,
 }
 
 impl Model for Parts {

@@ -1,6 +1,6 @@
 // The state of a search.
 ghost use Rattle.std.specs.Prelude.{◌≡◌, ◌++◌, ◌∷◌, [], None, IfOk, OnOk};
-ghost use Rattle.event_core.specs.States.{first_state, open_count};
+ghost use Rattle.event_core.specs.States.{first_state, is_open, open_count};
 ghost use Rattle.event_core.specs.Judging.{judged};
 ghost use Rattle.event_core.specs.After.{after};
 ghost use Rattle.event_core.specs.Histories.{IsLegal, state_of, AreLegal};
@@ -85,6 +85,13 @@ impl State {
         ensures { result.now ≡ self.now.state.incumbent }
     {
         &self.parts.incumbent
+    }
+
+    /// Whether the node is there and has not ended.
+    pub fn is_open(&self, node: u32) -> bool
+        ensures { result ≡ is_open self.now.state node }
+    {
+        self.parts.is_open(node)
     }
 
     /// How many nodes are open.

@@ -3,7 +3,5 @@
 
 mod best;
 pub mod laws;
-#[cfg(test)]
-mod tests;
 
 pub use best::{Best, Incumbent};

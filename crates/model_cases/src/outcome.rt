@@ -27,9 +27,11 @@ pub(crate) fn outcome_of(
     let mut cert = MemSink::new(alloc);
     let mut out = MemSink::new(alloc);
     let disk = MemDisk::new(alloc);
-    let Ran { status, disk: _ } = run_one(
-        alloc, keys, words, &mut model, disk, &mut cert, &mut out,
-    );
+    let Ran {
+        status,
+        disk: _,
+        last: _,
+    } = run_one(alloc, keys, words, &mut model, disk, &mut cert, &mut out);
     Ok(Outcome {
         status,
         lines: out.bytes().to_vec(alloc)?,

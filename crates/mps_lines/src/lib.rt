@@ -8,6 +8,3 @@ mod values;
 pub use decimals::{NumFault, decimal};
 pub use lines::{Line, Lines};
 pub use values::{Value, value_of};
-
-#[cfg(test)]
-mod tests;

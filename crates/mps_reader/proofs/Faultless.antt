@@ -13,12 +13,12 @@ use Rattle.mps_reader.specs.BoundLines.{with_setting, with_limits, summary_of}
 use Rattle.mps_reader.proofs.BoundLines.{floor_small, ceil_small}
 use Rattle.mps_lines.specs.Infinities.{infinite}
 use Rattle.mps_reader.specs.Faults.{when, counted, most_rows, is_field, is_ranged, count_ranged, differs, bound_value_fault, typed_row_fault, row_fault, side_fault, sides_fault, side_line_fault, side_number_fault, bound_line_fault, limits_fields, section_fault, data_fault_in, word_fault, line_fault, may_follow, stage, stage_of, type_fault}
-use Rattle.mps_reader.specs.Lemmas.Kept.{none_keeps, line_more, none_both, none_when, below_of, new_sides}
+use Rattle.mps_reader.specs.Lemmas.LinesWithinLimits.{none_keeps, line_more, none_both, none_when, below_of, new_sides}
 use Rattle.mps_reader.specs.Meaning.{unless_infinite}
 use Rattle.mps_reader.specs.Lemmas.Modest.{modest_number}
 use Rattle.mps_reader.specs.Lemmas.Named.{value_under_push, bytes_flip}
 use Rattle.mps_reader.specs.Reading.{sections_from, after_line, ends}
-use Rattle.mps_reader.proofs.Sectioned.{early, word_of}
+use Rattle.mps_reader.proofs.SectionTables.{early, word_of}
 use Rattle.mps_reader.specs.Sections.{Sections, none_yet, last_word, with_line, with_data_in, with_word, first_field, rows_of, row_entry, row_typed, sides, sides_of, side_set, with_sides, Bound, Entry, entries_of, columns_of, bound_at, bounds_of, bound_set, with_bound, number, has_value}
 use Rattle.mps_reader.specs.Words.{value_under, section_of, row_type_of}
 use Rattle.mps_reader.specs.declared.kinds.BoundType.{BoundType}

@@ -3,7 +3,7 @@ use Rattle.std.specs.Prelude.{◌≡◌, ℕ, ◌+◌, if◌then◌else◌, map,
 use Rattle.std.proofs.Common.{refl, sym, ap, ◌∙◌, arith}
 use Rattle.mps_lines.specs.Lines.{Line, raw_lines, is_passed_over, begins_blank, fields_of, line_of, numbered}
 use Rattle.mps_reader.specs.Faults.{◌<|>◌, when, bound_line_fault, may_follow, stage, rest_fault, word_fault, data_fault_in, line_fault}
-use Rattle.mps_reader.specs.Lemmas.Kept.{none_both}
+use Rattle.mps_reader.specs.Lemmas.LinesWithinLimits.{none_both}
 use Rattle.mps_reader.specs.Reading.{sections_from, after_line, is_end, ends, sections_in}
 use Rattle.mps_reader.specs.Sections.{Sections, none_yet, last_word, with_line, with_word, first_field, bound_with_value, bound_without_value, typed_bound, has_value, entries_of, bounds_of}
 use Rattle.mps_reader.specs.Words.{section_of, bound_type_of}

@@ -11,8 +11,8 @@ use Rattle.fraction.specs.Rational.{ℚ, whole}
 use Rattle.problem.specs.Limited.{AreLimited}
 use Rattle.mps_reader.proofs.SideNumbers.{numbers_of}
 use Rattle.mps_reader.proofs.BuildingLemmas.{are_limited, side_in}
-use Rattle.mps_reader.specs.Kept.{is_visible}
-use Rattle.mps_reader.specs.Lemmas.Kept.{reach_le, limited_wider}
+use Rattle.mps_reader.specs.VisibleNames.{is_visible}
+use Rattle.mps_reader.specs.Lemmas.LinesWithinLimits.{reach_le, limited_wider}
 use Rattle.mps_reader.specs.Meaning.{objective_terms, terms_of}
 use Rattle.mps_reader.specs.Lemmas.Modest.{modest_zero}
 use Rattle.mps_reader.specs.Sections.{Entry, number}

@@ -4,5 +4,5 @@ pub mod Placing
 pub mod Limits
 pub mod Modest
 pub mod Named
-pub mod Kept
+pub mod LinesWithinLimits
 pub mod FieldNames

@@ -2,8 +2,8 @@
 
 ghost use Rattle.std.specs.Prelude.{◌≡◌, ℕ, Bool, List, []};
 ghost use Rattle.mps_reader.specs.BoundTables.{HasBounds};
-ghost use Rattle.mps_reader.specs.Ordered.{HasOrder};
-ghost use Rattle.mps_reader.specs.Sectioned.{CountsRows, HoldsSections};
+ghost use Rattle.mps_reader.specs.SectionOrder.{HasOrder};
+ghost use Rattle.mps_reader.specs.SectionTables.{CountsRows, HoldsSections};
 ghost use Rattle.mps_reader.specs.Sections.{DeclaredRows, none_yet};
 ghost use Rattle.mps_reader.specs.SideLines.{HasSideLines};
 ghost use Rattle.mps_reader.specs.State.{HasEntries};

@@ -2,7 +2,7 @@
 
 ghost use Rattle.std.specs.Prelude.{◌≡◌, ◌<◌, IfOk, IfErr, None, Ok, Some, length, slice_get};
 ghost use Rattle.mps_reader.specs.BoundTables.{spans_or_fault};
-ghost use Rattle.mps_reader.specs.Followed.{IsFaultOf};
+ghost use Rattle.mps_reader.specs.TextTables.{IsFaultOf};
 ghost use Rattle.mps_reader.specs.Meaning.{column_end_fault, or_lower, or_upper, span};
 ghost use Rattle.mps_reader.specs.Tables.{table};
 

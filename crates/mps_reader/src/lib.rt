@@ -30,8 +30,5 @@ mod tables;
 mod words;
 
 pub use kinds::Kind;
-pub use mps::read_mps;
+pub use mps::{TEXT_LIMIT, read_mps};
 pub use reading::ReadFault;
-
-#[cfg(test)]
-mod tests;

@@ -1,7 +1,7 @@
 //! Reads a text of the whole profile.
 
 ghost use Rattle.std.specs.Prelude.{◌≡◌, IfOk, IfErr};
-ghost use Rattle.mps_reader.specs.Finished.{IsModestUpper, IsRefusedWith};
+ghost use Rattle.mps_reader.specs.Refusals.{IsModestUpper, IsRefusedWith};
 ghost use Rattle.mps_reader.specs.Reading.{Reads};
 
 use crate::empty::empty_tables;
@@ -13,7 +13,7 @@ use std::alloc::Global;
 use std::hash::BuildHasher;
 
 /// The bytes that a text may have.
-const TEXT_LIMIT: usize = 4_194_304;
+pub const TEXT_LIMIT: usize = 4_194_304;
 
 /// The problem that a text reads as, or why it gives none.
 ///

@@ -2,7 +2,7 @@
 
 ghost use Rattle.std.specs.Prelude.{◌≡◌, ◌==◌, ◌&&◌, ◌||◌, Some, not, drop, length};
 ghost use Rattle.mps_reader.specs.Faults.{limits_fields, may_follow, rest_fault, sense_fault, stage, stage_of, word_fault};
-ghost use Rattle.mps_reader.specs.Ordered.{HasOrder, order_after};
+ghost use Rattle.mps_reader.specs.SectionOrder.{HasOrder, order_after};
 ghost use Rattle.mps_reader.specs.Sections.{Sections};
 ghost use Rattle.mps_reader.specs.Tables.{texts};
 

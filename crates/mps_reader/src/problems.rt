@@ -1,8 +1,8 @@
 //! The problem of the reader's tables at ENDATA.
 
 ghost use Rattle.std.specs.Prelude.{◌≡◌, ℕ, List, IfOk, IfErr, Ok};
-ghost use Rattle.mps_reader.specs.Finished.{IsModestUpper};
-ghost use Rattle.mps_reader.specs.Followed.{HasData, HasSectionsOf, IsFaultOf};
+ghost use Rattle.mps_reader.specs.Refusals.{IsModestUpper};
+ghost use Rattle.mps_reader.specs.TextTables.{HasData, HasSectionsOf, IsFaultOf};
 ghost use Rattle.mps_reader.specs.Reading.{finish};
 ghost use Rattle.mps_reader.specs.Sections.{Sections};
 

@@ -1,9 +1,9 @@
 //! The lines of a text up to ENDATA.
 
 ghost use Rattle.std.specs.Prelude.{◌≡◌, ◌≤◌, IfOk, IfErr, length};
-ghost use Rattle.mps_reader.specs.Followed.{HasSectionsOf, IsFaultOf, fault_at};
+ghost use Rattle.mps_reader.specs.TextTables.{HasSectionsOf, IsFaultOf, fault_at};
 ghost use Rattle.mps_reader.specs.Reading.{sections_in, text_limit};
-ghost use Rattle.mps_reader.specs.Sectioned.{CountsRows, HoldsSections};
+ghost use Rattle.mps_reader.specs.SectionTables.{CountsRows, HoldsSections};
 ghost use Rattle.mps_reader.specs.Sections.{none_yet};
 
 use crate::kinds::{Kind, Stop};

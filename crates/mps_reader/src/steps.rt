@@ -5,7 +5,7 @@ ghost use Rattle.std.specs.List.{list_all};
 ghost use Rattle.mps_lines.specs.Left.{seen};
 ghost use Rattle.mps_reader.specs.Faults.{is_field, limits_fields};
 ghost use Rattle.mps_reader.specs.Reading.{is_end};
-ghost use Rattle.mps_reader.specs.Sectioned.{CountsRows, Steps, TakesLine, more_of, with_section};
+ghost use Rattle.mps_reader.specs.SectionTables.{CountsRows, Steps, TakesLine, more_of, with_section};
 ghost use Rattle.mps_reader.specs.Sections.{first_field};
 ghost use Rattle.mps_reader.specs.Words.{section_of};
 

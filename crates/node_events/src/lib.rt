@@ -9,8 +9,6 @@ mod event;
 mod mult;
 mod proof;
 mod reason;
-#[cfg(test)]
-mod tests;
 
 pub use event::Event;
 pub use mult::Mult;

@@ -82,6 +82,13 @@ impl Mult {
         self.terms.as_slice()
     }
 
+    /// The same as terms, the number of a row standing in the place of a column.
+    pub fn terms(&self) -> &Terms
+        ensures { result.now ≡ self.now }
+    {
+        &self.terms
+    }
+
     /// Equal multipliers. The one error is want of memory.
     pub fn copy(&self, alloc: Global) -> Result<Mult, AllocError>
         ensures { IfOk result (λ m. m ≡ self.now) }

@@ -5,7 +5,7 @@ use Rattle.outside.specs.Lemmas.SeenIsImage.{rests}
 use Rattle.node_journal.specs.History.{SomeFrom}
 use Rattle.node_journal.proofs.HistoryLaws.{some_none, some_goes, some_fails}
 use Rattle.node_journal.proofs.Torn.{wrote_behind}
-use Rattle.outside.specs.Images.{IsImage, LeavesOnly, Goes, Fails, moment_after_write, resting, moment_after_sync, overwritten}
+use Rattle.outside.specs.Images.{IsImage, LeavesOnly, OneMomentPasses, Fails, moment_after_write, resting, moment_after_sync, overwritten}
 use Rattle.node_journal.specs.Gate.{IsBefore, IsBeforeOrWith}
 use Rattle.outside.specs.declared.moment.Moment.{Moment}
 use Rattle.outside.specs.Lemmas.Passing.{started, goes_on, fails_on}
@@ -27,7 +27,7 @@ module _ (payload : List ℕ) (end : ℕ) (p : List Moment) (n : Moment) (rest :
   pub fails_1 : (p1 : List Moment) (n1 : Moment) → Fails p n p1 n1 (moment_after_write (end + 1) payload n) → LeavesOnly p n p1 n1 (IsBeforeOrWith n.seen end payload)
   fails_1 p1 n1 f = fails_on p p p1 n n n1 _ _ (started p n _ at_first) f at_first one
 
-  module _ (p1 : List Moment) (n1 : Moment) (g1 : Goes p n p1 n1 (moment_after_write (end + 1) payload n)) where
+  module _ (p1 : List Moment) (n1 : Moment) (g1 : OneMomentPasses p n p1 n1 (moment_after_write (end + 1) payload n)) where
     so_far_1 : LeavesOnly p n p1 n1 (IsBeforeOrWith n.seen end payload)
     so_far_1 = goes_on p p p1 n n n1 _ _ (started p n _ at_first) g1 one
 
@@ -40,7 +40,7 @@ module _ (payload : List ℕ) (end : ℕ) (p : List Moment) (n : Moment) (rest :
     pub fails_2 : (p2 : List Moment) (n2 : Moment) → Fails p1 n1 p2 n2 (moment_after_sync n1) → LeavesOnly p n p2 n2 (IsBeforeOrWith n.seen end payload)
     fails_2 p2 n2 f = fails_on p p1 p2 n n1 n2 _ _ so_far_1 f one' two
 
-    module _ (p2 : List Moment) (n2 : Moment) (g2 : Goes p1 n1 p2 n2 (moment_after_sync n1)) where
+    module _ (p2 : List Moment) (n2 : Moment) (g2 : OneMomentPasses p1 n1 p2 n2 (moment_after_sync n1)) where
       so_far_2 : LeavesOnly p n p2 n2 (IsBeforeOrWith n.seen end payload)
       so_far_2 = goes_on p p1 p2 n n1 n2 _ _ so_far_1 g2 two
 
@@ -56,7 +56,7 @@ module _ (payload : List ℕ) (end : ℕ) (p : List Moment) (n : Moment) (rest :
       pub fails_3 : (p3 : List Moment) (n3 : Moment) → Fails p2 n2 p3 n3 (moment_after_write end (1 ∷ []) n2) → LeavesOnly p n p3 n3 (IsBeforeOrWith n.seen end payload)
       fails_3 p3 n3 f = fails_on p p2 p3 n n2 n3 _ _ so_far_2 f two' three
 
-      module _ (p3 : List Moment) (n3 : Moment) (g3 : Goes p2 n2 p3 n3 (moment_after_write end (1 ∷ []) n2)) where
+      module _ (p3 : List Moment) (n3 : Moment) (g3 : OneMomentPasses p2 n2 p3 n3 (moment_after_write end (1 ∷ []) n2)) where
         so_far_3 : LeavesOnly p n p3 n3 (IsBeforeOrWith n.seen end payload)
         so_far_3 = goes_on p p2 p3 n n2 n3 _ _ so_far_2 g3 three
 
@@ -69,7 +69,7 @@ module _ (payload : List ℕ) (end : ℕ) (p : List Moment) (n : Moment) (rest :
         pub fails_4 : (p4 : List Moment) (n4 : Moment) → Fails p3 n3 p4 n4 (moment_after_sync n3) → LeavesOnly p n p4 n4 (IsBeforeOrWith n.seen end payload)
         fails_4 p4 n4 f = fails_on p p3 p4 n n3 n4 _ _ so_far_3 f three' four
 
-        pub ends : (p4 : List Moment) (n4 : Moment) → Goes p3 n3 p4 n4 (moment_after_sync n3) → LeavesOnly p n p4 n4 (IsBeforeOrWith n.seen end payload)
+        pub ends : (p4 : List Moment) (n4 : Moment) → OneMomentPasses p3 n3 p4 n4 (moment_after_sync n3) → LeavesOnly p n p4 n4 (IsBeforeOrWith n.seen end payload)
         ends p4 n4 g = goes_on p p3 p4 n n3 n4 _ _ so_far_3 g four
 
 -- Until the last of the four calls is done a crash can leave the bytes from before, with a closed gate at their end.
@@ -86,7 +86,7 @@ module _ (payload : List ℕ) (end : ℕ) (p : List Moment) (n : Moment) (rest :
   pub may_1 : (p1 : List Moment) (n1 : Moment) → Fails p n p1 n1 (moment_after_write (end + 1) payload n) → SomeFrom (length p) p1 (IsBefore n.seen)
   may_1 p1 n1 f = some_fails (length p) p n p1 n1 _ _ (some_none p _) can_0 f
 
-  module _ (p1 : List Moment) (n1 : Moment) (g1 : Goes p n p1 n1 (moment_after_write (end + 1) payload n)) where
+  module _ (p1 : List Moment) (n1 : Moment) (g1 : OneMomentPasses p n p1 n1 (moment_after_write (end + 1) payload n)) where
     gone_1 : SomeFrom (length p) p1 (IsBefore n.seen)
     gone_1 = some_goes (length p) p n p1 n1 _ _ (some_none p _) can_0 g1
 
@@ -96,7 +96,7 @@ module _ (payload : List ℕ) (end : ℕ) (p : List Moment) (n : Moment) (rest :
     pub may_2 : (p2 : List Moment) (n2 : Moment) → Fails p1 n1 p2 n2 (moment_after_sync n1) → SomeFrom (length p) p2 (IsBefore n.seen)
     may_2 p2 n2 f = some_fails (length p) p1 n1 p2 n2 _ _ gone_1 can_1 f
 
-    module _ (p2 : List Moment) (n2 : Moment) (g2 : Goes p1 n1 p2 n2 (moment_after_sync n1)) where
+    module _ (p2 : List Moment) (n2 : Moment) (g2 : OneMomentPasses p1 n1 p2 n2 (moment_after_sync n1)) where
       gone_2 : SomeFrom (length p) p2 (IsBefore n.seen)
       gone_2 = some_goes (length p) p1 n1 p2 n2 _ _ gone_1 can_1 g2
 
@@ -112,7 +112,7 @@ module _ (payload : List ℕ) (end : ℕ) (p : List Moment) (n : Moment) (rest :
       pub may_3 : (p3 : List Moment) (n3 : Moment) → Fails p2 n2 p3 n3 (moment_after_write end (1 ∷ []) n2) → SomeFrom (length p) p3 (IsBefore n.seen)
       may_3 p3 n3 f = some_fails (length p) p2 n2 p3 n3 _ _ gone_2 can_2 f
 
-      module _ (p3 : List Moment) (n3 : Moment) (g3 : Goes p2 n2 p3 n3 (moment_after_write end (1 ∷ []) n2)) where
+      module _ (p3 : List Moment) (n3 : Moment) (g3 : OneMomentPasses p2 n2 p3 n3 (moment_after_write end (1 ∷ []) n2)) where
         gone_3 : SomeFrom (length p) p3 (IsBefore n.seen)
         gone_3 = some_goes (length p) p2 n2 p3 n3 _ _ gone_2 can_2 g3
 
@@ -122,5 +122,5 @@ module _ (payload : List ℕ) (end : ℕ) (p : List Moment) (n : Moment) (rest :
         pub may_4 : (p4 : List Moment) (n4 : Moment) → Fails p3 n3 p4 n4 (moment_after_sync n3) → SomeFrom (length p) p4 (IsBefore n.seen)
         may_4 p4 n4 f = some_fails (length p) p3 n3 p4 n4 _ _ gone_3 can_3 f
 
-        pub may_end : (p4 : List Moment) (n4 : Moment) → Goes p3 n3 p4 n4 (moment_after_sync n3) → SomeFrom (length p) p4 (IsBefore n.seen)
+        pub may_end : (p4 : List Moment) (n4 : Moment) → OneMomentPasses p3 n3 p4 n4 (moment_after_sync n3) → SomeFrom (length p) p4 (IsBefore n.seen)
         may_end p4 n4 g = some_goes (length p) p3 n3 p4 n4 _ _ gone_3 can_3 g

@@ -3,7 +3,7 @@ use Rattle.std.specs.Prelude.{◌≡◌, ◌⊎◌, ℕ, zero, suc, ◌-◌, ◌
 use Rattle.std.proofs.Common.{arith, ap, subst, sym, ◌∙◌, inl, inr, ⊎_elim, append_assoc, length-append, length-take}
 use Rattle.std.proofs.lemmas.List.{take_all, take-take, take-append-le}
 use Rattle.std.proofs.lemmas.Option.{none-some, same_Some, slice_get_within}
-use Rattle.outside.specs.Images.{IsImage, Leaves, LeavesOnly, Stands, Goes, Fails}
+use Rattle.outside.specs.Images.{IsImage, Leaves, LeavesOnly, NoMomentPasses, OneMomentPasses, Fails}
 use Rattle.outside.specs.declared.moment.Moment.{Moment}
 use Rattle.node_journal.specs.Appends.{IsWithOrWithout}
 use Rattle.node_journal.specs.History.{first_of, count_of, BeginsWith, IsPrefixOf, Agree, Keeps, EachFrom, SomeFrom, Anything, ExtendsMoments, IsHistory, KeepsHistory}
@@ -95,7 +95,7 @@ module _ (past : List Moment) (now : Moment) (past' : List Moment) (now' : Momen
   pub continued : ExtendsMoments (past ++ now ∷ []) (past' ++ now' ∷ [])
   continued i m at = ap (λ (l : List Moment). slice_get l i) (run.passed ∙ sym (append_assoc past (now ∷ []) run.moments)) ∙ get_left (past ++ now ∷ []) run.moments i (slice_get_within (past ++ now ∷ []) i m at) ∙ at
 
-pub continued_stands : (past : List Moment) (now : Moment) (past' : List Moment) (now' : Moment) → Stands past now past' now' → ExtendsMoments (past ++ now ∷ []) (past' ++ now' ∷ [])
+pub continued_stands : (past : List Moment) (now : Moment) (past' : List Moment) (now' : Moment) → NoMomentPasses past now past' now' → ExtendsMoments (past ++ now ∷ []) (past' ++ now' ∷ [])
 continued_stands past now past' now' stands i m at = ap (λ (l : List Moment). slice_get (l ++ now' ∷ []) i) stands.none ∙ ap (λ x. slice_get (past ++ x ∷ []) i) stands.same ∙ at
 
 -- What a moment of a history keeps, each crash at each later moment leaves.
@@ -207,7 +207,7 @@ some_grown from past now past' P so_far here grew i m ge at = elim (side (length
     same : length past ≤ i → now ≡ m
     same last = same_Some now m (sym (get_seam past now []) ∙ ap (λ (k : ℕ). slice_get (past ++ now ∷ []) k) (omega (arith, last, slice_get_within (past ++ now ∷ []) i m there, length-append past (now ∷ []))) ∙ there)
 
-pub some_goes : (from : ℕ) (past : List Moment) (now : Moment) (past' : List Moment) (now' next : Moment) (P : List ℕ → Type 0) → SomeFrom from past P → (c : List ℕ) × IsImage now c × P c → Goes past now past' now' next → SomeFrom from past' P
+pub some_goes : (from : ℕ) (past : List Moment) (now : Moment) (past' : List Moment) (now' next : Moment) (P : List ℕ → Type 0) → SomeFrom from past P → (c : List ℕ) × IsImage now c × P c → OneMomentPasses past now past' now' next → SomeFrom from past' P
 some_goes from past now past' now' next P so_far here goes = some_grown from past now past' P so_far here goes.passed
 
 pub some_fails : (from : ℕ) (past : List Moment) (now : Moment) (past' : List Moment) (now' done : Moment) (P : List ℕ → Type 0) → SomeFrom from past P → (c : List ℕ) × IsImage now c × P c → Fails past now past' now' done → SomeFrom from past' P
@@ -219,7 +219,7 @@ some_fails from past now past' now' done P so_far here fails = elim fails.passed
 pub some_weaker : (from : ℕ) (past : List Moment) (P Q : List ℕ → Type 0) → ((c : List ℕ) → P c → Q c) → SomeFrom from past P → SomeFrom from past Q
 some_weaker from past P Q f all i m ge at = let w = all i m ge at in (w.0, w.1, f w.0 w.2)
 
-pub some_stands : (past : List Moment) (now : Moment) (past' : List Moment) (now' : Moment) (P : List ℕ → Type 0) → Stands past now past' now' → SomeFrom (length past) past' P
+pub some_stands : (past : List Moment) (now : Moment) (past' : List Moment) (now' : Moment) (P : List ℕ → Type 0) → NoMomentPasses past now past' now' → SomeFrom (length past) past' P
 some_stands past now past' now' P stands = subst (λ (l : List Moment). SomeFrom (length past) l P) (sym stands.none) (some_none past P)
 
 -- what a read gives is something
@@ -239,5 +239,5 @@ some_each past now past' now' P run some i m ge at = let w = some i m ge at in
     (w.0, w.1, run_each past now past' now' P run i m w.0 ge (get_left past' (now' ∷ []) i (slice_get_within past' i m at) ∙ at) w.1)
 
 -- A call that lets no moment go by keeps what is kept.
-pub kept_stands : (from : ℕ) (past : List Moment) (now : Moment) (past' : List Moment) (now' : Moment) (ps : List (List ℕ)) (fault : Option ℕ) → KeepsHistory from past now ps fault → Stands past now past' now' → KeepsHistory from past' now' ps fault
+pub kept_stands : (from : ℕ) (past : List Moment) (now : Moment) (past' : List Moment) (now' : Moment) (ps : List (List ℕ)) (fault : Option ℕ) → KeepsHistory from past now ps fault → NoMomentPasses past now past' now' → KeepsHistory from past' now' ps fault
 kept_stands from past now past' now' ps fault kept stands = subst (λ m. KeepsHistory from past' m ps fault) (sym stands.same) (subst (λ (l : List Moment). KeepsHistory from l now ps fault) (sym stands.none) kept)

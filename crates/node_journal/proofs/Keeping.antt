@@ -4,7 +4,7 @@ use Rattle.std.proofs.Common.{arith, ap, refl, subst, sym, ◌∙◌}
 use Rattle.std.proofs.lemmas.List.{append-nil, take_all}
 use Rattle.std.proofs.lemmas.Option.{none-some}
 use Rattle.std.specs.List.{list_all}
-use Rattle.outside.specs.Images.{IsImage, LeavesOnly, Stands, resting}
+use Rattle.outside.specs.Images.{IsImage, LeavesOnly, NoMomentPasses, resting}
 use Rattle.outside.specs.Lemmas.Passing.{weaker}
 use Rattle.outside.specs.Lemmas.SeenIsImage.{rests}
 use Rattle.outside.specs.declared.moment.Moment.{Moment}
@@ -44,7 +44,7 @@ module _ (from : ℕ) (past : List Moment) (now : Moment) (file : List ℕ) (ps 
     }
 
   -- it was not
-  pub since_none : (past' : List Moment) (now' : Moment) → Stands past now past' now' → EachFrom from (past' ++ now' ∷ []) (λ c. IsPrefixOf (ps ++ p ∷ []) (records c))
+  pub since_none : (past' : List Moment) (now' : Moment) → NoMomentPasses past now past' now' → EachFrom from (past' ++ now' ∷ []) (λ c. IsPrefixOf (ps ++ p ∷ []) (records c))
   since_none past' now' stands i m c ge at is = prefix_more ps (p ∷ []) (records c) ((kept_stands from past now past' now' ps None kept stands).prefixes refl i m c ge at is)
 
 -- A journal at rest keeps all of its payloads.

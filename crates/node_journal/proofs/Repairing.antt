@@ -3,7 +3,7 @@ use Rattle.std.specs.Prelude.{◌≡◌, ℕ, ◌+◌, ◌≤◌, true, List, []
 use Rattle.std.proofs.Common.{arith, ap, subst, sym, ◌∙◌, inl, length-drop, take-append-drop}
 use Rattle.std.proofs.lemmas.List.{append-nil, drop_all}
 use Rattle.std.specs.List.{list_all}
-use Rattle.outside.specs.Images.{IsImage, AtRest, LeavesOnly, Goes, Fails, moment_after_write, moment_after_cut, resting, moment_after_sync, overwritten}
+use Rattle.outside.specs.Images.{IsImage, AtRest, LeavesOnly, OneMomentPasses, Fails, moment_after_write, moment_after_cut, resting, moment_after_sync, overwritten}
 use Rattle.outside.specs.Lemmas.Passing.{started, goes_on, fails_on, weaker, joined}
 use Rattle.outside.specs.declared.moment.Moment.{Moment}
 use Rattle.node_journal.specs.Gate.{IsBefore}
@@ -27,7 +27,7 @@ pub record IsStepOver (P : List ℕ → Type 0) (n done : Moment) : Type 0 where
 pub first_fails : {P : List ℕ → Type 0} {p : List Moment} {n done : Moment} {p1 : List Moment} {n1 : Moment} → IsStepOver P n done → Fails p n p1 n1 done → LeavesOnly p n p1 n1 P
 first_fails {P = P} {p = p} {n = n} {done = done} {p1 = p1} {n1 = n1} h f = fails_on p p p1 n n n1 done P (started p n P h.before) f h.before h.between
 
-module _ {P : List ℕ → Type 0} {p : List Moment} {n done : Moment} {p1 : List Moment} {n1 : Moment} (h : IsStepOver P n done) (g1 : Goes p n p1 n1 done) where
+module _ {P : List ℕ → Type 0} {p : List Moment} {n done : Moment} {p1 : List Moment} {n1 : Moment} (h : IsStepOver P n done) (g1 : OneMomentPasses p n p1 n1 done) where
   so_far : LeavesOnly p n p1 n1 P
   so_far = goes_on p p p1 n n n1 done P (started p n P h.before) g1 h.between
 
@@ -40,21 +40,21 @@ module _ {P : List ℕ → Type 0} {p : List Moment} {n done : Moment} {p1 : Lis
   pub second_fails : {p2 : List Moment} {n2 : Moment} → Fails p1 n1 p2 n2 (moment_after_sync n1) → LeavesOnly p n p2 n2 P
   second_fails {p2 = p2} {n2 = n2} f = fails_on p p1 p2 n n1 n2 (moment_after_sync n1) P so_far f here there
 
-  pub both_go : {p2 : List Moment} {n2 : Moment} → Goes p1 n1 p2 n2 (moment_after_sync n1) → LeavesOnly p n p2 n2 P
+  pub both_go : {p2 : List Moment} {n2 : Moment} → OneMomentPasses p1 n1 p2 n2 (moment_after_sync n1) → LeavesOnly p n p2 n2 P
   both_go {p2 = p2} {n2 = n2} g = goes_on p p1 p2 n n1 n2 (moment_after_sync n1) P so_far g there
 
 -- at each moment of two calls a crash can leave something
 pub one_may_fail : {p : List Moment} {n done : Moment} {p1 : List Moment} {n1 : Moment} → IsImage n n.seen → Fails p n p1 n1 done → SomeFrom (length p) p1 Anything
 one_may_fail {p = p} {n = n} {done = done} {p1 = p1} {n1 = n1} seen f = some_fails (length p) p n p1 n1 done Anything (some_none p Anything) (can_seen n seen) f
 
-pub one_may_go : {p : List Moment} {n done : Moment} {p1 : List Moment} {n1 : Moment} → IsImage n n.seen → Goes p n p1 n1 done → SomeFrom (length p) p1 Anything
+pub one_may_go : {p : List Moment} {n done : Moment} {p1 : List Moment} {n1 : Moment} → IsImage n n.seen → OneMomentPasses p n p1 n1 done → SomeFrom (length p) p1 Anything
 one_may_go {p = p} {n = n} {done = done} {p1 = p1} {n1 = n1} seen g = some_goes (length p) p n p1 n1 done Anything (some_none p Anything) (can_seen n seen) g
 
-module _ {p : List Moment} {n done : Moment} {p1 : List Moment} {n1 : Moment} (seen : IsImage n n.seen) (g : Goes p n p1 n1 done) (later : IsImage n1 n1.seen) where
+module _ {p : List Moment} {n done : Moment} {p1 : List Moment} {n1 : Moment} (seen : IsImage n n.seen) (g : OneMomentPasses p n p1 n1 done) (later : IsImage n1 n1.seen) where
   pub two_may_fail : {p2 : List Moment} {n2 next : Moment} → Fails p1 n1 p2 n2 next → SomeFrom (length p) p2 Anything
   two_may_fail {p2 = p2} {n2 = n2} {next = next} f = some_fails (length p) p1 n1 p2 n2 next Anything (one_may_go seen g) (can_seen n1 later) f
 
-  pub two_may_go : {p2 : List Moment} {n2 next : Moment} → Goes p1 n1 p2 n2 next → SomeFrom (length p) p2 Anything
+  pub two_may_go : {p2 : List Moment} {n2 next : Moment} → OneMomentPasses p1 n1 p2 n2 next → SomeFrom (length p) p2 Anything
   two_may_go {p2 = p2} {n2 = n2} {next = next} k = some_goes (length p) p1 n1 p2 n2 next Anything (one_may_go seen g) (can_seen n1 later) k
 
 -- the bytes are those of a journal of these payloads
@@ -66,10 +66,10 @@ module _ {p : List Moment} {n : Moment} {p1 : List Moment} {n1 : Moment} (ps : L
   pub unsynced : Fails p n p1 n1 (moment_after_sync n) → LeavesOnly p n p1 n1 (HasAll ps)
   unsynced f = sync_fails (HasAll ps) p n rests (reads_records n.seen ps small reads) p1 n1 f
 
-  pub then_ended : {p2 : List Moment} {n2 : Moment} → Goes p n p1 n1 (moment_after_sync n) → LeavesOnly p1 n1 p2 n2 (HasAll ps) → LeavesOnly p n p2 n2 (HasAll ps)
+  pub then_ended : {p2 : List Moment} {n2 : Moment} → OneMomentPasses p n p1 n1 (moment_after_sync n) → LeavesOnly p1 n1 p2 n2 (HasAll ps) → LeavesOnly p n p2 n2 (HasAll ps)
   then_ended {p2 = p2} {n2 = n2} g run = joined p p1 p2 n n1 n2 (HasAll ps) (sync_goes (HasAll ps) p n rests (reads_records n.seen ps small reads) p1 n1 g) run
 
-  pub then_renewed : {p2 : List Moment} {n2 : Moment} → length n.seen ≤ 9 → Goes p n p1 n1 (moment_after_sync n) → LeavesOnly p1 n1 p2 n2 (λ c. length c ≤ 9) → LeavesOnly p n p2 n2 (HasAll ps)
+  pub then_renewed : {p2 : List Moment} {n2 : Moment} → length n.seen ≤ 9 → OneMomentPasses p n p1 n1 (moment_after_sync n) → LeavesOnly p1 n1 p2 n2 (λ c. length c ≤ 9) → LeavesOnly p n p2 n2 (HasAll ps)
   then_renewed {p2 = p2} {n2 = n2} short g run = then_ended g (weaker p1 n1 p2 n2 (λ c. length c ≤ 9) (HasAll ps) (short_holds ps (nil_of n.seen ps reads short)) run)
 
 -- the closed gate, after what stood behind it was taken away
@@ -84,7 +84,7 @@ pub runs_may : {from : ℕ} {p1 : List Moment} {n1 : Moment} {p2 : List Moment} 
 runs_may {from = from} {p1 = p1} {n1 = n1} {p2 = p2} {n2 = n2} {Q = Q} run first next = some_joined from p1 n1 p2 n2 Anything Q run first next
 
 -- a sync, and then a run
-pub then_may : {p : List Moment} {n done : Moment} {p1 : List Moment} {n1 : Moment} {p2 : List Moment} {n2 : Moment} {Q : List ℕ → Type 0} → IsImage n n.seen → Goes p n p1 n1 done
+pub then_may : {p : List Moment} {n done : Moment} {p1 : List Moment} {n1 : Moment} {p2 : List Moment} {n2 : Moment} {Q : List ℕ → Type 0} → IsImage n n.seen → OneMomentPasses p n p1 n1 done
     → LeavesOnly p1 n1 p2 n2 Q → SomeFrom (length p1) p2 Anything → SomeFrom (length p) p2 Anything
 then_may seen g run next = runs_may run (one_may_go seen g) next
 

@@ -14,7 +14,7 @@ pub struct Gates {
     pub end: usize,
 }
 
-/// Goes from gate to gate, up to the first that is closed.
+/// OneMomentPasses from gate to gate, up to the first that is closed.
 pub fn find_gates(alloc: Global, file: &[u8]) -> Result<Gates, JournalFault>
     requires long { 9 < length file.now }
     requires marked { take 8 file.now ≡ mark }

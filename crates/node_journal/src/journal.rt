@@ -1,7 +1,7 @@
 // A journal of payloads on a disk.
 ghost use Rattle.std.specs.Prelude.{◌≡◌, ◌⊎◌, ◌+◌, ◌<◌, ◌≤◌, ◌^◌, ◌++◌, ◌-◌, [], ◌∷◌, List, ℕ, true, false, length, take, IfOk, IfErr, OnOk, OnErr, IsErrOf, Some, None, slice_index, slice_index_or};
 ghost use Rattle.outside.specs.Faults.{Rose, Counts};
-ghost use Rattle.outside.specs.Images.{AtRest, LeavesOnly, Stands, resting};
+ghost use Rattle.outside.specs.Images.{AtRest, LeavesOnly, NoMomentPasses, resting};
 ghost use Rattle.node_journal.specs.Records.{records, Holds};
 ghost use Rattle.node_journal.specs.History.{EachFrom, SomeFrom, ExtendsMoments, IsPrefixOf, Keeps, KeepsHistory};
 ghost use Rattle.node_journal.specs.Views.{payloads_of};
@@ -41,7 +41,7 @@ impl<D: Disk> Journal<D> {
         ensures fresh { IfOk result (λ j. j.fault ≡ None) }
         ensures opened { D.tells ≡ true → IfOk result (λ j. j.opened ≡ length (D.past disk)) }
         ensures refused { D.tells ≡ true → IfErr result (λ e. Refuses e.0 (records (D.now disk).seen)) }
-        ensures untouched { IfErr result (λ e. is_disk e.0 ≡ false → Stands (D.past disk) (D.now disk) (D.past e.1) (D.now e.1)) }
+        ensures untouched { IfErr result (λ e. is_disk e.0 ≡ false → NoMomentPasses (D.past disk) (D.now disk) (D.past e.1) (D.now e.1)) }
         // A crash at any moment of the call leaves the payloads that were there.
         ensures any_moment { D.tells ≡ true → IfOk result (λ j. LeavesOnly (D.past disk) (D.now disk) (D.past j.disk) (D.now j.disk) (λ c. records c ≡ records (D.now disk).seen)) }
         ensures any_moment_err { D.tells ≡ true → IfErr result (λ e. LeavesOnly (D.past disk) (D.now disk) (D.past e.1) (D.now e.1) (λ c. records c ≡ records (D.now disk).seen)) }
@@ -84,10 +84,10 @@ impl<D: Disk> Journal<D> {
         ensures cause { self.old.fault ≡ None → Counts (D.count self.old.disk) (D.count self.new.disk) (fails_by_disk result) }
         ensures fails { self.old.fault ≡ None → IsErrOf result AppendFault.Disk → self.new.fault ≡ Some (D.count self.new.disk) }
         ensures memory { IsErrOf result AppendFault.Memory → (self.old.fault ≡ None) × (self.new.fault ≡ None) }
-        ensures memory_stands { IsErrOf result AppendFault.Memory → Stands (D.past self.old.disk) (D.now self.old.disk) (D.past self.new.disk) (D.now self.new.disk) }
+        ensures memory_stands { IsErrOf result AppendFault.Memory → NoMomentPasses (D.past self.old.disk) (D.now self.old.disk) (D.past self.new.disk) (D.now self.new.disk) }
         // A failed journal stays as it is.
         ensures failed { (n : ℕ) → self.old.fault ≡ Some n → IsErrOf result AppendFault.Disk × (self.new.fault ≡ Some n) × (D.count self.new.disk ≡ D.count self.old.disk) }
-        ensures failed_stands { (n : ℕ) → self.old.fault ≡ Some n → Stands (D.past self.old.disk) (D.now self.old.disk) (D.past self.new.disk) (D.now self.new.disk) }
+        ensures failed_stands { (n : ℕ) → self.old.fault ≡ Some n → NoMomentPasses (D.past self.old.disk) (D.now self.old.disk) (D.past self.new.disk) (D.now self.new.disk) }
     {
         if self.fault.is_some() {
             return Err(AppendFault::Disk);

@@ -1,7 +1,7 @@
 // A disk is read, and then its end is repaired.
 ghost use Rattle.std.specs.Prelude.{◌≡◌, true, false, length, IfOk, IfErr};
 ghost use Rattle.outside.specs.Faults.{Counts};
-ghost use Rattle.outside.specs.Images.{AtRest, LeavesOnly, Stands, resting};
+ghost use Rattle.outside.specs.Images.{AtRest, LeavesOnly, NoMomentPasses, resting};
 ghost use Rattle.node_journal.specs.Records.{records, Holds};
 ghost use Rattle.node_journal.specs.Frames.{file_of};
 ghost use Rattle.node_journal.specs.History.{SomeFrom};
@@ -20,7 +20,7 @@ pub fn open_disk<D: Disk>(alloc: Global, disk: &mut D) -> Result<Payloads, Journ
     ensures read { D.tells ≡ true → IfOk result (λ p. records (D.now disk.old).seen ≡ Holds (payloads_of p)) }
     ensures rests { D.tells ≡ true → IfOk result (λ p. D.now disk.new ≡ resting (file_of (payloads_of p))) }
     ensures refused { D.tells ≡ true → IfErr result (λ e. Refuses e (records (D.now disk.old).seen)) }
-    ensures untouched { IfErr result (λ e. is_disk e ≡ false → Stands (D.past disk.old) (D.now disk.old) (D.past disk.new) (D.now disk.new)) }
+    ensures untouched { IfErr result (λ e. is_disk e ≡ false → NoMomentPasses (D.past disk.old) (D.now disk.old) (D.past disk.new) (D.now disk.new)) }
     ensures any_moment { D.tells ≡ true → LeavesOnly (D.past disk.old) (D.now disk.old) (D.past disk.new) (D.now disk.new) (λ c. records c ≡ records (D.now disk.old).seen) }
     ensures offers { D.tells ≡ true → SomeFrom (length (D.past disk.old)) (D.past disk.new) (λ c. records c ≡ records (D.now disk.old).seen) }
     ensures cause { Counts (D.count disk.old) (D.count disk.new) (disk_failed result) }

@@ -2,7 +2,7 @@
 ghost use Rattle.std.specs.Prelude.{◌≡◌, ◌+◌, ◌<◌, ◌≤◌, ◌^◌, [], ◌++◌, ◌∷◌, OnOk, OnErr, IsErrOf, List, ℕ, true, length, IfOk, slice_index, slice_index_or};
 ghost use Rattle.std.specs.List.{list_all};
 ghost use Rattle.outside.specs.Faults.{Counts};
-ghost use Rattle.outside.specs.Images.{LeavesOnly, Stands, resting};
+ghost use Rattle.outside.specs.Images.{LeavesOnly, NoMomentPasses, resting};
 ghost use Rattle.node_journal.specs.Appends.{IsWithOrWithout};
 ghost use Rattle.node_journal.specs.Failing.{fails_by_disk};
 ghost use Rattle.node_journal.specs.Frames.{file_of, places_from, payloads_at, end_of, has_small_length};
@@ -103,7 +103,7 @@ impl Payloads {
         ensures done { D.tells ≡ true → OnOk result (D.now disk.new ≡ resting self.new.file.items) }
         ensures any_moment { D.tells ≡ true → LeavesOnly (D.past disk.old) (D.now disk.old) (D.past disk.new) (D.now disk.new) (IsWithOrWithout (payloads_of self.old) payload.now) }
         ensures before { D.tells ≡ true → SomeFrom (length (D.past disk.old)) (D.past disk.new) (λ c. records c ≡ Holds (payloads_of self.old)) }
-        ensures memory { IsErrOf result AppendFault.Memory → Stands (D.past disk.old) (D.now disk.old) (D.past disk.new) (D.now disk.new) }
+        ensures memory { IsErrOf result AppendFault.Memory → NoMomentPasses (D.past disk.old) (D.now disk.old) (D.past disk.new) (D.now disk.new) }
         ensures cause { Counts (D.count disk.old) (D.count disk.new) (fails_by_disk result) }
     {
         write_payload(disk, &mut self.file, &mut self.places, payload)

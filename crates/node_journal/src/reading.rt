@@ -1,7 +1,7 @@
 // What a disk holds.
 ghost use Rattle.std.specs.Prelude.{◌≡◌, ◌≤◌, ◌⊎◌, [], List, ℕ, true, length, IfOk, IfErr, IsErrOf};
 ghost use Rattle.outside.specs.Faults.{Counts};
-ghost use Rattle.outside.specs.Images.{Stands};
+ghost use Rattle.outside.specs.Images.{NoMomentPasses};
 ghost use Rattle.node_journal.specs.Records.{records, Holds};
 ghost use Rattle.node_journal.specs.Index.{Refuses, ReadsTo};
 ghost use Rattle.node_journal.specs.Views.{payloads_of, disk_failed};
@@ -42,7 +42,7 @@ pub fn read<D: Disk>(alloc: Global, disk: &mut D) -> Result<Reading, JournalFaul
     ensures reads { D.tells ≡ true → IfOk result (λ r. ReadsTo (D.now disk.old).seen (payloads_of r.payloads)) }
     ensures size { D.tells ≡ true → IfOk result (λ r. r.size ≡ length (D.now disk.old).seen) }
     ensures refused { D.tells ≡ true → IfErr result (λ e. Refuses e (records (D.now disk.old).seen)) }
-    ensures stands { Stands (D.past disk.old) (D.now disk.old) (D.past disk.new) (D.now disk.new) }
+    ensures stands { NoMomentPasses (D.past disk.old) (D.now disk.old) (D.past disk.new) (D.now disk.new) }
     ensures cause { Counts (D.count disk.old) (D.count disk.new) (disk_failed result) }
 {
     let size = disk.size()?;

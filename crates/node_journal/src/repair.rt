@@ -1,7 +1,7 @@
 // A disk that reads as a journal is made into one whose end is a closed gate, and which is on the disk whole.
 ghost use Rattle.std.specs.Prelude.{◌≡◌, ◌+◌, ◌<◌, ◌^◌, ◌≤◌, ◌++◌, [], ◌∷◌, List, ℕ, true, length, take, OnOk, OnErr, is_err};
 ghost use Rattle.outside.specs.Faults.{Counts};
-ghost use Rattle.outside.specs.Images.{AtRest, LeavesOnly, Goes, Fails, resting, moment_after_sync};
+ghost use Rattle.outside.specs.Images.{AtRest, LeavesOnly, OneMomentPasses, Fails, resting, moment_after_sync};
 ghost use Rattle.node_journal.specs.Gate.{IsBefore};
 ghost use Rattle.node_journal.specs.Repairs.{IsPrefixAndOne};
 ghost use Rattle.node_journal.specs.Records.{records, Holds, mark};
@@ -29,7 +29,7 @@ fn renew<D: Disk>(disk: &mut D) -> Result<(), Failed>
 
 /// Waits until a cut is on the disk: only then may the gate in front of it be written.
 fn sync_cut<D: Disk>(disk: &mut D) -> Result<(), Failed>
-    ensures done { D.tells ≡ true → OnOk result (Goes (D.past disk.old) (D.now disk.old) (D.past disk.new) (D.now disk.new) (moment_after_sync (D.now disk.old))) }
+    ensures done { D.tells ≡ true → OnOk result (OneMomentPasses (D.past disk.old) (D.now disk.old) (D.past disk.new) (D.now disk.new) (moment_after_sync (D.now disk.old))) }
     ensures failed { D.tells ≡ true → OnErr result (Fails (D.past disk.old) (D.now disk.old) (D.past disk.new) (D.now disk.new) (moment_after_sync (D.now disk.old))) }
     ensures cause { Counts (D.count disk.old) (D.count disk.new) (is_err result) }
 {

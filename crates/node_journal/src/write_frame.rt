@@ -1,7 +1,7 @@
 // A frame behind the gate at the end, and then the gate.
 ghost use Rattle.std.specs.Prelude.{◌≡◌, ◌+◌, ◌<◌, ◌^◌, ◌++◌, [], ◌∷◌, true, length, take, OnOk, OnErr, is_err};
 ghost use Rattle.outside.specs.Faults.{Counts};
-ghost use Rattle.outside.specs.Images.{LeavesOnly, Goes, Fails, resting, moment_after_sync};
+ghost use Rattle.outside.specs.Images.{LeavesOnly, OneMomentPasses, Fails, resting, moment_after_sync};
 ghost use Rattle.node_journal.specs.Gate.{IsBefore, IsBeforeOrWith};
 ghost use Rattle.node_journal.specs.History.{SomeFrom};
 
@@ -9,7 +9,7 @@ use outside::{Disk, Failed};
 
 /// Waits until a frame is on the disk: only then may its gate be opened.
 fn sync_frame<D: Disk>(disk: &mut D) -> Result<(), Failed>
-    ensures done { D.tells ≡ true → OnOk result (Goes (D.past disk.old) (D.now disk.old) (D.past disk.new) (D.now disk.new) (moment_after_sync (D.now disk.old))) }
+    ensures done { D.tells ≡ true → OnOk result (OneMomentPasses (D.past disk.old) (D.now disk.old) (D.past disk.new) (D.now disk.new) (moment_after_sync (D.now disk.old))) }
     ensures failed { D.tells ≡ true → OnErr result (Fails (D.past disk.old) (D.now disk.old) (D.past disk.new) (D.now disk.new) (moment_after_sync (D.now disk.old))) }
     ensures seen { D.tells ≡ true → (D.now disk.new).seen ≡ (D.now disk.old).seen }
     ensures cause { Counts (D.count disk.old) (D.count disk.new) (is_err result) }
@@ -20,7 +20,7 @@ fn sync_frame<D: Disk>(disk: &mut D) -> Result<(), Failed>
 
 /// Waits until an open gate is on the disk: only then may its payload be acknowledged.
 fn sync_gate<D: Disk>(disk: &mut D) -> Result<(), Failed>
-    ensures done { D.tells ≡ true → OnOk result (Goes (D.past disk.old) (D.now disk.old) (D.past disk.new) (D.now disk.new) (moment_after_sync (D.now disk.old))) }
+    ensures done { D.tells ≡ true → OnOk result (OneMomentPasses (D.past disk.old) (D.now disk.old) (D.past disk.new) (D.now disk.new) (moment_after_sync (D.now disk.old))) }
     ensures failed { D.tells ≡ true → OnErr result (Fails (D.past disk.old) (D.now disk.old) (D.past disk.new) (D.now disk.new) (moment_after_sync (D.now disk.old))) }
     ensures cause { Counts (D.count disk.old) (D.count disk.new) (is_err result) }
 {

@@ -1,7 +1,7 @@
 // A payload behind the last one: first in memory, then on the disk.
 ghost use Rattle.std.specs.Prelude.{◌≡◌, ◌+◌, ◌-◌, ◌<◌, ◌≤◌, ◌^◌, ◌++◌, [], ◌∷◌, List, ℕ, true, length, take, set, OnOk, OnErr, IsErrOf};
 ghost use Rattle.outside.specs.Faults.{Counts};
-ghost use Rattle.outside.specs.Images.{LeavesOnly, Stands, resting};
+ghost use Rattle.outside.specs.Images.{LeavesOnly, NoMomentPasses, resting};
 ghost use Rattle.node_journal.specs.Frames.{tail_of};
 ghost use Rattle.node_journal.specs.Gate.{IsBefore, IsBeforeOrWith};
 ghost use Rattle.node_journal.specs.History.{SomeFrom};
@@ -49,7 +49,7 @@ pub fn write_payload<D: Disk>(
     ensures done { D.tells ≡ true → OnOk result (D.now disk.new ≡ resting (take (length file.old.items - 1) file.old.items ++ 1 ∷ tail_of payload.now)) }
     ensures any_moment { D.tells ≡ true → LeavesOnly (D.past disk.old) (D.now disk.old) (D.past disk.new) (D.now disk.new) (IsBeforeOrWith file.old.items (length file.old.items - 1) (tail_of payload.now)) }
     ensures before { D.tells ≡ true → SomeFrom (length (D.past disk.old)) (D.past disk.new) (IsBefore file.old.items) }
-    ensures memory { IsErrOf result AppendFault.Memory → Stands (D.past disk.old) (D.now disk.old) (D.past disk.new) (D.now disk.new) }
+    ensures memory { IsErrOf result AppendFault.Memory → NoMomentPasses (D.past disk.old) (D.now disk.old) (D.past disk.new) (D.now disk.new) }
     ensures cause { Counts (D.count disk.old) (D.count disk.new) (fails_by_disk result) }
 {
     let count = places.len();

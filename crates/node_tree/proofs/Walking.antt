@@ -1,5 +1,5 @@
 -- Walks up a tree.
-use Rattle.std.specs.Prelude.{◌≡◌, ◌<◌, ◌+◌, ◌&&◌, eqb, ℕ, cond, Bool, true, false, List, [], ◌∷◌, ◌++◌, length, Some, None, drop}
+use Rattle.std.specs.Prelude.{◌≡◌, ◌<◌, ◌≤◌, ◌+◌, ◌&&◌, eqb, ℕ, cond, Bool, true, false, List, [], ◌∷◌, ◌++◌, length, Some, None, drop}
 use Rattle.std.proofs.Common.{ap, ◌∙◌, subst, append_assoc, arith}
 use Rattle.std.proofs.Math.Seq.{drop-append_seam}
 use Rattle.problem_box.specs.declared.span.Span.{Span}
@@ -10,8 +10,8 @@ use Rattle.node_tree.specs.Nodes.{Tree, node_at, branch_at}
 use Rattle.node_tree.specs.Paths.{path_at, box_along, setting, is_same_side}
 use Rattle.node_tree.specs.Cuts.{IsInside, AreInside}
 use Rattle.node_tree.specs.Trees.{IsTree}
-use Rattle.node_tree.proofs.Paths.{path_end, path_child}
-use Rattle.node_tree.proofs.Insides.{reached_by, downwards}
+use Rattle.node_tree.specs.Lemmas.Paths.{path_end, path_child}
+use Rattle.node_tree.specs.Lemmas.Insides.{reached_by, downwards}
 
 module _ (t : Tree) (tree : IsTree t) where
   pub path_stops : (i : ℕ) → branch_at t i ≡ None → path_at t i ≡ []
@@ -24,8 +24,8 @@ module _ (t : Tree) (tree : IsTree t) where
   parent_there i b e = let r = reached_by t tree i b e in (r.downwards, omega (arith, r.downwards, r.there))
 
   -- a first child has a next number, which is that of a node
-  pub second_child : (i k : ℕ) → (node_at t i).first_child ≡ Some k → k + 1 < 1_000_000_000
-  second_child i k e = let r = reached_by t tree (k + 1) _ (tree.children i k e).right in omega (arith, r.there, tree.few)
+  pub second_child : length t.nodes ≤ 1_000_000_000 → (i k : ℕ) → (node_at t i).first_child ≡ Some k → k + 1 < 1_000_000_000
+  second_child few i k e = let r = reached_by t tree (k + 1) _ (tree.children i k e).right in omega (arith, r.there, few)
 
   -- the walk goes on past a branch that set another bound, and stops at one that set this one
   module _ (j : ℕ) (side : Side) (i : ℕ) (b : Branch) (e : branch_at t i ≡ Some b) where
@@ -45,7 +45,6 @@ other_room root nodes a b h = record {
   root = h.root;
   reached = λ i l m. let r = h.reached i l m in record { branch = r.branch; reached = r.reached; downwards = r.downwards; child = r.child; inside = r.inside };
   children = λ i k e. let c = h.children i k e in record { column = c.column; bound = c.bound; left = c.left; right = c.right };
-  few = h.few;
 }
 
 -- ---- a path whose last branch is taken off

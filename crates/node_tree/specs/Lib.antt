@@ -4,3 +4,4 @@ pub mod Cuts
 pub mod Splits
 pub mod Trees
 pub mod Laws
+pub mod Lemmas

@@ -1,5 +1,5 @@
 -- What is true of each tree.
-use Rattle.std.specs.Prelude.{◌≡◌, ◌⊎◌, ◌<◌, ◌≤◌, ◌+◌, ℕ, ℤ, length, Some, None}
+use Rattle.std.specs.Prelude.{◌≡◌, ◌⊎◌, ◌<◌, ◌+◌, ℕ, ℤ, length, Some, None}
 use Rattle.std.specs.Option.{IsSomeAnd}
 use Rattle.node_tree.specs.declared.branch.Branch.{Branch}
 use Rattle.node_tree.specs.Nodes.{Tree, node_at, branch_at, children_at}
@@ -32,4 +32,3 @@ pub record IsTree (t : Tree) : Type 0 where
   pub root : branch_at t 0 ≡ None
   pub reached : (i : ℕ) → 0 < i → i < length t.nodes → IsReached t i
   pub children : (i k : ℕ) → (node_at t i).first_child ≡ Some k → AreChildrenOf t i k
-  pub few : length t.nodes ≤ 1_000_000_000

@@ -4,8 +4,6 @@
 mod branch;
 pub mod laws;
 mod path;
-#[cfg(test)]
-mod tests;
 mod tree;
 
 pub use branch::{Branch, Side};

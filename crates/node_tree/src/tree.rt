@@ -23,7 +23,7 @@ pub struct Tree {
 }
 
 impl Model for Tree {
-    ghost use Rattle.std.specs.Prelude.{◌-◌, ◌/◌, vec_len};
+    ghost use Rattle.std.specs.Prelude.{◌-◌, ◌/◌, ◌≤◌, length, vec_len};
     ghost use Rattle.std.specs.Vec.{vec_capacity};
     ghost use Rattle.node_tree.specs.Nodes.{Tree};
 
@@ -33,7 +33,7 @@ impl Model for Tree {
 
     ghost view = { λ t. record { root = t.root; nodes = t.nodes.items; room = (vec_capacity t.nodes - vec_len t.nodes) / 2 } };
 
-    ghost invariant = { λ t. IsTree (record { root = t.root; nodes = t.nodes.items; room = (vec_capacity t.nodes - vec_len t.nodes) / 2 }) };
+    ghost invariant = { λ t. IsTree (record { root = t.root; nodes = t.nodes.items; room = (vec_capacity t.nodes - vec_len t.nodes) / 2 }) × (length t.nodes.items ≤ 1_000_000_000) };
 }
 
 /// A leaf that a branch leads to.
@@ -200,7 +200,8 @@ impl Tree {
 
     /// Each tree keeps to its conditions. This computes nothing: its contract is for callers' proofs.
     pub fn conditions_hold(&self)
-        ensures { IsTree self.now }
+        ensures tree { IsTree self.now }
+        ensures few { length self.now.nodes ≤ 1_000_000_000 }
     {
         let _nodes = &self.nodes;
     }

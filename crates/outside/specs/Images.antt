@@ -38,12 +38,12 @@ abbrev pub AtRest : Moment → Type 0
 AtRest m = (c : List ℕ) → IsImage m c → c ≡ m.seen
 
 -- no moment went by
-pub record Stands (past : List Moment) (now : Moment) (past' : List Moment) (now' : Moment) : Type 0 where
+pub record NoMomentPasses (past : List Moment) (now : Moment) (past' : List Moment) (now' : Moment) : Type 0 where
   pub none : past' ≡ past
   pub same : now' ≡ now
 
 -- one moment went by, and this is the next
-pub record Goes (past : List Moment) (now : Moment) (past' : List Moment) (now' next : Moment) : Type 0 where
+pub record OneMomentPasses (past : List Moment) (now : Moment) (past' : List Moment) (now' next : Moment) : Type 0 where
   pub passed : past' ≡ past ++ now ∷ []
   pub came : now' ≡ next
 

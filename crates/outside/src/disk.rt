@@ -1,7 +1,7 @@
 // A disk, with what a crash may leave at each moment.
 ghost use Rattle.std.specs.Prelude.{◌≡◌, ◌+◌, ◌≤◌, ◌++◌, [], ◌∷◌, List, ℕ, Bool, true, length, take, drop, IfOk, OnOk, OnErr, is_err};
 ghost use Rattle.outside.specs.Faults.{Counts};
-ghost use Rattle.outside.specs.Images.{IsImage, moment_after_write, moment_after_cut, moment_after_sync, Stands, Goes, Fails};
+ghost use Rattle.outside.specs.Images.{IsImage, moment_after_write, moment_after_cut, moment_after_sync, NoMomentPasses, OneMomentPasses, Fails};
 
 use crate::{Failed, Moment};
 
@@ -31,7 +31,7 @@ pub trait Disk {
     /// How many bytes a read can give.
     fn size(&mut self) -> Result<u64, Failed>
         ensures told { tells ≡ true → IfOk result (λ n. n ≡ length (now self.old).seen) }
-        ensures stands { Stands (past self.old) (now self.old) (past self.new) (now self.new) }
+        ensures stands { NoMomentPasses (past self.old) (now self.old) (past self.new) (now self.new) }
         ensures clock { ticks self.new ≡ ticks self.old }
         ensures cause { Counts (count self.old) (count self.new) (is_err result) };
 
@@ -39,7 +39,7 @@ pub trait Disk {
     fn read_at(&mut self, at: u64, buf: &mut [u8]) -> Result<(), Failed>
         requires { tells ≡ true → at + length buf.old ≤ length (now self.old).seen }
         ensures told { tells ≡ true → OnOk result (buf.new ≡ take (length buf.old) (drop at (now self.old).seen)) }
-        ensures stands { Stands (past self.old) (now self.old) (past self.new) (now self.new) }
+        ensures stands { NoMomentPasses (past self.old) (now self.old) (past self.new) (now self.new) }
         ensures clock { ticks self.new ≡ ticks self.old }
         ensures cause { Counts (count self.old) (count self.new) (is_err result) };
 
@@ -47,21 +47,21 @@ pub trait Disk {
     /// than 2^63 bytes: a write past that fails.
     fn write_at(&mut self, at: u64, bytes: &[u8]) -> Result<(), Failed>
         requires { tells ≡ true → at ≤ length (now self.old).seen }
-        ensures done { tells ≡ true → OnOk result (Goes (past self.old) (now self.old) (past self.new) (now self.new) (moment_after_write at bytes.now (now self.old))) }
+        ensures done { tells ≡ true → OnOk result (OneMomentPasses (past self.old) (now self.old) (past self.new) (now self.new) (moment_after_write at bytes.now (now self.old))) }
         ensures failed { tells ≡ true → OnErr result (Fails (past self.old) (now self.old) (past self.new) (now self.new) (moment_after_write at bytes.now (now self.old))) }
         ensures cause { Counts (count self.old) (count self.new) (is_err result) };
 
     /// Takes away the bytes from this size on, which is at most the disk's.
     fn cut(&mut self, size: u64) -> Result<(), Failed>
         requires { tells ≡ true → size ≤ length (now self.old).seen }
-        ensures done { tells ≡ true → OnOk result (Goes (past self.old) (now self.old) (past self.new) (now self.new) (moment_after_cut size (now self.old))) }
+        ensures done { tells ≡ true → OnOk result (OneMomentPasses (past self.old) (now self.old) (past self.new) (now self.new) (moment_after_cut size (now self.old))) }
         ensures failed { tells ≡ true → OnErr result (Fails (past self.old) (now self.old) (past self.new) (now self.new) (moment_after_cut size (now self.old))) }
         ensures cause { Counts (count self.old) (count self.new) (is_err result) };
 
     /// After a sync that succeeds a crash leaves what a read gives. Also one that fails changes nothing of what a read
     /// gives.
     fn sync(&mut self) -> Result<(), Failed>
-        ensures done { tells ≡ true → OnOk result (Goes (past self.old) (now self.old) (past self.new) (now self.new) (moment_after_sync (now self.old))) }
+        ensures done { tells ≡ true → OnOk result (OneMomentPasses (past self.old) (now self.old) (past self.new) (now self.new) (moment_after_sync (now self.old))) }
         ensures failed { tells ≡ true → OnErr result (Fails (past self.old) (now self.old) (past self.new) (now self.new) (moment_after_sync (now self.old))) }
         ensures seen { tells ≡ true → (now self.new).seen ≡ (now self.old).seen }
         ensures cause { Counts (count self.old) (count self.new) (is_err result) };

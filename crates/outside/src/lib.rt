@@ -15,8 +15,6 @@ mod moment;
 mod replayed;
 mod sink;
 mod source;
-#[cfg(test)]
-mod tests;
 mod whole_sink;
 mod whole_source;
 

@@ -7,8 +7,6 @@ mod program;
 mod row;
 mod term;
 mod terms;
-#[cfg(test)]
-mod tests;
 
 pub use names::Names;
 pub use point::Point;

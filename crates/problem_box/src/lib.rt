@@ -3,8 +3,6 @@
 
 mod int_box;
 mod span;
-#[cfg(test)]
-mod tests;
 
 pub use int_box::IntBox;
 pub use span::Span;

@@ -2,8 +2,6 @@
 #![tactic(auto)]
 
 mod activity;
-#[cfg(test)]
-mod tests;
 mod verdict;
 
 pub use activity::{high, low};

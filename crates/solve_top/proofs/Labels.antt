@@ -9,8 +9,13 @@ use Rattle.problem_box.specs.declared.span.Span.{Span}
 use Rattle.cert_rows.specs.Validity.{lower_row, upper_row}
 use Rattle.cert_rows.specs.declared.line.CertRow.{CertRow}
 use Rattle.cert_rows.specs.declared.line.Why.{Why}
+use Rattle.node_tree.specs.declared.branch.Branch.{Branch}
+use Rattle.node_tree.specs.declared.branch.Node.{Node}
+use Rattle.derivation_book.specs.declared.cut.Cut.{Cut}
+use Rattle.event_core.specs.declared.entry.Entry.{Entry}
+use Rattle.event_core.specs.States.{State}
+use Rattle.event_core.specs.Histories.{state_of}
 use Rattle.cert_merge.specs.Merged.{label_of, labelled, row_lines, bound_lines, cut_lines, assumption_of, assumption_lines, node_of, node_lines, merged}
-use Rattle.cert_merge.specs.Search.{Cut, Branch, Node, Search}
 use Rattle.vipr_print.specs.Lemmas.Numerals.{decimal_word}
 use Rattle.vipr_print.specs.Unique.{IsWord}
 
@@ -52,12 +57,15 @@ assumptions_labelled i [] = All-nil IsLabelledLine
 assumptions_labelled i (n ∷ ns) =
     All-append IsLabelledLine (assumption_of i n.branch) (assumption_lines (i + 1) ns) (assumption_labelled i n.branch) (assumptions_labelled (i + 1) ns)
 
-nodes_labelled : (p : Problem) (s : Search) (k : ℕ) → All IsLabelledLine (node_lines p s k)
-nodes_labelled p s zero = All-nil IsLabelledLine
-nodes_labelled p s (suc i) = All-cons IsLabelledLine (node_of p s i) (node_lines p s i) (label_word 78 i (omega arith)) (nodes_labelled p s i)
+nodes_labelled : (s : State) (es : List Entry) (k : ℕ) → All IsLabelledLine (node_lines s es k)
+nodes_labelled s es zero = All-nil IsLabelledLine
+nodes_labelled s es (suc i) = All-cons IsLabelledLine (node_of s es i) (node_lines s es i) (label_word 78 i (omega arith)) (nodes_labelled s es i)
 
-pub lines_labelled : (p : Problem) (s : Search) → All (λ d. IsWord d.0.label) (merged p s).lines
-lines_labelled p s =
-    All-append IsLabelledLine (cut_lines 0 s.cuts ++ assumption_lines 0 s.nodes) (node_lines p s (length s.nodes))
+state_labelled : (s : State) (es : List Entry) → All IsLabelledLine (cut_lines 0 s.cuts ++ assumption_lines 0 s.nodes ++ node_lines s es (length s.nodes))
+state_labelled s es =
+    All-append IsLabelledLine (cut_lines 0 s.cuts ++ assumption_lines 0 s.nodes) (node_lines s es (length s.nodes))
     (All-append IsLabelledLine (cut_lines 0 s.cuts) (assumption_lines 0 s.nodes) (cuts_labelled 0 s.cuts) (assumptions_labelled 0 s.nodes))
-    (nodes_labelled p s (length s.nodes))
+    (nodes_labelled s es (length s.nodes))
+
+pub lines_labelled : (p : Problem) (es : List Entry) → All (λ d. IsWord d.0.label) (merged p es).lines
+lines_labelled p es = state_labelled (state_of p es) es

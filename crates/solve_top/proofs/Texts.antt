@@ -1,69 +1,92 @@
--- The certificate and the lines of a search, as those of its program.
-use Rattle.std.proofs.Common.{refl, ◌≡◌, ◌∙◌, ℕ, ℤ, List, [], ◌∷◌, Option, Some, None, length, ap, sym, subst}
-use Rattle.std.proofs.lemmas.List.{length-map}
-use Rattle.problem.specs.Problem.{Problem}
+-- The lines and the certificate of a state that is handed back, as those of its search.
+use Rattle.std.specs.Prelude.{◌≡◌, ◌↔◌, ◌<◌, ◌≤◌, ◌+◌, max, ℕ, zero, suc, eqb, if◌then◌else◌, List, length}
+use Rattle.std.proofs.Common.{◌∙◌, ap, sym, subst, arith}
+use Rattle.std.proofs.Math.Dec.{eqb-suc-zero}
+use Rattle.problem.specs.Best.{IsVoid}
 use Rattle.cert_rows.specs.declared.certificate.Cert.{Cert}
+use Rattle.cert_rows.specs.declared.certificate.Goal.TheVariants.{Infeas}
 use Rattle.cert_rows.specs.Validity.{IsValid}
-use Rattle.cert_merge.specs.Search.{Search}
-use Rattle.cert_merge.specs.Open.{OpenSearch, node_so_far, so_far}
+use Rattle.event_core.specs.States.{State, first_state, open_count, cutoff}
+use Rattle.event_core.specs.Histories.{AreLegal, state_of}
+use Rattle.event_core.specs.Rooms.{Recorded}
+use Rattle.core_search.specs.Endings.{AdmitsSplit, IsSpent}
+use Rattle.core_search.specs.Laws.{SplitsHavePoints}
 use Rattle.cert_merge.specs.Merged.{merged, claim_of}
-use Rattle.cert_tree.specs.Laws.{IsAnswer}
-use Rattle.plain_search.specs.Laws.{FinishedIsFinished}
-use Rattle.plain_search.specs.FirstSearch.{first_search}
+use Rattle.cert_tree.specs.Laws.{IsTrueClaim, MergedIsValid, MergedIsTrue, InfeasibilityIsExact}
 use Rattle.vipr_print.specs.Spelling.{text_of}
 use Rattle.vipr_print.specs.Unique.{SpellsOnly}
 use Rattle.solve_top.specs.Changes.{SinkChange, Takes, TakesPrefix}
 use Rattle.solve_top.specs.Output.{answer_lines, spent_lines}
-use Rattle.solve_top.specs.Searches.{certificate_of, certificate_text, lines_at, lines_due, IsFinishedBy, IsTrueClaim, IsSolved}
+use Rattle.solve_top.specs.Searches.{search_of, end_of, HasFinished, HasSpent, HasTooFewNodes, IsSolved, certificate_text, lines_at, lines_due}
 
--- ---- the lines
-at_end : (p : Problem) (s : OpenSearch) (is : List ℕ) → is ≡ [] → answer_lines (claim_of p s.incumbent) (length s.nodes) ≡ lines_at p s is
-at_end p s is e = ap (λ js. lines_at p s js) (sym e)
+-- ---- lines
+while_none : (n : ℕ) (a b : List ℕ) → n ≡ 0 → (if eqb n 0 then a else b) ≡ a
+while_none n a b h = rw h
 
-while_open : (p : Problem) (s : OpenSearch) (is : List ℕ) → (is ≡ [] → ⊥) → spent_lines (length s.nodes) (length is) ≡ lines_at p s is
-while_open p s [] o = absurd (o refl)
-while_open p s (i ∷ is) o = refl
+while_open : (n : ℕ) (a b : List ℕ) → 0 < n → (if eqb n 0 then a else b) ≡ b
+while_open zero a b h = absurd (omega arith)
+while_open (suc n) a b h = rw eqb-suc-zero
 
-pub open_lines_are : (p : Problem) (n nodes open_nodes : ℕ) (text : List ℕ) → (IsFinishedBy p n → ⊥) → nodes ≡ length (first_search p n).search.nodes → open_nodes ≡ length (first_search p n).open_nodes
-    → text ≡ spent_lines nodes open_nodes → text ≡ lines_due p n
-unfolding lines_due
-open_lines_are p n nodes open_nodes text o a b h =
-    h ∙ ap (λ m. spent_lines m open_nodes) a ∙ ap (λ m. spent_lines (length (first_search p n).search.nodes) m) b
-    ∙ while_open p (first_search p n).search (first_search p n).open_nodes o
+-- ---- nodes
+at_most : (n b : ℕ) → 1 ≤ b → n ≤ max b 1 → n ≤ b
+at_most n b h l = grind arith
 
--- ---- the claim
-claim_true : (p : Problem) (s : OpenSearch) (o : Option (List ℤ)) → s.incumbent ≡ o → IsAnswer p s.incumbent → IsTrueClaim p (merged p (so_far s)) (merged p (so_far s)).claim
-claim_true p s None e h = subst (λ i. IsTrueClaim p (merged p (so_far (record s { incumbent = i }))) (claim_of p i)) (sym e) (subst (IsAnswer p) e h)
-claim_true p s (Some x) e h =
-    subst (λ i. IsTrueClaim p (merged p (so_far (record s { incumbent = i }))) (claim_of p i)) (sym e) (x, refl, subst (IsAnswer p) e h, refl, refl)
+-- a search that begins with one node keeps to a budget of at least that one
+pub within_budget : (first : State) (r : Recorded) (budget : ℕ) → 1 ≤ budget → first ≡ first_state first.problem → length r.state.nodes ≤ max budget (length first.nodes)
+    → r.state ≡ state_of r.state.problem r.history → length (end_of (search_of r)).nodes ≤ budget
+within_budget first r budget some begins within stands =
+    let one : length first.nodes ≡ 1 = ap (λ (s : State). length s.nodes) begins in
+    subst (λ (s : State). length s.nodes ≤ budget) stands (at_most (length r.state.nodes) budget some (subst (λ n. length r.state.nodes ≤ max budget n) one within))
 
--- ---- the certificate of a search that is finished
-module _ (p : Problem) (n : ℕ) (s : Search) (c : Cert) (finished : IsFinishedBy p n) (ends : s ≡ so_far (first_search p n).search) (merges : c ≡ merged p s) where
-  certificate_is : c ≡ certificate_of p n
-  certificate_is = merges ∙ ap (merged p) ends
-
-  pub valid_end : FinishedIsFinished p → IsValid p c
-  valid_end law = subst (IsValid p) (sym certificate_is) (law n finished).valid
-
-  pub prefix_end : (cert : SinkChange) → TakesPrefix cert (text_of c) → TakesPrefix cert (certificate_text p n)
-  unfolding certificate_text
-  prefix_end cert h = subst (λ (d : Cert). TakesPrefix cert (text_of d)) certificate_is h
-
-  pub lines_are : (text : List ℕ) → text ≡ answer_lines c.claim (length s.nodes) → text ≡ lines_due p n
+-- ---- what is handed back
+module _ (r : Recorded) (stands : r.state ≡ state_of r.state.problem r.history) where
+  due_at : lines_at r.state ≡ lines_due (search_of r)
   unfolding lines_due
-  lines_are text h =
-      h ∙ ap (λ (d : Cert). answer_lines d.claim (length s.nodes)) certificate_is
-      ∙ ap (λ m. answer_lines (claim_of p (first_search p n).search.incumbent) m) (ap (λ (r : Search). length r.nodes) ends ∙ length-map (first_search p n).search.nodes node_so_far)
-      ∙ at_end p (first_search p n).search (first_search p n).open_nodes finished
+  due_at = ap lines_at stands
 
-  pub solved_end : (cert : SinkChange) → FinishedIsFinished p → SpellsOnly c → Takes cert (text_of c) → IsSolved p n cert
-  solved_end cert law only spells = record {
-    certificate = c;
-    finished = finished;
-    merges = certificate_is;
-    spells = spells;
-    only = only;
-    valid = valid_end law;
-    claim = subst (λ (d : Cert). IsTrueClaim p d d.claim) (sym certificate_is)
-        (claim_true p (first_search p n).search (first_search p n).search.incumbent refl (law n finished).answer);
-  }
+  pub spent_lines_are : (text : List ℕ) (nodes cuts open_nodes : ℕ) → nodes ≡ length r.state.nodes → cuts ≡ length r.state.cuts → open_nodes ≡ open_count r.state
+      → 0 < open_count r.state → text ≡ spent_lines nodes cuts open_nodes → text ≡ lines_due (search_of r)
+  spent_lines_are text nodes cuts open_nodes a b d left h =
+      h ∙ ap (λ n. spent_lines n cuts open_nodes) a ∙ ap (λ n. spent_lines (length r.state.nodes) n open_nodes) b
+      ∙ ap (λ n. spent_lines (length r.state.nodes) (length r.state.cuts) n) d ∙ sym (while_open (open_count r.state) _ _ left) ∙ due_at
+
+  pub has_spent : (budget : ℕ) → IsSpent budget r.state → HasSpent budget (search_of r)
+  has_spent budget h = record { splits = subst AdmitsSplit stands h.splits; full = subst (λ (t : State). budget < length t.nodes + 2) stands h.full }
+
+  pub few_nodes : (budget : ℕ) → AreLegal r.state.problem r.history → SplitsHavePoints r.state.problem → IsSpent budget r.state → HasTooFewNodes r.state.problem budget
+  few_nodes budget legal law h =
+      let s : HasSpent budget (search_of r) = has_spent budget h in omega (arith, law r.history legal s.splits, s.full)
+
+  -- ---- of a search that is finished
+  module _ (c : Cert) (legal : AreLegal r.state.problem r.history) (ended : open_count r.state ≡ 0) (merges : c ≡ merged r.state.problem r.history) where
+    pub has_finished : HasFinished (search_of r)
+    has_finished = record { legal = legal; none_open = ap open_count (sym stands) ∙ ended }
+
+    claim_is : c.claim ≡ claim_of (cutoff r.state)
+    claim_is = ap (λ (d : Cert). d.claim) merges ∙ ap (λ (t : State). claim_of (cutoff t)) (sym stands)
+
+    pub answer_lines_are : (text : List ℕ) (nodes cuts : ℕ) → nodes ≡ length r.state.nodes → cuts ≡ length r.state.cuts
+        → text ≡ answer_lines c.claim nodes cuts → text ≡ lines_due (search_of r)
+    answer_lines_are text nodes cuts a b h =
+        h ∙ ap (λ n. answer_lines c.claim n cuts) a ∙ ap (λ n. answer_lines c.claim (length r.state.nodes) n) b
+        ∙ ap (λ g. answer_lines g (length r.state.nodes) (length r.state.cuts)) claim_is ∙ sym (while_none (open_count r.state) _ _ ended) ∙ due_at
+
+    pub valid_end : MergedIsValid r.state.problem → IsValid r.state.problem c
+    valid_end law = subst (IsValid r.state.problem) (sym merges) (law r.history has_finished)
+
+    pub prefix_end : (cert : SinkChange) → TakesPrefix cert (text_of c) → TakesPrefix cert (certificate_text (search_of r))
+    unfolding certificate_text
+    prefix_end cert h = subst (λ (d : Cert). TakesPrefix cert (text_of d)) merges h
+
+    pub solved_end : (cert : SinkChange) → MergedIsValid r.state.problem → MergedIsTrue r.state.problem → InfeasibilityIsExact r.state.problem
+        → SpellsOnly c → Takes cert (text_of c) → IsSolved (search_of r) cert
+    solved_end cert valid true_claim exact only spells = record {
+      certificate = c;
+      finished = has_finished;
+      merges = merges;
+      spells = spells;
+      only = only;
+      valid = valid_end valid;
+      claim = subst (λ (d : Cert). IsTrueClaim r.state.problem d.points d.claim) (sym merges) (true_claim r.history has_finished);
+      exact = subst (λ (d : Cert). IsVoid r.state.problem ↔ (d.claim ≡ Infeas)) (sym merges) (exact r.history has_finished);
+    }

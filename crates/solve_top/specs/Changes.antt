@@ -8,11 +8,11 @@ pub record FaultCount : Type 0 where
   pub before : ℕ
   pub after : ℕ
 
--- a call of it failed
+-- a call of it failed: the count is greater, or stands at its last value
 abbrev pub Rises : FaultCount → Type 0
 Rises faults = Rose faults.before faults.after
 
--- no call of it failed
+-- no call of it failed: the count is the same
 abbrev pub Stays : FaultCount → Type 0
 Stays faults = faults.after ≡ faults.before
 

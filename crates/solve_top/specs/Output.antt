@@ -15,13 +15,13 @@ abbrev pub number_line : List ℕ → ℕ → List ℕ
 number_line word n = word ++ decimal n ++ codes "\n"
 
 -- the numbers of nodes and cuts
-abbrev pub count_lines : ℕ → List ℕ
-count_lines nodes = number_line (codes "nodes ") nodes ++ codes "cuts 0\n"
+abbrev pub count_lines : ℕ → ℕ → List ℕ
+count_lines nodes cuts = number_line (codes "nodes ") nodes ++ number_line (codes "cuts ") cuts
 
 -- the lines of a search that is finished
-abbrev pub answer_lines : Goal → ℕ → List ℕ
-answer_lines claim nodes = answer_line claim ++ count_lines nodes
+abbrev pub answer_lines : Goal → ℕ → ℕ → List ℕ
+answer_lines claim nodes cuts = answer_line claim ++ count_lines nodes cuts
 
--- the lines of a search that stopped with so many nodes, so many of them open
-abbrev pub spent_lines : ℕ → ℕ → List ℕ
-spent_lines nodes open_nodes = (codes "spent\n" ++ count_lines nodes) ++ number_line (codes "open ") open_nodes
+-- the lines of a search that stopped with so many nodes and cuts, so many of the nodes open
+abbrev pub spent_lines : ℕ → ℕ → ℕ → List ℕ
+spent_lines nodes cuts open_nodes = (codes "spent\n" ++ count_lines nodes cuts) ++ number_line (codes "open ") open_nodes

@@ -1,64 +1,72 @@
--- Where the search of a problem ends, with its certificate and its lines.
-use Rattle.std.specs.Prelude.{◌≡◌, ◌<◌, ◌+◌, ◌*◌, ℕ, List, [], ◌∷◌, length}
+-- A search with its history, and what it answers: a certificate and a few lines.
+use Rattle.std.specs.Prelude.{◌≡◌, ◌↔◌, ◌<◌, ◌+◌, ◌*◌, ℕ, if◌then◌else◌, eqb, List, length}
 use Rattle.problem.specs.Problem.{Problem}
-use Rattle.problem.specs.Linear.{Point}
-use Rattle.problem.specs.Feasible.{objective_at}
-use Rattle.problem.specs.Best.{IsBest, IsVoid}
-use Rattle.cert_rows.specs.declared.certificate.Cert.{Cert}
-use Rattle.cert_rows.specs.declared.certificate.Goal.{Goal}
-use Rattle.cert_rows.specs.declared.certificate.Goal.TheVariants.{Infeas, Range}
-use Rattle.cert_rows.specs.Validity.{IsValid}
-use Rattle.cert_merge.specs.Merged.{merged, claim_of}
-use Rattle.cert_merge.specs.Open.{OpenSearch, so_far}
-use Rattle.plain_search.specs.FirstSearch.{first_search}
-use Rattle.plain_search.specs.Laws.{IsSpent}
+use Rattle.problem.specs.Best.{IsVoid}
 use Rattle.problem_box.specs.PointCount.{point_count}
+use Rattle.event_core.specs.declared.entry.Entry.{Entry}
+use Rattle.event_core.specs.States.{State, open_count, cutoff}
+use Rattle.event_core.specs.Histories.{state_of}
+use Rattle.event_core.specs.Rooms.{Recorded}
+use Rattle.core_search.specs.Endings.{AdmitsSplit}
+use Rattle.cert_rows.specs.declared.certificate.Cert.{Cert}
+use Rattle.cert_rows.specs.declared.certificate.Goal.TheVariants.{Infeas}
+use Rattle.cert_rows.specs.Validity.{IsValid}
+use Rattle.cert_merge.specs.Endings.{IsFinished}
+use Rattle.cert_merge.specs.Merged.{merged, claim_of}
+use Rattle.cert_tree.specs.Laws.{IsTrueClaim}
 use Rattle.vipr_print.specs.Spelling.{text_of}
 use Rattle.vipr_print.specs.Unique.{SpellsOnly}
 use Rattle.solve_top.specs.Changes.{SinkChange, Takes}
 use Rattle.solve_top.specs.Output.{answer_lines, spent_lines}
 
--- no node is open where the search of at most so many nodes, or of node 0 alone, ends
-abbrev pub IsFinishedBy : Problem → ℕ → Type 0
-IsFinishedBy p budget = (first_search p budget).open_nodes ≡ []
+-- a problem, and the events of its search in order
+pub record Search : Type 0 where
+  pub problem : Problem
+  pub history : List Entry
 
--- the next open node is unsettled where it ends, and its two children would pass the budget
-abbrev pub IsSpentBy : Problem → ℕ → Type 0
-IsSpentBy p budget = IsSpent p budget (first_search p budget)
+-- those of a state that is handed back
+abbrev pub search_of : Recorded → Search
+search_of r = record { problem = r.state.problem; history = r.history }
 
--- the budget is less than twice the number of the root box's points, less 1
+-- where it stands
+abbrev pub end_of : Search → State
+end_of s = state_of s.problem s.history
+
+-- its events are legal in turn, and no node is left open
+abbrev pub HasFinished : Search → Type 0
+HasFinished s = IsFinished s.problem s.history
+
+-- some open node may be split, and the two children would pass the budget
+pub record HasSpent (budget : ℕ) (s : Search) : Type 0 where
+  pub splits : AdmitsSplit (end_of s)
+  pub full : budget < length (end_of s).nodes + 2
+
+-- the budget is below 2p - 1, where the root box has p points
 abbrev pub HasTooFewNodes : Problem → ℕ → Type 0
 HasTooFewNodes p budget = budget + 1 < 2 * point_count p.spans
 
--- the certificate of the nodes of the search
-abbrev pub certificate_of : Problem → ℕ → Cert
-certificate_of p budget = merged p (so_far (first_search p budget).search)
+-- the text of its certificate
+unfoldable pub certificate_text : Search → List ℕ
+certificate_text s = text_of (merged s.problem s.history)
 
--- its text
-unfoldable pub certificate_text : Problem → ℕ → List ℕ
-certificate_text p budget = text_of (certificate_of p budget)
+-- the lines that tell of a state: its answer where no node is open
+abbrev pub lines_at : State → List ℕ
+lines_at t =
+    if eqb (open_count t) 0 then answer_lines (claim_of (cutoff t)) (length t.nodes) (length t.cuts)
+    else spent_lines (length t.nodes) (length t.cuts) (open_count t)
 
--- the lines that tell of a search with these open nodes
-abbrev pub lines_at : Problem → OpenSearch → List ℕ → List ℕ
-lines_at p s [] = answer_lines (claim_of p s.incumbent) (length s.nodes)
-lines_at p s (i ∷ is) = spent_lines (length s.nodes) (length (i ∷ is))
+-- the lines that tell of a search
+unfoldable pub lines_due : Search → List ℕ
+lines_due s = lines_at (end_of s)
 
--- the lines that tell of where it ends
-unfoldable pub lines_due : Problem → ℕ → List ℕ
-lines_due p budget = lines_at p (first_search p budget).search (first_search p budget).open_nodes
-
--- What is claimed is true: no point is feasible; or the one listed point is the best one, and its objective is both ends of the range.
-abbrev pub IsTrueClaim : Problem → Cert → Goal → Type 0
-IsTrueClaim p c Infeas = IsVoid p
-IsTrueClaim p c (Range lb ub) = (x : Point) × (c.points ≡ x ∷ []) × IsBest p x × (lb ≡ objective_at p x) × (ub ≡ objective_at p x)
-
--- The search is finished, and what the sink took spells a certificate of it that is valid and claims the truth. No other spellable
--- certificate has that text.
-pub record IsSolved (p : Problem) (budget : ℕ) (cert : SinkChange) : Type 0 where
+-- The search is finished, and what the sink took spells its certificate, which is valid and claims the truth: infeasibility exactly where no point
+-- is feasible, else a best point. No other spellable certificate has that text.
+pub record IsSolved (s : Search) (cert : SinkChange) : Type 0 where
   pub certificate : Cert
-  pub finished : IsFinishedBy p budget
-  pub merges : certificate ≡ certificate_of p budget
+  pub finished : HasFinished s
+  pub merges : certificate ≡ merged s.problem s.history
   pub spells : Takes cert (text_of certificate)
   pub only : SpellsOnly certificate
-  pub valid : IsValid p certificate
-  pub claim : IsTrueClaim p certificate certificate.claim
+  pub valid : IsValid s.problem certificate
+  pub claim : IsTrueClaim s.problem certificate.points certificate.claim
+  pub exact : IsVoid s.problem ↔ (certificate.claim ≡ Infeas)

@@ -1,6 +1,6 @@
 // What the words ask of a search.
 ghost use Rattle.std.specs.Prelude.{◌≡◌, ◌≤◌, ◌^◌, true, IfOk, IfErr};
-ghost use Rattle.mps_reader.specs.Finished.{IsModestUpper};
+ghost use Rattle.mps_reader.specs.Refusals.{IsModestUpper};
 ghost use Rattle.command_words.specs.Commands.{HasRanges, asked, is_command};
 ghost use Rattle.solve_top.specs.Commands.{budget_of, nodes_asked, upper_asked, upper_of};
 ghost use Rattle.solve_top.specs.Steps.{RefusesWords};
@@ -22,7 +22,7 @@ pub struct Limits {
 fn limits_in(command: &Command) -> Limits
     ensures budget { result.budget ≡ nodes_asked (Some (asked command.now)) }
     ensures upper { result.upper ≡ upper_asked (Some (asked command.now)) }
-    ensures ranges { HasRanges command.now → (result.budget ≤ 10 ^ 9) × IsModestUpper result.upper }
+    ensures ranges { HasRanges command.now → (1 ≤ result.budget) × (result.budget ≤ 10 ^ 9) × IsModestUpper result.upper }
 {
     match command {
         Command::Solve {
@@ -43,6 +43,7 @@ pub fn limits_of(alloc: Global, words: &Words) -> Result<Limits, Refusal>
     ensures command { IfOk result (λ l. is_command words.now ≡ true) }
     ensures budget { IfOk result (λ l. l.budget ≡ budget_of words.now) }
     ensures upper { IfOk result (λ l. l.upper ≡ upper_of words.now) }
+    ensures some { IfOk result (λ l. 1 ≤ l.budget) }
     ensures few { IfOk result (λ l. l.budget ≤ 10 ^ 9) }
     ensures modest { IfOk result (λ l. IsModestUpper l.upper) }
     ensures refused { IfErr result (RefusesWords words.now) }

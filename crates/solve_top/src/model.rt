@@ -1,22 +1,22 @@
 // Reads the model.
-ghost use Rattle.std.specs.Prelude.{◌≡◌};
-ghost use Rattle.mps_reader.specs.Finished.{IsModestUpper};
+ghost use Rattle.std.specs.Prelude.{◌≡◌, [], IfOk};
+ghost use Rattle.std.specs.Result.{result_map_both};
+ghost use Rattle.event_core.specs.States.{first_state};
+ghost use Rattle.mps_reader.specs.Refusals.{IsModestUpper};
 ghost use Rattle.solve_top.specs.Changes.{source_change};
 ghost use Rattle.solve_top.specs.Statuses.{kind_name};
 ghost use Rattle.solve_top.specs.Steps.{IsReading};
 
 use crate::outcome::Refusal;
-use mps_reader::{Kind, read_mps};
+use event_core::State;
+use mps_reader::{Kind, TEXT_LIMIT, read_mps};
 use outside::{ReadFault, Source, read_all};
 use problem::Problem;
 use std::alloc::Global;
 use std::hash::BuildHasher;
 
-/// The bytes that a model may have.
-const TEXT_LIMIT: usize = 4_194_304;
-
 // Reads a model to its end and gives its problem. `upper` is the upper bound of columns that have none.
-pub fn read_model<B: BuildHasher + Drop, S: Source>(
+fn read_model<B: BuildHasher + Drop, S: Source>(
     alloc: Global,
     keys: B,
     model: &mut S,
@@ -41,6 +41,21 @@ pub fn read_model<B: BuildHasher + Drop, S: Source>(
         Err(mps_reader::ReadFault::Refused { line, kind }) => Err(Refusal::Model { line, kind }),
         Err(mps_reader::ReadFault::Memory) => Err(Refusal::Memory),
     }
+}
+
+// Reads a model, and gives the state at which the search of its problem begins.
+pub fn read_state<B: BuildHasher + Drop, S: Source>(
+    alloc: Global,
+    keys: B,
+    model: &mut S,
+    upper: Option<u32>,
+) -> Result<State, Refusal>
+    requires { IsModestUpper upper }
+    ensures reading { IsReading (source_change S.tells S.left S.faults model.old model.new) upper (result_map_both (λ s. s.state.problem) (λ e. e) result) }
+    ensures first { IfOk result (λ s. s.state ≡ first_state s.state.problem) }
+{
+    let problem = read_model(alloc, keys, model, upper)?;
+    Ok(State::new(alloc, problem)?)
 }
 
 // The name of a kind of fault.

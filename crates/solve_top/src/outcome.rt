@@ -8,7 +8,7 @@ use std::alloc::AllocError;
 pub enum Answer {
     /// The search is finished, and its certificate is written.
     Done(Vec<u8>),
-    /// The search may have no more nodes, and isn't finished.
+    /// The search isn't finished, and its next split would pass the budget.
     Spent(Vec<u8>),
 }
 

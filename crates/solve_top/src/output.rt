@@ -31,12 +31,11 @@ fn push_number_line(text: &mut Vec<u8>, word: &[u8], number: u64) -> Result<(), 
 }
 
 // Pushes the numbers of nodes and cuts.
-fn push_counts(text: &mut Vec<u8>, nodes: usize) -> Result<(), AllocError>
-    ensures { OnOk result (text.new.items ≡ text.old.items ++ count_lines nodes) }
+fn push_counts(text: &mut Vec<u8>, nodes: usize, cuts: usize) -> Result<(), AllocError>
+    ensures { OnOk result (text.new.items ≡ text.old.items ++ count_lines nodes cuts) }
 {
     push_number_line(text, b"nodes ", nodes as u64)?;
-    text.extend_from_slice(b"cuts 0\n")?;
-    Ok(())
+    push_number_line(text, b"cuts ", cuts as u64)
 }
 
 // Pushes the answer of a certificate.
@@ -55,22 +54,32 @@ fn push_answer(text: &mut Vec<u8>, claim: &Goal) -> Result<(), AllocError>
 }
 
 // The lines of a search that is finished.
-pub fn answer_text(alloc: Global, claim: &Goal, nodes: usize) -> Result<Vec<u8>, AllocError>
-    ensures { IfOk result (λ text. text.items ≡ answer_lines claim.now nodes) }
+pub fn answer_text(
+    alloc: Global,
+    claim: &Goal,
+    nodes: usize,
+    cuts: usize,
+) -> Result<Vec<u8>, AllocError>
+    ensures { IfOk result (λ text. text.items ≡ answer_lines claim.now nodes cuts) }
 {
     let mut text = Vec::new(alloc);
     push_answer(&mut text, claim)?;
-    push_counts(&mut text, nodes)?;
+    push_counts(&mut text, nodes, cuts)?;
     Ok(text)
 }
 
 // The lines of a search that stopped with open nodes.
-pub fn spent_text(alloc: Global, nodes: usize, open_nodes: usize) -> Result<Vec<u8>, AllocError>
-    ensures { IfOk result (λ text. text.items ≡ spent_lines nodes open_nodes) }
+pub fn spent_text(
+    alloc: Global,
+    nodes: usize,
+    cuts: usize,
+    open_nodes: usize,
+) -> Result<Vec<u8>, AllocError>
+    ensures { IfOk result (λ text. text.items ≡ spent_lines nodes cuts open_nodes) }
 {
     let mut text = Vec::new(alloc);
     text.extend_from_slice(b"spent\n")?;
-    push_counts(&mut text, nodes)?;
+    push_counts(&mut text, nodes, cuts)?;
     push_number_line(&mut text, b"open ", open_nodes as u64)?;
     Ok(text)
 }

@@ -15,7 +15,7 @@ pub enum Status {
     ReadFault,
     /// The certificate or the lines can't be written.
     Sink,
-    /// The search may have no more nodes, and isn't finished.
+    /// The search isn't finished, and its next split would pass the budget.
     Spent,
     /// Memory ran out.
     Memory,

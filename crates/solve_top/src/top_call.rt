@@ -1,14 +1,16 @@
 // All that the program does.
-ghost use Rattle.std.specs.Prelude.{◌≡◌};
+ghost use Rattle.std.specs.Prelude.{◌≡◌, option_map};
 ghost use Rattle.solve_top.specs.Changes.{source_change, sink_change};
 ghost use Rattle.solve_top.specs.Headline.{KeepsPromise};
+ghost use Rattle.solve_top.specs.Searches.{search_of};
 ghost use Rattle.solve_top.specs.Statuses.{exit_number};
 
 use crate::limits::limits_of;
-use crate::model::read_model;
+use crate::model::read_state;
 use crate::search::solve;
 use crate::telling::tell_outcome;
 use crate::{Status, Words};
+use event_core::State;
 use outside::{Disk, Hold, Sink, Source};
 use std::alloc::Global;
 use std::hash::BuildHasher;
@@ -22,17 +24,21 @@ pub struct Ran<D> {
     pub status: u8,
     /// The disk that the run was handed.
     pub disk: D,
+    /// The state at which the search ended, with its history; none where no search began.
+    pub last: Option<State>,
 }
 
 impl<D> Ran<D> {
     // A run that ended with this status.
-    fn new(status: Status, disk: D) -> Self
+    fn new(status: Status, disk: D, last: Option<State>) -> Self
         ensures status { result.status ≡ exit_number status }
         ensures disk { result.disk ≡ disk }
+        ensures last { result.last ≡ last }
     {
         Ran {
             status: status.number(),
             disk,
+            last,
         }
     }
 }
@@ -47,13 +53,16 @@ impl<D> Ran<D> {
 /// - The model is read. 5: it can't be read, which its source counted; `fault read`. 3: it has a fault;
 ///   `refused model LINE KIND`, with the number of the first line at fault, 0 where it stands at none, and the name of
 ///   a `Kind` of `mps_reader`. Columns without a bound get the one that the words give.
-/// - It is searched. 8: the search isn't finished, and its next split would pass the number of nodes that the words
-///   ask for; `spent`, `nodes n`, `cuts 0` and `open k`. No certificate is begun.
+/// - It is searched by worker 0. 8: the search isn't finished, and its next split would pass the number of nodes that the
+///   words ask for; `spent`, `nodes n`, `cuts c` and `open k`. No certificate is begun.
 /// - The certificate is written. 7: it can't be, which its sink counted; `fault sink`.
-/// - The lines are written: `optimal z` or `infeasible`, `nodes n` and `cuts 0`. 7: these or the lines of 8 can't be,
+/// - The lines are written: `optimal z` or `infeasible`, `nodes n` and `cuts c`. 7: these or the lines of 8 can't be,
 ///   which their sink counted; they then end where it failed. 0: all is written.
 ///
 /// 9: memory ran out, at any of these steps; `no memory`. Where the line of a refusal can't be written, the status stays.
+/// The state at which the search ended is handed back on 0, 7 and 8, and on 9 where it had begun.
+///
+/// All that is promised of a run is `KeepsPromise` of `specs/Headline`, fact by fact.
 pub fn run_one<B: BuildHasher + Drop, S: Source, D: Disk, C: Sink, O: Sink>(
     alloc: Global,
     keys: B,
@@ -68,25 +77,27 @@ pub fn run_one<B: BuildHasher + Drop, S: Source, D: Disk, C: Sink, O: Sink>(
       model = source_change S.tells S.left S.faults model.old model.new;
       cert = sink_change C.tells C.taken C.faults cert.old cert.new;
       out = sink_change O.tells O.taken O.faults out.old out.new;
+      last = option_map search_of result.last;
       number = result.status;
     }) }
     ensures disk { result.disk ≡ disk }
 {
     let limits = match limits_of(alloc, words) {
         Ok(limits) => limits,
-        Err(refusal) => return Ran::new(tell_outcome(alloc, Err(refusal), out), disk),
+        Err(refusal) => return Ran::new(tell_outcome(alloc, Err(refusal), out), disk, None),
     };
-    let problem = match read_model(alloc, keys, model, limits.upper) {
-        Ok(problem) => problem,
-        Err(refusal) => return Ran::new(tell_outcome(alloc, Err(refusal), out), disk),
+    let mut state = match read_state(alloc, keys, model, limits.upper) {
+        Ok(state) => state,
+        Err(refusal) => return Ran::new(tell_outcome(alloc, Err(refusal), out), disk, None),
     };
-    let outcome = solve(alloc, &problem, limits.budget, cert);
-    Ran::new(tell_outcome(alloc, outcome, out), disk)
+    let outcome = solve(alloc, &mut state, limits.budget, cert);
+    state.conditions_hold();
+    Ran::new(tell_outcome(alloc, outcome, out), disk, Some(state))
 }
 
 /// Solves a model with as many workers as the words ask for, over threads that `rt` starts.
 ///
-/// Words can ask for one worker alone: this is `run_one`, with its clauses, and neither `rt` nor `hold` is used.
+/// Words can ask for one worker alone: this is `run_one`, with its promise, and neither `rt` nor `hold` is used.
 pub fn run<
     R: Threads + Wait + Sync,
     B: BuildHasher + Drop,
@@ -111,6 +122,7 @@ pub fn run<
       model = source_change S.tells S.left S.faults model.old model.new;
       cert = sink_change C.tells C.taken C.faults cert.old cert.new;
       out = sink_change O.tells O.taken O.faults out.old out.new;
+      last = option_map search_of result.last;
       number = result.status;
     }) }
     ensures disk { result.disk ≡ disk }

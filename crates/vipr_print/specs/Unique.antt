@@ -1,5 +1,5 @@
 -- A text spells at most one certificate.
-use Rattle.std.specs.Prelude.{◌≡◌, ◌<◌, ◌^◌, ℕ, ℤ, List, [], ◌++◌, length, nat_abs, All}
+use Rattle.std.specs.Prelude.{◌≡◌, ◌<◌, ◌^◌, ℕ, List, [], ◌++◌, length, nat_abs, All}
 use Rattle.fraction.specs.Rational.{ℚ}
 use Rattle.problem.specs.Problem.{Problem}
 use Rattle.cert_rows.specs.declared.line.CertRow.{CertRow}

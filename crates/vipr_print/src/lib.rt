@@ -7,8 +7,6 @@ mod lines;
 mod pieces;
 mod printing;
 mod sizes;
-#[cfg(test)]
-mod tests;
 
 pub use fault::PrintFault;
 pub use pieces::push_number;

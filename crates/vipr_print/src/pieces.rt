@@ -4,7 +4,7 @@ ghost use Rattle.std.specs.List.{flat_map};
 ghost use Rattle.std.specs.Fmt.{decimal, signed_decimal};
 ghost use Rattle.vipr_print.specs.Spelling.{spelled_number, spelled_term, spelled_terms, spelled_sense, spelled_row, spelled_why, nonzero, count_nonzero, spelled_nonzero, spelled_nonzeros, next_column, column_numbers};
 
-use cert_rows::{CertRow, Why};
+use cert_rows::{CertRow, Label, Why};
 use fraction::Frac;
 use itoa::Buffer;
 use problem::{Sense, Term};
@@ -71,11 +71,19 @@ fn sense_text(sense: Sense) -> &'static [u8]
     }
 }
 
+fn push_label(out: &mut Vec<u8>, label: &Label) -> Result<(), AllocError>
+    ensures { OnOk result (out.new.items ≡ out.old.items ++ label.now) }
+{
+    let (letter, number) = label.parts();
+    out.push(letter)?;
+    push_natural(out, number as u128)
+}
+
 /// Pushes `label sense rhs list`.
 pub fn push_row(out: &mut Vec<u8>, row: &CertRow) -> Result<(), AllocError>
     ensures { OnOk result (out.new.items ≡ out.old.items ++ spelled_row row.now) }
 {
-    out.extend_from_slice(row.label.as_bytes())?;
+    push_label(out, &row.label)?;
     out.extend_from_slice(sense_text(row.sense))?;
     push_number(out, row.rhs)?;
     out.extend_from_slice(b" ")?;

@@ -17,11 +17,6 @@ const LINES: u32 = 200_000;
 /// The multipliers of a derived line.
 const MULTIPLIERS: u32 = 8;
 
-fn label(alloc: Global, number: u32) -> Result<Label, AllocError> {
-    let text = format!(in alloc; "N{number}")?;
-    Ok(Label::make(text))
-}
-
 fn multipliers(alloc: Global, first: u32) -> Result<Terms, AllocError> {
     let mut terms = Terms::new(alloc);
     for step in 0..MULTIPLIERS {
@@ -34,7 +29,7 @@ fn multipliers(alloc: Global, first: u32) -> Result<Terms, AllocError> {
 /// `N.. G .. 0 { lin 8 .. } -1`: a line that is printed, whether or not it follows from others.
 fn derived_line(alloc: Global, number: u32) -> Result<(CertRow, Why), AllocError> {
     let row = CertRow {
-        label: label(alloc, number)?,
+        label: Label::make(b'N', number as usize),
         sense: Sense::G,
         rhs: Frac::of(i128::from(number)),
         terms: Terms::new(alloc),

@@ -1,4 +1,4 @@
--- The lines of closed nodes follow from the lines before them.
+-- Lemmas: the lines of closed nodes follow from the lines before them.
 use Rattle.std.specs.Prelude.{◌≡◌, ℕ, pos, Bool, true, false, cond, nat_lt, eqb, List, [], ◌∷◌, All, refl}
 use Rattle.std.proofs.Common.{sym, subst, inl, inr}
 use Rattle.std.proofs.lemmas.List.Elements.{All-nil, All-cons, All-head, All-tail}

@@ -1,4 +1,4 @@
--- A closed node's multipliers give its target and its price.
+-- Lemmas: a closed node's multipliers give its target and its price.
 use Rattle.std.specs.Prelude.{◌≡◌, ◌⊎◌, ◌<◌, ◌≤◌, ℕ, suc, ◌+◌, ℤ, pos, int_lt, nat_lt, eqb, Bool, true, false, cond, List, [], ◌∷◌, length, All, refl}
 use Rattle.std.specs.Ordering.{int_eq}
 use Rattle.std.proofs.Common.{sym, ap, ◌∙◌, subst, inl, inr, arith}
@@ -17,7 +17,8 @@ use Rattle.problem.specs.Linear.{coefficient, at_column, scaled}
 use Rattle.problem.specs.Lemmas.Linear.{coefficient-append, at_other, at_same, beyond}
 use Rattle.cert_rows.specs.Lines.{CertLine, row_at}
 use Rattle.cert_rows.specs.Combination.{HasRightSign, AllSigned, combined_terms, combined_rhs}
-use Rattle.cert_merge.specs.Closing.{Source, StatesBounds, AreSources, reduced_cost, bound_multipliers, bound_multipliers_price, placed, all_placed}
+use Rattle.derivation_book.specs.Price.{reduced_cost, bounds_price}
+use Rattle.cert_merge.specs.Closing.{BoundSource, StatesBounds, AreSources, bound_multipliers, placed, all_placed}
 use Rattle.cert_merge.specs.Laws.{ClosingsClose}
 
 -- ---- what holds of each multiplier
@@ -70,19 +71,19 @@ module _ (ls : List CertLine) where
 
 -- ---- columns
 -- each number from column j on stands at its column
-abbrev spread : (ℕ → ℚ) → ℕ → List Source → ℕ → ℚ
+abbrev spread : (ℕ → ℚ) → ℕ → List BoundSource → ℕ → ℚ
 spread r j [] k = whole (pos 0)
 spread r j (o ∷ os) k = at_column j (r j) k +ℚ spread r (j + 1) os k
 
-spread-before : (r : ℕ → ℚ) (j : ℕ) (os : List Source) (k : ℕ) → k < j → spread r j os k ≡ whole (pos 0)
+spread-before : (r : ℕ → ℚ) (j : ℕ) (os : List BoundSource) (k : ℕ) → k < j → spread r j os k ≡ whole (pos 0)
 spread-before r j [] k h = refl
 spread-before r j (o ∷ os) k h = (λ i. at_other j (r j) k (λ e. omega arith) i +ℚ spread-before r (j + 1) os k (omega arith) i) ∙ zero-+ℚ _
 
-spread-behind : (r : ℕ → ℚ) (j : ℕ) (os : List Source) (k : ℕ) → j + length os ≤ k → spread r j os k ≡ whole (pos 0)
+spread-behind : (r : ℕ → ℚ) (j : ℕ) (os : List BoundSource) (k : ℕ) → j + length os ≤ k → spread r j os k ≡ whole (pos 0)
 spread-behind r j [] k h = refl
 spread-behind r j (o ∷ os) k h = (λ i. at_other j (r j) k (λ e. omega arith) i +ℚ spread-behind r (j + 1) os k (omega arith) i) ∙ zero-+ℚ _
 
-spread-at : (r : ℕ → ℚ) (j : ℕ) (os : List Source) (k : ℕ) → j ≤ k → k < j + length os → spread r j os k ≡ r k
+spread-at : (r : ℕ → ℚ) (j : ℕ) (os : List BoundSource) (k : ℕ) → j ≤ k → k < j + length os → spread r j os k ≡ r k
 spread-at r j [] k h l = absurd (omega arith)
 spread-at r j (o ∷ os) k h l = elim (cases_lt j k) [
   | inl g ↦ (λ i. at_other j (r j) k (λ e. omega arith) i +ℚ spread-at r (j + 1) os k (omega arith) (omega arith) i) ∙ zero-+ℚ _
@@ -97,7 +98,7 @@ record Fills (ls : List CertLine) (j : ℕ) (a : ℚ) (bound : ℤ) (i : ℕ) : 
   rhs : (row_at ls i).rhs ≡ whole bound
   sign : HasRightSign G (row_at ls i).sense a
 
-fills : (ls : List CertLine) (j : ℕ) (s : Span) (o : Source) (a : ℚ) → StatesBounds ls j s o
+fills : (ls : List CertLine) (j : ℕ) (s : Span) (o : BoundSource) (a : ℚ) → StatesBounds ls j s o
     → Fills ls j a (cond (int_lt (pos 0) a.num) s.lo s.hi) (cond (int_lt (pos 0) a.num) o.lower o.upper)
 fills ls j s o a h = step (int_lt (pos 0) a.num) refl
   where
@@ -116,11 +117,11 @@ fills ls j s o a h = step (int_lt (pos 0) a.num) refl
     }
 
 -- what the bound multipliers are together
-record AreFillings (ls : List CertLine) (r : ℕ → ℚ) (j : ℕ) (ss : List Span) (os : List Source) (ms : List (ℕ × ℚ)) : Type 0 where
+record AreFillings (ls : List CertLine) (r : ℕ → ℚ) (j : ℕ) (ss : List Span) (os : List BoundSource) (ms : List (ℕ × ℚ)) : Type 0 where
   there : All (λ m. m.0 < length ls) ms
   signs : AllSigned G ls ms
   terms : (k : ℕ) → C ls ms k ≡ spread r j os k
-  rhs : combined_rhs ls ms ≡ bound_multipliers_price r j ss
+  rhs : combined_rhs ls ms ≡ bounds_price r j ss
 
 nowhere : (j k : ℕ) (a : ℚ) → a ≡ whole (pos 0) → at_column j a k ≡ whole (pos 0)
 nowhere j k a z = both (eqb j k)
@@ -129,7 +130,7 @@ nowhere j k a z = both (eqb j k)
     both true = z
     both false = refl
 
-one_filled : (ls : List CertLine) (r : ℕ → ℚ) (j : ℕ) (s : Span) (o : Source) (ss : List Span) (os : List Source)
+one_filled : (ls : List CertLine) (r : ℕ → ℚ) (j : ℕ) (s : Span) (o : BoundSource) (ss : List Span) (os : List BoundSource)
     → Fills ls j (r j) (cond (int_lt (pos 0) (r j).num) s.lo s.hi) (cond (int_lt (pos 0) (r j).num) o.lower o.upper)
     → AreFillings ls r (j + 1) ss os (bound_multipliers r (j + 1) os) → (b : Bool) → int_eq (r j).num (pos 0) ≡ b
     → AreFillings ls r j (s ∷ ss) (o ∷ os) (cond b (bound_multipliers r (j + 1) os) ((cond (int_lt (pos 0) (r j).num) o.lower o.upper, r j) ∷ bound_multipliers r (j + 1) os))
@@ -139,7 +140,7 @@ one_filled ls r j s o ss os one rest true e =
       there = rest.there;
       signs = rest.signs;
       terms = λ k. rest.terms k ∙ sym (ap (λ v. v +ℚ spread r (j + 1) os k) (nowhere j k (r j) z) ∙ zero-+ℚ _);
-      rhs = rest.rhs ∙ sym (ap (λ v. v +ℚ bound_multipliers_price r (j + 1) ss) (ap (λ v. v *ℚ whole (cond (int_lt (pos 0) (r j).num) s.lo s.hi)) z ∙ zero-*ℚ _) ∙ zero-+ℚ _);
+      rhs = rest.rhs ∙ sym (ap (λ v. v +ℚ bounds_price r (j + 1) ss) (ap (λ v. v *ℚ whole (cond (int_lt (pos 0) (r j).num) s.lo s.hi)) z ∙ zero-*ℚ _) ∙ zero-+ℚ _);
     }
 one_filled ls r j s o ss os one rest false e =
     let m : ℕ × ℚ = (cond (int_lt (pos 0) (r j).num) o.lower o.upper, r j) in
@@ -151,7 +152,7 @@ one_filled ls r j s o ss os one rest false e =
       rhs = λ i. r j *ℚ one.rhs i +ℚ rest.rhs i;
     }
 
-filled : (ls : List CertLine) (r : ℕ → ℚ) (j : ℕ) (ss : List Span) (os : List Source) → AreSources ls j ss os → AreFillings ls r j ss os (bound_multipliers r j os)
+filled : (ls : List CertLine) (r : ℕ → ℚ) (j : ℕ) (ss : List Span) (os : List BoundSource) → AreSources ls j ss os → AreFillings ls r j ss os (bound_multipliers r j os)
 filled ls r j [] [] h = record { there = All-nil (λ (m : ℕ × ℚ). m.0 < length ls); signs = All-nil (λ (m : ℕ × ℚ). HasRightSign G (row_at ls m.0).sense m.1); terms = λ k. refl; rhs = refl }
 filled ls r j [] (o ∷ os) h = absurd h
 filled ls r j (s ∷ ss) [] h = absurd h
@@ -159,7 +160,7 @@ filled ls r j (s ∷ ss) (o ∷ os) h =
     one_filled ls r j s o ss os (fills ls j s o (r j) h.0) (filled ls r (j + 1) ss os h.1) (int_eq (r j).num (pos 0)) refl
 
 -- ---- a closed node
-length-sources : (ls : List CertLine) (j : ℕ) (ss : List Span) (os : List Source) → AreSources ls j ss os → length os ≡ length ss
+length-sources : (ls : List CertLine) (j : ℕ) (ss : List Span) (os : List BoundSource) → AreSources ls j ss os → length os ≡ length ss
 length-sources ls j [] [] h = refl
 length-sources ls j [] (o ∷ os) h = absurd h
 length-sources ls j (s ∷ ss) [] h = absurd h

@@ -1,4 +1,4 @@
--- The lines of a finished tree are valid, and the last one assumes nothing.
+-- Lemmas: the lines of a finished tree are valid, and the last one assumes nothing.
 use Rattle.std.specs.Prelude.{◌≡◌, ◌⊎◌, ◌<◌, ◌≤◌, ℕ, zero, suc, ◌+◌, ◌-◌, false, eqb, List, [], ◌∷◌, ◌++◌, length, All, slice_index_or, refl}
 use Rattle.std.specs.List.{Contains}
 use Rattle.std.proofs.Common.{sym, ap, ◌∙◌, subst, inl, inr, arith, length-append}
@@ -15,7 +15,7 @@ use Rattle.cert_rows.specs.Lines.{CertLine, row_of, row_at, assumed_by, no_cert_
 use Rattle.cert_rows.specs.Domination.{Dominates, ExcludesZero, IsAsTight}
 use Rattle.problem.specs.declared.row.Sense.TheVariants.{G, L, E}
 use Rattle.cert_rows.specs.Assumptions.{assumes, without}
-use Rattle.cert_rows.specs.Validity.{IsSplit, IsInequality, IsInequality, IsAssumption, Follows, derived_line_of, with_derived, AllFollow}
+use Rattle.cert_rows.specs.Validity.{IsSplit, IsInequality, IsAssumption, Follows, derived_line_of, with_derived, AllFollow}
 use Rattle.cert_merge.specs.Tree.{NodeLine, derived_of, IsChild, IsNodeLine, AreNodeLines, paths_with, IsConcluded}
 use Rattle.cert_merge.specs.Laws.{FinishedTreesFollow}
 use Rattle.cert_merge.specs.Lemmas.Closings.{union_holds, without_holds}

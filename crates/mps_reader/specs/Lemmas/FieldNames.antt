@@ -6,8 +6,8 @@ use Rattle.std.proofs.lemmas.List.Folds.{list_all-map}
 use Rattle.problem.specs.Problem.{Problem}
 use Rattle.mps_lines.specs.Lines.{Line, lines_of, raw_lines}
 use Rattle.mps_reader.specs.Faults.{line_fault}
-use Rattle.mps_reader.specs.Kept.{is_visible}
-use Rattle.mps_reader.specs.Lemmas.Kept.{none_keeps, line_more}
+use Rattle.mps_reader.specs.VisibleNames.{is_visible}
+use Rattle.mps_reader.specs.Lemmas.LinesWithinLimits.{none_keeps, line_more}
 use Rattle.mps_reader.specs.Meaning.{problem_of, end_fault, unless_fault}
 use Rattle.mps_reader.specs.Reading.{Reads, reading, finish, sections_from, after_line, ends, text_limit}
 use Rattle.mps_reader.specs.Sections.{Sections, none_yet, with_line, entries_of, columns_of}

@@ -3,7 +3,7 @@ use Rattle.std.specs.Prelude.{◌≡◌, ℕ, ◌+◌, ◌-◌, ◌*◌, ◌^◌
 use Rattle.std.specs.List.{list_all}
 use Rattle.fraction.specs.Rational.{ℚ}
 use Rattle.mps_reader.specs.Faults.{counted, most_columns, most_rows}
-use Rattle.mps_reader.specs.Kept.{is_visible}
+use Rattle.mps_reader.specs.VisibleNames.{is_visible}
 use Rattle.mps_reader.specs.Meaning.{is_zero, place}
 use Rattle.mps_reader.specs.Lemmas.Placing.{placed_of, terms_in}
 use Rattle.mps_reader.specs.Sections.{Sections, rows_of, Entry, entries_of, columns_of, run_of, last_of, number, sides_of}

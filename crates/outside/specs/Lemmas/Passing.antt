@@ -1,7 +1,7 @@
 -- How a run of a disk's calls goes on, for the crates above.
 use Rattle.std.specs.Prelude.{◌≡◌, ℕ, List, [], ◌∷◌, ◌++◌, refl}
 use Rattle.std.proofs.Common.{inl, inr, ⊎_elim, sym, ◌∙◌, ap, subst, append_assoc}
-use Rattle.outside.specs.Images.{IsImage, Leaves, LeavesOnly, Goes, Fails, Stands}
+use Rattle.outside.specs.Images.{IsImage, Leaves, LeavesOnly, OneMomentPasses, Fails, NoMomentPasses}
 use Rattle.outside.specs.declared.moment.Moment.{Moment}
 
 pub Leaves-append : (P : List ℕ → Type 0) (ms ns : List Moment) → Leaves P ms → Leaves P ns → Leaves P (ms ++ ns)
@@ -38,7 +38,7 @@ grown past mid past' now between now' P so_far passed here = record {
 }
 
 -- a call succeeded that let a moment go by
-pub goes_on : (past mid past' : List Moment) (now between now' next : Moment) (P : List ℕ → Type 0) → LeavesOnly past now mid between P → Goes mid between past' now' next
+pub goes_on : (past mid past' : List Moment) (now between now' next : Moment) (P : List ℕ → Type 0) → LeavesOnly past now mid between P → OneMomentPasses mid between past' now' next
     → ((c : List ℕ) → IsImage next c → P c) → LeavesOnly past now past' now' P
 goes_on past mid past' now between now' next P so_far goes here =
     grown past mid past' now between now' P so_far goes.passed (λ c is. here c (subst (λ m. IsImage m c) goes.came is))
@@ -52,5 +52,5 @@ fails_on past mid past' now between now' done P so_far fails was here = elim fai
 ]
 
 -- a call was made that lets no moment go by
-pub stays_on : (past mid past' : List Moment) (now between now' : Moment) (P : List ℕ → Type 0) → LeavesOnly past now mid between P → Stands mid between past' now' → LeavesOnly past now past' now' P
+pub stays_on : (past mid past' : List Moment) (now between now' : Moment) (P : List ℕ → Type 0) → LeavesOnly past now mid between P → NoMomentPasses mid between past' now' → LeavesOnly past now past' now' P
 stays_on past mid past' now between now' P so_far stands = subst (λ m. LeavesOnly past now past' m P) (sym stands.same) (subst (λ l. LeavesOnly past now l between P) (sym stands.none) so_far)

@@ -1,5 +1,5 @@
 use Rattle.std.proofs.Common.{arith, sym}
-use Rattle.derivation_book.proofs.ColumnLemmas.{past_added, one_added, one_cramped}
+use Rattle.derivation_book.specs.Lemmas.Columns.{past_added, one_added, one_cramped}
 use Rattle.derivation_book.proofs.combination.add_term.Goals as goal
 
 pub returns-then-column-sums-clause-sums : goal.returns-then-column-sums-clause-sums

@@ -1,4 +1,4 @@
-use Rattle.derivation_book.proofs.Cutting.{cuts_hold}
+use Rattle.derivation_book.specs.Lemmas.Cutting.{cuts_hold}
 use Rattle.derivation_book.proofs.laws.cuts_hold.Goals as goal
 
 pub returns : goal.returns

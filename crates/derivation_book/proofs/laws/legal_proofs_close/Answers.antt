@@ -1,4 +1,4 @@
-use Rattle.derivation_book.proofs.Cutting.{legal_closes}
+use Rattle.derivation_book.specs.Lemmas.Cutting.{legal_closes}
 use Rattle.derivation_book.proofs.laws.legal_proofs_close.Goals as goal
 
 pub returns : goal.returns

@@ -1,5 +1,5 @@
-use Rattle.derivation_book.proofs.Exact.{price_exact}
-use Rattle.derivation_book.proofs.Bounding.{price_below}
+use Rattle.derivation_book.specs.Lemmas.Exact.{price_exact}
+use Rattle.derivation_book.specs.Lemmas.Bounding.{price_below}
 use Rattle.derivation_book.proofs.laws.prices_bound.Goals as goal
 
 pub returns-clause-exact : goal.returns-clause-exact

@@ -1,4 +1,4 @@
-use Rattle.derivation_book.proofs.Deciding.{decides-legal}
+use Rattle.derivation_book.specs.Lemmas.Deciding.{decides-legal}
 use Rattle.derivation_book.proofs.laws.proofs_are_decided.Goals as goal
 
 pub returns : goal.returns

@@ -1,4 +1,4 @@
-use Rattle.derivation_book.proofs.Staying.{still_rounded, still_legal}
+use Rattle.derivation_book.specs.Lemmas.Staying.{still_rounded, still_legal}
 use Rattle.derivation_book.proofs.laws.proofs_stay.Goals as goal
 
 pub returns-clause-rows : goal.returns-clause-rows

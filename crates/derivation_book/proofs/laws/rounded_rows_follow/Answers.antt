@@ -1,4 +1,4 @@
-use Rattle.derivation_book.proofs.Cutting.{rows_follow}
+use Rattle.derivation_book.specs.Lemmas.Cutting.{rows_follow}
 use Rattle.derivation_book.proofs.laws.rounded_rows_follow.Goals as goal
 
 pub returns : goal.returns

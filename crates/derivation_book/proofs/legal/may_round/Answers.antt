@@ -1,7 +1,7 @@
 use Rattle.std.proofs.Common.{◌∙◌, ap, sym}
 use Rattle.std.specs.Prelude.{not, ◌||◌}
 use Rattle.derivation_book.specs.Legal.{has_whole_objective}
-use Rattle.derivation_book.proofs.Deciding.{whole_answer}
+use Rattle.derivation_book.specs.Lemmas.Deciding.{whole_answer}
 use Rattle.derivation_book.proofs.legal.may_round.Goals as goal
 
 pub returns-else-not-rounded : goal.returns-else-not-rounded

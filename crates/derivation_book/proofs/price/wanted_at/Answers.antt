@@ -1,5 +1,5 @@
 use Rattle.std.proofs.Common.{◌∙◌, sym, arith}
-use Rattle.derivation_book.proofs.ColumnLemmas.{stands_first, stands_later, stands_nowhere}
+use Rattle.derivation_book.specs.Lemmas.Columns.{stands_first, stands_later, stands_nowhere}
 use Rattle.derivation_book.proofs.price.wanted_at.Goals as goal
 
 pub returns-then-column-clause-coefficient : goal.returns-then-column-clause-coefficient

@@ -1,5 +1,5 @@
 use Rattle.std.proofs.Common.{◌∙◌, sym, arith, drop}
-use Rattle.derivation_book.proofs.PriceLemmas.{next_column, no_column}
+use Rattle.derivation_book.specs.Lemmas.Price.{next_column, no_column}
 use Rattle.derivation_book.proofs.price.with_columns.Goals as goal
 
 pub returns-in_err-total : goal.returns-in_err-total

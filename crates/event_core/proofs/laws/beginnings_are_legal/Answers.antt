@@ -1,4 +1,4 @@
-use Rattle.event_core.proofs.EndedLemmas.{beginnings_legal}
+use Rattle.event_core.specs.Lemmas.Ended.{beginnings_legal}
 use Rattle.event_core.proofs.laws.beginnings_are_legal.Goals as goal
 
 pub returns : goal.returns

@@ -1,4 +1,4 @@
-use Rattle.event_core.proofs.Sounding.{legal_sound}
+use Rattle.event_core.specs.Lemmas.Sounding.{legal_sound}
 use Rattle.event_core.proofs.laws.legal_states_are_sound.Goals as goal
 
 pub returns : goal.returns

@@ -3,7 +3,7 @@ use Rattle.std.specs.Prelude.{ℤ, ◌+ℤ◌}
 use Rattle.std.specs.Ordering.{int_eq}
 use Rattle.std.proofs.lemmas.Int.{to_z-of_z}
 use Rattle.fraction.specs.Rational.{floor_div}
-use Rattle.event_core.proofs.Boxes.{middle_then, middle_else, middle_none}
+use Rattle.event_core.specs.Lemmas.Boxes.{middle_then, middle_else, middle_none}
 use Rattle.event_core.proofs.split_rule.is_middle_of_first_free.Goals as goal
 
 pub returns-then-first-column : goal.returns-then-first-column

@@ -1,11 +1,11 @@
 use Rattle.std.proofs.Common.{◌≡◌, ◌≤◌, Ok, arith, length, ◌∙◌}
 use Rattle.std.proofs.lemmas.Result.{IfOk-weaker}
-use Rattle.mps_reader.specs.Finished.{IsRefusedWith}
-use Rattle.mps_reader.proofs.Finished.{read_is, refused_at_end, refused_by, too_long}
+use Rattle.mps_reader.specs.Refusals.{IsRefusedWith}
+use Rattle.mps_reader.proofs.Refusals.{read_is, refused_at_end, refused_by, too_long}
 use Rattle.mps_reader.specs.Reading.{Reads, finish, text_limit}
 use Rattle.mps_reader.proofs.Stopping.{if_err}
 use Rattle.mps_reader.proofs.mps.read_mps.Goals as goal
-use Rattle.mps_reader.specs.Followed.{IsFaultOf}
+use Rattle.mps_reader.specs.TextTables.{IsFaultOf}
 
 pub returns-then-text-gt-TEXT_LIMIT-clause-refused : goal.returns-then-text-gt-TEXT_LIMIT-clause-refused
 returns-then-text-gt-TEXT_LIMIT-clause-refused g c = too_long c.args.text.now c.args.upper (omega arith)

@@ -1,6 +1,6 @@
 use Rattle.std.proofs.Common.{◌==◌, sym, ap, ◌∙◌}
 use Rattle.mps_reader.specs.Faults.{may_follow, stage_of}
-use Rattle.mps_reader.proofs.Ordered.{end_follows}
+use Rattle.mps_reader.proofs.SectionOrder.{end_follows}
 use Rattle.mps_reader.proofs.order.follows.Goals as goal
 
 pub returns-in-EndData : goal.returns-in-EndData

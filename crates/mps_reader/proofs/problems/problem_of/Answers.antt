@@ -1,5 +1,5 @@
 use Rattle.std.proofs.Common.{Ok, Err, sym, ap, ◌∙◌}
-use Rattle.mps_reader.proofs.Finished.{keeps, kept_names, made_limited, made_said, nothing_said, parts_count, parts_nonzero, parts_ranges, parts_rising, parts_sides, refusal_said}
+use Rattle.mps_reader.proofs.Refusals.{keeps, kept_names, made_limited, made_said, nothing_said, parts_count, parts_nonzero, parts_ranges, parts_rising, parts_sides, refusal_said}
 use Rattle.mps_reader.proofs.TableLimits.{names_ascii}
 use Rattle.mps_reader.specs.declared.kinds.Kind.TheVariants as kind
 use Rattle.mps_reader.proofs.problems.problem_of.Goals as goal

@@ -1,7 +1,7 @@
 use Rattle.std.proofs.Common.{◌≡◌, ◌∷◌, Err, sym, ap, subst, refl, ◌∙◌}
 use Rattle.mps_lines.specs.Left.{left, seen, with_first}
-use Rattle.mps_reader.specs.Followed.{IsFaultOf}
-use Rattle.mps_reader.proofs.Followed.{follow_end, follow_fault, follow_last}
+use Rattle.mps_reader.specs.TextTables.{IsFaultOf}
+use Rattle.mps_reader.proofs.TextTables.{follow_end, follow_fault, follow_last}
 use Rattle.mps_reader.specs.declared.kinds.Kind.TheVariants as kind
 use Rattle.mps_reader.specs.declared.reading.ReadFault.{ReadFault}
 use Rattle.mps_reader.proofs.reading.read_sections.Goals as goal

@@ -1,8 +1,8 @@
 use Rattle.std.proofs.Common.{◌≤◌, ◌+◌}
 use Rattle.mps_lines.specs.Left.{room, text_len}
-use Rattle.mps_reader.proofs.Followed.{HasFollowed}
+use Rattle.mps_reader.proofs.TextTables.{HasFollowed}
 use Rattle.mps_reader.specs.Reading.{text_limit}
-use Rattle.mps_reader.specs.Sectioned.{CountsRows}
+use Rattle.mps_reader.specs.SectionTables.{CountsRows}
 use Rattle.mps_reader.proofs.reading.read_sections.Given as goal
 
 abbrev pub invariant-loop-line : goal.invariant-loop-line

@@ -2,7 +2,7 @@ use Rattle.std.proofs.Common.{◌≡◌, sym, ap, subst, refl, ◌∙◌}
 use Rattle.mps_lines.specs.Left.{seen}
 use Rattle.mps_reader.specs.BoundTables.{HasBounds}
 use Rattle.mps_reader.specs.Faults.{bound_line_fault}
-use Rattle.mps_reader.proofs.Sectioned.{bounds_hold}
+use Rattle.mps_reader.proofs.SectionTables.{bounds_hold}
 use Rattle.mps_reader.specs.Sections.{bound_at, bounds_of, entries_of, with_bound}
 use Rattle.mps_reader.proofs.Stopping.{if_err, on_ok, stops_same}
 use Rattle.mps_reader.specs.Tables.{Stops, texts}

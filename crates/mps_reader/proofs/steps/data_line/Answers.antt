@@ -1,7 +1,7 @@
 use Rattle.std.proofs.Common.{refl, sym, ◌∙◌}
 use Rattle.mps_lines.specs.Left.{seen}
 use Rattle.mps_reader.specs.Faults.{line_fault, section_fault}
-use Rattle.mps_reader.proofs.Sectioned.{bad_field, data_holds, fault_by_section}
+use Rattle.mps_reader.proofs.SectionTables.{bad_field, data_holds, fault_by_section}
 use Rattle.mps_reader.proofs.Stopping.{stops_same}
 use Rattle.mps_reader.proofs.steps.data_line.Goals as goal
 

@@ -1,7 +1,7 @@
 use Rattle.std.proofs.Common.{◌≡◌, None, Some, sym, ap, ◌∙◌, drop}
 use Rattle.mps_lines.specs.Left.{seen}
 use Rattle.mps_reader.specs.Faults.{word_fault}
-use Rattle.mps_reader.proofs.Sectioned.{known_fine}
+use Rattle.mps_reader.proofs.SectionTables.{known_fine}
 use Rattle.mps_reader.specs.Tables.{texts}
 use Rattle.mps_reader.proofs.steps.known_line.Goals as goal
 

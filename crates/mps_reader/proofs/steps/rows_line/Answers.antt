@@ -2,7 +2,7 @@ use Rattle.std.proofs.Common.{◌≡◌, ◌++◌, ◌∷◌, [], sym, ap, refl,
 use Rattle.mps_lines.specs.Left.{seen}
 use Rattle.mps_reader.specs.Faults.{row_fault}
 use Rattle.mps_reader.specs.RowState.{new_row}
-use Rattle.mps_reader.proofs.Sectioned.{rows_before, rows_hold}
+use Rattle.mps_reader.proofs.SectionTables.{rows_before, rows_hold}
 use Rattle.mps_reader.specs.Sections.{row_entry, rows_of}
 use Rattle.mps_reader.specs.Tables.{texts}
 use Rattle.mps_reader.proofs.steps.rows_line.Goals as goal

@@ -5,7 +5,7 @@ use Rattle.problem_box.specs.declared.span.Span.{Span}
 use Rattle.node_tree.specs.declared.branch.Branch.{Branch}
 use Rattle.node_tree.specs.Paths.{box_along}
 use Rattle.node_tree.specs.Cuts.{IsInside, cut_by}
-use Rattle.node_tree.proofs.Boxes.{box_of_root, box_cut}
+use Rattle.node_tree.specs.Lemmas.Boxes.{box_of_root, box_cut}
 use Rattle.node_tree.proofs.Walking.{popped, last_inside}
 use Rattle.node_tree.proofs.path.cut_along.Goals as goal
 

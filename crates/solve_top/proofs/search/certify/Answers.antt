@@ -1,36 +1,43 @@
-use Rattle.std.proofs.Common.{ap, inr, ◌∙◌}
+use Rattle.std.proofs.Common.{◌∙◌, ap, inr, length, subst}
+use Rattle.cert_tree.specs.Laws.{MergedIsValid, MergedIsTrue, InfeasibilityIsExact}
 use Rattle.solve_top.specs.Changes.{sink_change}
-use Rattle.solve_top.specs.Output.{answer_lines}
-use Rattle.solve_top.proofs.Texts.{valid_end, prefix_end, lines_are, solved_end}
+use Rattle.solve_top.proofs.Texts.{has_finished, valid_end, prefix_end, answer_lines_are, solved_end}
 use Rattle.solve_top.proofs.search.certify.Goals as goal
 
 pub text_spells_no_other-requires-clause-valid : goal.text_spells_no_other-requires-clause-valid
 text_spells_no_other-requires-clause-valid g c =
-    valid_end _ _ _ _ c.requires.finished c.requires.search c.in_ok-certificate.ensures c.finished_searches_are_done.ensures
+    let k = c.conditions_hold.ensures in
+    valid_end c.args.state.now k.state _ k.legal c.requires.ended c.in_ok-certificate.ensures
+    (subst MergedIsValid c.problem.ensures c.finished_searches_are_certified.ensures.valid)
 
 pub returns-in-Ok : goal.returns-in-Ok
-returns-in-Ok g c = (
-  λ names. solved_end _ _ _ _ c.requires.finished c.requires.search c.in_ok-certificate.ensures _ c.finished_searches_are_done.ensures
-      (c.text_spells_no_other.ensures names) c.in-Ok.ensures.whole,
-  c.in-Ok.ensures.cause,
-  lines_are _ _ _ _ c.requires.finished c.requires.search c.in_ok-certificate.ensures _
-      (c.in_ok-lines.ensures ∙ ap (λ m. answer_lines c.in_ok-certificate.certificate.claim m) c.len.ensures),
-)
+returns-in-Ok g c =
+    let k = c.conditions_hold.ensures in
+    let l = c.finished_searches_are_certified.ensures in (
+      solved_end c.args.state.now k.state _ k.legal c.requires.ended c.in_ok-certificate.ensures _ (subst MergedIsValid c.problem.ensures l.valid)
+          (subst MergedIsTrue c.problem.ensures l.answered) (subst InfeasibilityIsExact c.problem.ensures l.exact) c.text_spells_no_other.ensures
+          c.in-Ok.ensures.whole,
+      c.in-Ok.ensures.cause,
+      answer_lines_are c.args.state.now k.state _ k.legal c.requires.ended c.in_ok-certificate.ensures _ _ _
+          (c.len.ensures ∙ ap length c.tree.ensures.nodes) (c.len-2.ensures ∙ ap length c.book.ensures) c.in_ok-lines.ensures,
+    )
 
 pub returns-in-Err-Sink : goal.returns-in-Err-Sink
-returns-in-Err-Sink g c = (
-  c.requires.finished,
-  prefix_end _ _ _ _ c.requires.finished c.requires.search c.in_ok-certificate.ensures
-      (sink_change g.C.Sink.tells g.C.Sink.taken g.C.Sink.faults c.args.cert.now c.print.new.sink) c.in-Err-Sink.ensures.prefix,
-  (rw c.in-Err-Sink.field-0-is at c.in-Err-Sink.ensures.cause).1,
-)
+returns-in-Err-Sink g c =
+    let k = c.conditions_hold.ensures in (
+      has_finished c.args.state.now k.state _ k.legal c.requires.ended c.in_ok-certificate.ensures,
+      prefix_end c.args.state.now k.state _ k.legal c.requires.ended c.in_ok-certificate.ensures
+          (sink_change g.C.Sink.tells g.C.Sink.taken g.C.Sink.faults c.args.cert.now c.print.new.sink) c.in-Err-Sink.ensures.prefix,
+      (rw c.in-Err-Sink.field-0-is at c.in-Err-Sink.ensures.cause).1,
+    )
 
 pub returns : goal.returns
-returns g c = (
-  inr (
-    c.requires.finished,
-    prefix_end _ _ _ _ c.requires.finished c.requires.search c.in_ok-certificate.ensures
-        (sink_change g.C.Sink.tells g.C.Sink.taken g.C.Sink.faults c.args.cert.now c.print.new.sink) c.in-Err-Memory.ensures.prefix,
-  ),
-  rw c.in-Err-Memory.field-0-is at c.in-Err-Memory.ensures.cause,
-)
+returns g c =
+    let k = c.conditions_hold.ensures in (
+      inr (
+        has_finished c.args.state.now k.state _ k.legal c.requires.ended c.in_ok-certificate.ensures,
+        prefix_end c.args.state.now k.state _ k.legal c.requires.ended c.in_ok-certificate.ensures
+            (sink_change g.C.Sink.tells g.C.Sink.taken g.C.Sink.faults c.args.cert.now c.print.new.sink) c.in-Err-Memory.ensures.prefix,
+      ),
+      rw c.in-Err-Memory.field-0-is at c.in-Err-Memory.ensures.cause,
+    )

@@ -5,7 +5,7 @@ use Rattle.problem.specs.Rising.{AreRising}
 use Rattle.derivation_book.specs.declared.cut.Cut.{Cut}
 use Rattle.derivation_book.specs.Contents.{Contents}
 use Rattle.derivation_book.specs.Cuts.{AreCutsOf}
-use Rattle.derivation_book.proofs.RoundedLemmas.{rounded_rises, one_more}
+use Rattle.derivation_book.specs.Lemmas.Rounded.{rounded_rises, one_more}
 use Rattle.derivation_book.proofs.book.Book.add_cut.Goals as goal
 
 pub invariant_of-self : goal.invariant_of-self

@@ -1,6 +1,6 @@
 use Rattle.std.proofs.Common.{◌∙◌, sym, arith, length}
 use Rattle.derivation_book.specs.Known.{known_lines}
-use Rattle.derivation_book.proofs.Combining.{combined_length}
+use Rattle.derivation_book.specs.Lemmas.Combining.{combined_length}
 use Rattle.derivation_book.proofs.book.Book.cg_row.Goals as goal
 
 pub rounded-requires : goal.rounded-requires

@@ -1,6 +1,6 @@
 use Rattle.std.proofs.Common.{◌∙◌, sym, arith}
 use Rattle.derivation_book.specs.Known.{known_lines}
-use Rattle.derivation_book.proofs.Combining.{first_combined, next_combined, next_cramped, all_combined}
+use Rattle.derivation_book.specs.Lemmas.Combining.{first_combined, next_combined, next_cramped, all_combined}
 use Rattle.derivation_book.proofs.book.Book.combine.Goals as goal
 
 pub loop-multiplier-init : goal.loop-multiplier-init

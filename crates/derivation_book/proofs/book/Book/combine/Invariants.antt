@@ -1,7 +1,7 @@
 use Rattle.std.proofs.Common.{◌≡◌, drop, length}
 use Rattle.derivation_book.specs.Known.{known_lines}
 use Rattle.derivation_book.specs.Sums.{combined}
-use Rattle.derivation_book.proofs.Combining.{combined_from}
+use Rattle.derivation_book.specs.Lemmas.Combining.{combined_from}
 use Rattle.derivation_book.proofs.book.Book.combine.Given as goal
 
 abbrev pub invariant-loop-multiplier : goal.invariant-loop-multiplier

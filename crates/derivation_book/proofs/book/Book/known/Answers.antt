@@ -1,6 +1,6 @@
 use Rattle.std.proofs.Common.{ap, arith, length}
 use Rattle.derivation_book.specs.Contents.{Contents}
-use Rattle.derivation_book.proofs.Numbering.{known_length}
+use Rattle.derivation_book.specs.Lemmas.Numbering.{known_length}
 use Rattle.derivation_book.proofs.book.Book.known.Goals as goal
 
 pub returns : goal.returns

@@ -1,5 +1,5 @@
 use Rattle.std.proofs.Common.{arith}
-use Rattle.derivation_book.proofs.Numbering.{known_length, lower_place, upper_place, cut_place}
+use Rattle.derivation_book.specs.Lemmas.Numbering.{known_length, lower_place, upper_place, cut_place}
 use Rattle.derivation_book.proofs.book.Book.place.Goals as goal
 
 pub returns-then-bound-columns-clause-there : goal.returns-then-bound-columns-clause-there

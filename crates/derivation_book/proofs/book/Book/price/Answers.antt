@@ -1,6 +1,6 @@
 use Rattle.std.proofs.Common.{◌∙◌, sym, length}
 use Rattle.derivation_book.specs.Known.{known_lines}
-use Rattle.derivation_book.proofs.Combining.{combined_length}
+use Rattle.derivation_book.specs.Lemmas.Combining.{combined_length}
 use Rattle.derivation_book.proofs.book.Book.price.Goals as goal
 
 pub price-requires-clause-columns : goal.price-requires-clause-columns

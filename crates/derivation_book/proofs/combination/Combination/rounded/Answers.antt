@@ -1,6 +1,6 @@
 use Rattle.std.proofs.Common.{sym, subst}
 use Rattle.problem.specs.Rising.{AreRising, AreNonzero}
-use Rattle.derivation_book.proofs.RoundedLemmas.{terms_rise, terms_nonzero}
+use Rattle.derivation_book.specs.Lemmas.Rounded.{terms_rise, terms_nonzero}
 use Rattle.derivation_book.proofs.combination.Combination.rounded.Goals as goal
 
 pub make-requires-clause-rising : goal.make-requires-clause-rising

@@ -1,8 +1,7 @@
-use Rattle.std.proofs.Common.{◌≡◌, sym, subst}
-use Rattle.std.specs.Prelude.{List, All, ◌^◌}
-use Rattle.problem_box.specs.declared.span.Span.{Span}
+use Rattle.std.proofs.Common.{sym, subst}
+use Rattle.std.specs.Prelude.{All, ◌^◌}
 use Rattle.problem.specs.Limited.{IsModestSpan}
-use Rattle.event_core.proofs.Boxes.{modest_result}
+use Rattle.event_core.specs.Lemmas.Boxes.{modest_result}
 use Rattle.event_core.proofs.parts.Parts.box_of.Goals as goal
 
 pub returns-clause-modest : goal.returns-clause-modest

@@ -1,5 +1,5 @@
-use Rattle.std.proofs.Common.{◌≡◌, ◌∙◌, ap, sym, subst, refl}
-use Rattle.std.specs.Prelude.{ℤ, List, Bool, true, false}
+use Rattle.std.proofs.Common.{◌≡◌, ◌∙◌, ap, subst, refl}
+use Rattle.std.specs.Prelude.{true, false}
 use Rattle.std.specs.Bool.{one_answer}
 use Rattle.problem.specs.Feasible.{objective_at}
 use Rattle.incumbent.specs.Offers.{is_better}
@@ -7,7 +7,7 @@ use Rattle.event_core.specs.declared.admit.Admit.TheVariants.{Yes, BadPoint, Not
 use Rattle.event_core.specs.Rooms.{Standing}
 use Rattle.event_core.specs.Feasibility.{is_feasible}
 use Rattle.event_core.specs.Judging.{judged_offer}
-use Rattle.event_core.proofs.Points.{Decides-feasible}
+use Rattle.event_core.specs.Lemmas.Points.{Decides-feasible}
 use Rattle.event_core.proofs.Offering.{offer_answer}
 use Rattle.event_core.proofs.parts.Parts.judge_offer.Goals as goal
 

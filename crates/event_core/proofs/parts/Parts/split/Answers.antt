@@ -1,13 +1,13 @@
-use Rattle.std.proofs.Common.{◌≡◌, ◌∙◌, ap, sym, subst}
+use Rattle.std.proofs.Common.{◌≡◌, sym, subst}
 use Rattle.std.proofs.Common.{to_z, of_z, w64}
 use Rattle.std.proofs.lemmas.Int.{to_z-of_z}
-use Rattle.std.specs.Prelude.{◌<◌, ℤ, ◌≤ℤ◌, ◌<ℤ◌, List, Bool, true, length, slice_get}
+use Rattle.std.specs.Prelude.{◌<◌, ℤ, ◌≤ℤ◌, ◌<ℤ◌, List, true, slice_get}
 use Rattle.problem_box.specs.declared.span.Span.{Span}
 use Rattle.node_tree.specs.Paths.{box_at}
 use Rattle.event_core.specs.Rooms.{Standing}
 use Rattle.event_core.specs.States.{box_of}
 use Rattle.event_core.specs.Splits.{has_both}
-use Rattle.event_core.proofs.Boxes.{same_box, both_within, both_tells}
+use Rattle.event_core.specs.Lemmas.Boxes.{same_box, both_within, both_tells}
 use Rattle.event_core.proofs.parts.Parts.split.Goals as goal
 
 pub split-requires-clause-column_there : goal.split-requires-clause-column_there

@@ -1,6 +1,6 @@
 use Rattle.std.proofs.Common.{◌≡◌, ℕ, List, Option, None, [], ◌∷◌, ◌++◌, ap, sym, ◌∙◌, append_assoc, subst}
 use Rattle.mps_reader.specs.Faults.{◌<|>◌, side_fault}
-use Rattle.mps_reader.specs.Lemmas.Kept.{none_both}
+use Rattle.mps_reader.specs.Lemmas.LinesWithinLimits.{none_both}
 use Rattle.mps_reader.specs.SideLines.{HasSides}
 use Rattle.mps_reader.proofs.SideLines.{stops_before}
 use Rattle.mps_reader.proofs.Stopping.{if_err, on_ok, stops_same}

@@ -1,4 +1,4 @@
-use Rattle.std.proofs.Common.{◌≡◌, ◌<◌, ◌-◌, ◌/◌, ◌++◌, ◌∷◌, [], List, Some, ◌∙◌, ap, subst, sym, append_assoc, length, vec_len, to_z, of_z, w64, arith, rules}
+use Rattle.std.proofs.Common.{◌≡◌, ◌<◌, ◌≤◌, ◌+◌, ◌-◌, ◌/◌, ◌++◌, ◌∷◌, [], List, Some, ◌∙◌, ap, subst, sym, append_assoc, length, vec_len, to_z, of_z, w64, arith, rules}
 use Rattle.std.specs.Prelude.{pos, ◌+ℤ◌, slice_index_or, slice_set}
 use Rattle.std.specs.Vec.{vec_capacity}
 use Rattle.std.proofs.lemmas.Int.{ints}
@@ -11,8 +11,8 @@ use Rattle.node_tree.specs.Nodes.{Tree, no_node, node_at}
 use Rattle.node_tree.specs.Paths.{path_at, box_at}
 use Rattle.node_tree.specs.Splits.{left_branch, right_branch, leaf_of, with_split}
 use Rattle.node_tree.specs.Trees.{IsTree}
-use Rattle.node_tree.proofs.Boxes.{length-box}
-use Rattle.node_tree.proofs.Splitting.{split_is_tree}
+use Rattle.node_tree.specs.Lemmas.Boxes.{length-box}
+use Rattle.node_tree.specs.Lemmas.Splitting.{length-split, split_is_tree}
 use Rattle.node_tree.proofs.tree.Tree.split.Goals as goal
 
 pub prove-unreachable-requires : goal.prove-unreachable-requires
@@ -27,7 +27,7 @@ prove-unreachable-requires c =
 
 pub invariant_of-self : goal.invariant_of-self
 invariant_of-self c =
-    let tree : IsTree c.args.self.now = subst IsTree c.self.view_is c.self.invariant in
+    let tree : IsTree c.args.self.now = subst IsTree c.self.view_is c.self.invariant.0 in
     let r = c.requires in
     let nodes : List Node = c.self.inside.nodes.items in
     let before : Tree = record { root = c.self.inside.root; nodes = nodes; room = (vec_capacity c.self.inside.nodes - vec_len c.self.inside.nodes) / 2 } in
@@ -44,5 +44,9 @@ invariant_of-self c =
     ∙ (λ k. slice_set nodes c.args.node (record { branch = (parent k).branch; first_child = Some (first k) }) ++ left k ∷ right k ∷ []) in
     let made : record { root = c.self.inside.root; nodes = c.push_reserved-2.new.self.items; room = (vec_capacity c.push_reserved-2.new.self - vec_len c.push_reserved-2.new.self) / 2 }
     ≡ with_split before c.args.node c.args.column c.args.bound = (λ k. record { root = c.self.inside.root; nodes = items k; room = room k }) in
-    subst IsTree (sym (made ∙ ap (λ t. with_split t c.args.node c.args.column c.args.bound) c.self.view_is))
-    (split_is_tree c.args.self.now c.args.node c.args.column c.args.bound tree r.node_there r.leaf r.column_there r.inside r.few)
+    let before_few : length nodes + 2 ≤ 1_000_000_000 = subst (λ (t : Tree). length t.nodes + 2 ≤ 1_000_000_000) (sym c.self.view_is) r.few in
+    let few : length c.push_reserved-2.new.self.items ≤ 1_000_000_000 = omega (arith, before_few, ap (λ (t : Tree). length t.nodes) made, length-split before c.args.node c.args.column c.args.bound) in (
+      subst IsTree (sym (made ∙ ap (λ t. with_split t c.args.node c.args.column c.args.bound) c.self.view_is))
+          (split_is_tree c.args.self.now c.args.node c.args.column c.args.bound tree r.node_there r.leaf r.column_there r.inside),
+      few,
+    )

@@ -1,0 +1,53 @@
+-- Histories that go on with events of worker 0.
+use Rattle.std.specs.Prelude.{◌≡◌, List, [], ◌∷◌, ◌++◌, Some, refl}
+use Rattle.std.proofs.Common.{sym, ap, ◌∙◌, subst, append_assoc}
+use Rattle.std.proofs.lemmas.List.{append-nil}
+use Rattle.std.proofs.lemmas.List.Elements.{All-nil, All-cons, All-append}
+use Rattle.node_events.specs.declared.event.Event.{Event}
+use Rattle.event_core.specs.declared.entry.Entry.{Entry}
+use Rattle.event_core.specs.States.{State}
+use Rattle.event_core.specs.After.{after}
+use Rattle.event_core.specs.Histories.{state_from}
+use Rattle.event_core.specs.Rooms.{Recorded}
+use Rattle.event_core.specs.Lemmas.Running.{state_from-append}
+use Rattle.event_core.specs.Lemmas.Running.{after-problem}
+use Rattle.core_search.specs.Entries.{IsOfWorker, IsGreatestIfClaim, AreGreatestClaims, GoesOn}
+
+abbrev entry : Event → Entry
+entry e = record { worker = Some 0; event = e }
+
+-- no event
+pub stays : (old new : Recorded) → new.state ≡ old.state → new.history ≡ old.history → GoesOn old new
+stays old new s h = record { entries = []; history = h ∙ sym (append-nil old.history); state = s; of_worker = All-nil IsOfWorker; greatest = tt }
+
+-- one event
+pub one_event : (old new : Recorded) (e : Event) → new.state ≡ after old.state (Some 0) e → new.history ≡ old.history ++ entry e ∷ [] → IsGreatestIfClaim old.state e → GoesOn old new
+one_event old new e s h g = record {
+  entries = entry e ∷ [];
+  history = h;
+  state = s;
+  of_worker = All-cons IsOfWorker (entry e) [] refl (All-nil IsOfWorker);
+  greatest = (g, tt);
+}
+
+claims_on : (s : State) (es fs : List Entry) → AreGreatestClaims s es → AreGreatestClaims (state_from s es) fs → AreGreatestClaims s (es ++ fs)
+claims_on s [] fs h k = k
+claims_on s (e ∷ es) fs h k = (h.0, claims_on (after s e.worker e.event) es fs h.1 k)
+
+-- one after the other
+pub joined : (a b c : Recorded) → GoesOn a b → GoesOn b c → GoesOn a c
+joined a b c h k = record {
+  entries = h.entries ++ k.entries;
+  history = k.history ∙ ap (λ es. es ++ k.entries) h.history ∙ append_assoc a.history h.entries k.entries;
+  state = k.state ∙ ap (λ s. state_from s k.entries) h.state ∙ sym (state_from-append a.state h.entries k.entries);
+  of_worker = All-append IsOfWorker h.entries k.entries h.of_worker k.of_worker;
+  greatest = claims_on a.state h.entries k.entries h.greatest (subst (λ s. AreGreatestClaims s k.entries) h.state k.greatest);
+}
+
+-- the problem stays
+pub from-problem : (s : State) (es : List Entry) → (state_from s es).problem ≡ s.problem
+from-problem s [] = refl
+from-problem s (e ∷ es) = from-problem (after s e.worker e.event) es ∙ after-problem s e.worker e.event
+
+pub same_problem : (a b : Recorded) → GoesOn a b → b.state.problem ≡ a.state.problem
+same_problem a b h = ap (λ (s : State). s.problem) h.state ∙ from-problem a.state h.entries

@@ -1,0 +1,7 @@
+pub mod OpenNodes
+pub mod Holding
+pub mod Entries
+pub mod Closing
+pub mod Endings
+pub mod Processing
+pub mod Laws

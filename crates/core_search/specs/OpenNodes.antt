@@ -1,0 +1,35 @@
+-- The open nodes with their boxes, as a list.
+use Rattle.std.specs.Prelude.{◌≡◌, ◌⊎◌, ◌<◌, ◌+◌, ◌-◌, ℕ, ℤ, pos, ◌+ℤ◌, true, List, [], ◌∷◌, length, All}
+use Rattle.problem_box.specs.declared.span.Span.{Span}
+use Rattle.problem_box.specs.Changes.{cut_low, cut_high}
+use Rattle.event_core.specs.States.{State, is_open, box_of}
+use Rattle.core_search.specs.declared.open_node.OpenNode.{OpenNode}
+
+-- the node is open, and this is its box
+pub record IsOpenNode (s : State) (o : OpenNode) : Type 0 where
+  pub opened : is_open s o.number ≡ true
+  pub area : o.area ≡ box_of s o.number
+
+-- the numbers rise
+abbrev pub AreRising : List OpenNode → Type 0
+AreRising [] = Unit {0}
+AreRising (o ∷ os) = All (λ (p : OpenNode). o.number < p.number) os × AreRising os
+
+-- node k is one of these
+abbrev pub IsAmong : List OpenNode → ℕ → Type 0
+IsAmong [] k = ⊥
+IsAmong (o ∷ os) k = (o.number ≡ k) ⊎ IsAmong os k
+
+-- all open nodes with their boxes, by rising number
+pub record AreOpenNodes (s : State) (os : List OpenNode) : Type 0 where
+  pub nodes : All (IsOpenNode s) os
+  pub rising : AreRising os
+  pub listed : (k : ℕ) → is_open s k ≡ true → IsAmong os k
+
+-- the two children of a node with this box that is split by x <= b and x >= b + 1 in column j; the left one has number k
+abbrev pub children : ℕ → List Span → ℕ → ℤ → List OpenNode
+children k box j b = record { number = k; area = cut_high box j b } ∷ record { number = k + 1; area = cut_low box j (b +ℤ pos 1) } ∷ []
+
+-- how many nodes may still be made, and how many are open: each step makes this less
+abbrev pub work_left : ℕ → State → List OpenNode → ℕ
+work_left budget s os = budget - length s.nodes + length os

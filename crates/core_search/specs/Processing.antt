@@ -1,0 +1,29 @@
+-- What a step does with its node, and how it ends a search.
+use Rattle.std.specs.Prelude.{◌≡◌, ◌<◌, ℕ, Bool, true, false, List, []}
+use Rattle.event_core.specs.States.{State, open_count}
+use Rattle.core_search.specs.declared.open_node.OpenNode.{OpenNode}
+use Rattle.core_search.specs.declared.node_loop.Ending.{Ending}
+use Rattle.core_search.specs.declared.node_loop.Ending.TheVariants.{Finished, Spent, Memory}
+use Rattle.core_search.specs.OpenNodes.{AreOpenNodes, work_left}
+use Rattle.core_search.specs.Endings.{IsSpent, HasUnsettledNext}
+
+-- the held node was closed or split: nobody holds a node, the open nodes are known, and less work is left
+pub record EndsNode (budget : ℕ) (old : State) (before : List OpenNode) (new : State) (after : List OpenNode) : Type 0 where
+  pub unheld : new.holds ≡ []
+  pub nodes : AreOpenNodes new after
+  pub less : work_left budget new after < work_left budget old before
+
+-- the node that is next is unsettled, and its two children would pass the budget
+abbrev pub IsExhausted : ℕ → State → Type 0
+IsExhausted budget s = IsSpent budget s × HasUnsettledNext s
+
+-- whether the held node was closed or split; where it wasn't, the state is as before, and the budget is exhausted
+abbrev pub ProcessesNode : ℕ → State → List OpenNode → State → List OpenNode → Bool → Type 0
+ProcessesNode budget old before new after true = EndsNode budget old before new after
+ProcessesNode budget old before new after false = (new ≡ old) × IsExhausted budget old
+
+-- the search ends so
+abbrev pub IsEnding : ℕ → Ending → State → Type 0
+IsEnding budget Finished s = open_count s ≡ 0
+IsEnding budget Spent s = IsExhausted budget s
+IsEnding budget Memory s = Unit {0}

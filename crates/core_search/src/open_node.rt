@@ -1,0 +1,88 @@
+// The open nodes with their boxes.
+ghost use Rattle.std.specs.Prelude.{◌≡◌, ◌<◌, ◌≤◌, ◌+◌, ◌^◌, pos, nat_abs, ◌+ℤ◌, ◌≤ℤ◌, ◌<ℤ◌, ◌++◌, IfOk, OnOk, All, length, slice_get};
+ghost use Rattle.std.specs.Option.{ForSome};
+ghost use Rattle.problem.specs.Limited.{IsModestSpan};
+ghost use Rattle.node_tree.specs.Trees.{IsTree};
+ghost use Rattle.event_core.specs.States.{tree_of};
+ghost use Rattle.event_core.specs.Sound.{IsSound};
+ghost use Rattle.core_search.specs.OpenNodes.{children, IsOpenNode, AreOpenNodes};
+ghost use Rattle.core_search.specs.Closing.{IsPart, VerdictsClose};
+
+use derivation_book::laws::{prices_bound, proofs_are_decided};
+use event_core::State;
+use problem_box::IntBox;
+use std::alloc::{AllocError, Global};
+
+/// An open node with its box. The box is kept, since it would take a walk to node 0 to make it again.
+#[derive(Drop)]
+pub struct OpenNode {
+    /// The node's number.
+    pub number: u32,
+    /// The node's box.
+    pub area: IntBox,
+}
+
+/// The open nodes of a state, by rising number. The one error is want of memory.
+pub fn open_nodes(alloc: Global, state: &State) -> Result<Vec<OpenNode>, AllocError>
+    ensures { IfOk result (λ v. AreOpenNodes state.now.state v.items) }
+{
+    let tree = state.tree();
+    tree.conditions_hold();
+    state.conditions_hold();
+    let count = tree.len() as u32;
+    let mut nodes = Vec::new(alloc);
+    for number in 0..count {
+        if state.is_open(number) {
+            let area = tree.box_of(alloc, number)?;
+            nodes.push(OpenNode { number, area })?;
+        }
+    }
+    Ok(nodes)
+}
+
+/// Adds the two children of a node that is split: the left one has this number, and the right one the next. The one error is want of memory.
+pub fn push_children(
+    alloc: Global,
+    nodes: &mut Vec<OpenNode>,
+    number: u32,
+    area: IntBox,
+    column: usize,
+    bound: i64,
+) -> Result<(), AllocError>
+    requires room { number + 1 < 2 ^ 32 }
+    requires column { column < length area }
+    requires left { ForSome (slice_get area column) (λ s. (s.lo ≤ℤ bound) × (bound <ℤ s.hi)) }
+    requires right { ForSome (slice_get area column) (λ s. (s.lo <ℤ (bound +ℤ pos 1)) × ((bound +ℤ pos 1) ≤ℤ s.hi)) }
+    requires bound { nat_abs bound ≤ 10 ^ 9 }
+    ensures { OnOk result (nodes.new.items ≡ nodes.old.items ++ children number area column bound) }
+{
+    let mut right = area.copy(alloc)?;
+    right.cut_low(column, bound + 1);
+    let mut left = area;
+    left.cut_high(column, bound);
+    nodes.push(OpenNode { number, area: left })?;
+    nodes.push(OpenNode {
+        number: number + 1,
+        area: right,
+    })?;
+    Ok(())
+}
+
+/// What is true of an open node and of the verdicts on its box. This computes nothing: its contract is for callers' proofs.
+pub fn node_conditions_hold(state: &State, node: &OpenNode)
+    requires { IsOpenNode state.now.state node.now }
+    ensures sound { IsSound state.now.state }
+    ensures tree { IsTree (tree_of state.now.state) }
+    ensures columns { length node.now.area ≡ length state.now.state.problem.spans }
+    ensures few { length node.now.area ≤ 1000 }
+    ensures modest { All IsModestSpan node.now.area }
+    ensures part { IsPart state.now.state.problem node.now.area }
+    ensures closes { VerdictsClose state.now.state.problem state.now.state.cuts node.now.area }
+{
+    let problem = state.problem();
+    let book = state.book();
+    state.conditions_hold();
+    problem.limits_hold();
+    proofs_are_decided(problem, book);
+    prices_bound(problem, book);
+}

@@ -1,0 +1,78 @@
+//! Copies of names, points, rows and problems, and the values of a problem.
+
+use crate::models::problem_of;
+use crate::report::{Spans, Sum, text_of};
+use anyhow::Result;
+use fraction::Frac;
+use problem::{Names, Point, Problem, Row, Sense, Terms};
+use std::alloc::Global;
+use std::io;
+
+/// Minimise x + y/2 where x - 2y >= 1, x from 0 to 9 and y from 0 to 3.
+const MODEL: &str =
+    "ROWS\n N o\n G r\nCOLUMNS\n m 'MARKER' 'INTORG'\n x o 1 r 1\n y o 0.5 r -2\nRHS\n r 1\nBOUNDS\n UP x 9\n UP y 3\nENDATA\n";
+
+/// Prints each name.
+fn show_names<R: Print>(rt: &R, names: &Names) -> io::Result<()> {
+    for index in 0..names.len() {
+        let name = text_of(names.name(index));
+        println!(rt; "problem name {index}: {name}")?;
+    }
+    Ok(())
+}
+
+/// Prints a row.
+fn show_row<R: Print>(rt: &R, row: &Row) -> io::Result<()> {
+    let (sense, rhs, terms) = (row.sense, row.rhs, Sum(row.terms.as_slice()));
+    let (count, are_whole) = (row.terms.len(), row.terms.are_whole());
+    println!(rt; "problem row {sense:?} {rhs}: {terms}; terms {count}, whole {are_whole}")
+}
+
+/// Prints copies of parts, among them a coefficient of more than 64 bits.
+fn show_copies<R: Print + Alloc<A = Global>>(rt: &R) -> Result<()> {
+    let alloc = rt.alloc();
+    let names = Names::make(vec![in alloc; String::from_str(alloc, "x")?]?).copy(alloc)?;
+    show_names(rt, &names)?;
+    let point = Point::make(vec![in alloc; 3, -4]?).copy(alloc)?;
+    let numbers = point.as_slice();
+    println!(rt; "problem point {numbers:?}")?;
+    let mut terms = Terms::make(alloc, &[(0, Frac::of(2)), (1, Frac::make(1, 2))])?;
+    terms.push(2, Frac::of(1 << 70))?;
+    let row = Row {
+        sense: Sense::L,
+        rhs: Frac::of(4),
+        terms,
+    };
+    show_row(rt, &row.copy(alloc)?)?;
+    Ok(())
+}
+
+/// Prints what a problem says of a point.
+fn show_point<R: Print>(rt: &R, problem: &Problem, point: &[i64]) -> io::Result<()> {
+    if !problem.root().holds(point) {
+        return println!(rt; "problem point {point:?} is not in the box");
+    }
+    let (value, is_feasible) = (problem.value(point), problem.is_feasible(point));
+    println!(rt; "problem point {point:?}: objective {value}, feasible {is_feasible}")
+}
+
+/// Prints the calls on problems and their parts.
+pub(crate) fn show<R: Print + Alloc<A = Global>>(rt: &R) -> Result<()> {
+    show_copies(rt)?;
+    let problem = problem_of(rt.alloc(), MODEL)?.copy(rt.alloc())?;
+    show_names(rt, problem.names())?;
+    for index in 0..problem.rows() {
+        show_row(rt, problem.row(index))?;
+    }
+    let (objective, whole) = (
+        Sum(problem.objective().as_slice()),
+        problem.whole_objective(),
+    );
+    println!(rt; "problem objective {objective}; whole {whole}")?;
+    let (columns, root) = (problem.columns(), Spans(problem.root()));
+    println!(rt; "problem box {root}, columns {columns}")?;
+    show_point(rt, &problem, &[3, 1])?;
+    show_point(rt, &problem, &[2, 1])?;
+    show_point(rt, &problem, &[3, 4])?;
+    Ok(())
+}

@@ -1,4 +1,0 @@
-pub mod FirstSearch
-pub mod Laws
-pub mod Standing
-pub mod Kept
