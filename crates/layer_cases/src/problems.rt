@@ -28,23 +28,40 @@ fn show_row<R: Print>(rt: &R, row: &Row) -> io::Result<()> {
     println!(rt; "problem row {sense:?} {rhs}: {terms}; terms {count}, whole {are_whole}")
 }
 
-/// Prints copies of parts, among them a coefficient of more than 64 bits.
-fn show_copies<R: Print + Alloc<A = Global>>(rt: &R) -> Result<()> {
+/// Prints a copy of names.
+fn show_names_copy<R: Print + Alloc<A = Global>>(rt: &R) -> Result<()> {
     let alloc = rt.alloc();
-    let names = Names::make(vec![in alloc; String::from_str(alloc, "x")?]?).copy(alloc)?;
-    show_names(rt, &names)?;
-    let point = Point::make(vec![in alloc; 3, -4]?).copy(alloc)?;
-    let numbers = point.as_slice();
+    let names = Names::make(vec![in alloc; String::from_str(alloc, "x")?]?);
+    let copy = names.copy(alloc)?;
+    Ok(show_names(rt, &copy)?)
+}
+
+/// Prints a copy of a point.
+fn show_point_copy<R: Print + Alloc<A = Global>>(rt: &R) -> Result<()> {
+    let alloc = rt.alloc();
+    let point = Point::make(vec![in alloc; 3, -4]?);
+    let copy = point.copy(alloc)?;
+    let numbers = copy.as_slice();
     println!(rt; "problem point {numbers:?}")?;
+    Ok(())
+}
+
+/// Terms of which one has a coefficient of more than 64 bits.
+fn wide_terms(alloc: Global) -> Result<Terms> {
     let mut terms = Terms::make(alloc, &[(0, Frac::of(2)), (1, Frac::make(1, 2))])?;
     terms.push(2, Frac::of(1 << 70))?;
+    Ok(terms)
+}
+
+/// Prints a copy of a row.
+fn show_row_copy<R: Print + Alloc<A = Global>>(rt: &R) -> Result<()> {
     let row = Row {
         sense: Sense::L,
         rhs: Frac::of(4),
-        terms,
+        terms: wide_terms(rt.alloc())?,
     };
-    show_row(rt, &row.copy(alloc)?)?;
-    Ok(())
+    let copy = row.copy(rt.alloc())?;
+    Ok(show_row(rt, &copy)?)
 }
 
 /// Prints what a problem says of a point.
@@ -56,10 +73,8 @@ fn show_point<R: Print>(rt: &R, problem: &Problem, point: &[i64]) -> io::Result<
     println!(rt; "problem point {point:?}: objective {value}, feasible {is_feasible}")
 }
 
-/// Prints the calls on problems and their parts.
-pub(crate) fn show<R: Print + Alloc<A = Global>>(rt: &R) -> Result<()> {
-    show_copies(rt)?;
-    let problem = problem_of(rt.alloc(), MODEL)?.copy(rt.alloc())?;
+/// Prints the parts of a problem.
+fn show_parts<R: Print>(rt: &R, problem: &Problem) -> io::Result<()> {
     show_names(rt, problem.names())?;
     for index in 0..problem.rows() {
         show_row(rt, problem.row(index))?;
@@ -70,9 +85,23 @@ pub(crate) fn show<R: Print + Alloc<A = Global>>(rt: &R) -> Result<()> {
     );
     println!(rt; "problem objective {objective}; whole {whole}")?;
     let (columns, root) = (problem.columns(), Spans(problem.root()));
-    println!(rt; "problem box {root}, columns {columns}")?;
-    show_point(rt, &problem, &[3, 1])?;
-    show_point(rt, &problem, &[2, 1])?;
-    show_point(rt, &problem, &[3, 4])?;
-    Ok(())
+    println!(rt; "problem box {root}, columns {columns}")
+}
+
+/// Prints the parts of a problem, and what it says of points.
+fn show_problem<R: Print>(rt: &R, problem: &Problem) -> io::Result<()> {
+    show_parts(rt, problem)?;
+    show_point(rt, problem, &[3, 1])?;
+    show_point(rt, problem, &[2, 1])?;
+    show_point(rt, problem, &[3, 4])
+}
+
+/// Prints the calls on problems and their parts.
+pub(crate) fn show<R: Print + Alloc<A = Global>>(rt: &R) -> Result<()> {
+    show_names_copy(rt)?;
+    show_point_copy(rt)?;
+    show_row_copy(rt)?;
+    let problem = problem_of(rt.alloc(), MODEL)?;
+    let copy = problem.copy(rt.alloc())?;
+    Ok(show_problem(rt, &copy)?)
 }
