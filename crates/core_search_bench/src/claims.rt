@@ -20,7 +20,7 @@ fn apply_if_admitted(alloc: Global, state: &mut State, event: Event) -> Result<(
 }
 
 /// Claims node 0 and releases it again, so many times. The one error is want of memory.
-pub fn claim_often(alloc: Global, state: &mut State, count: u32) -> Result<(), AllocError> {
+pub(crate) fn claim_often(alloc: Global, state: &mut State, count: u32) -> Result<(), AllocError> {
     for _index in 0..count {
         apply_if_admitted(alloc, state, Event::Claim { node: 0 })?;
         apply_if_admitted(alloc, state, Event::Release { node: 0 })?;

@@ -1,5 +1,5 @@
 // A source that is a file.
-ghost use Rattle.std.specs.Prelude.{◌≡◌, ◌≤◌, length, IfOk};
+ghost use Rattle.std.specs.Prelude.{◌≡◌, ◌≤◌, length, is_some, IfOk};
 
 use crate::inode::Inode;
 use crate::retried::read_some;
@@ -26,8 +26,10 @@ impl FileSource {
         FileSource { file, faults: 0 }
     }
 
-    /// Which file is open, if one is.
-    pub fn inode(&self) -> Result<Option<Inode>, Failed> {
+    /// Which file is open; none exactly where no file is.
+    pub fn inode(&self) -> Result<Option<Inode>, Failed>
+        ensures { IfOk result (λ i. is_some i ≡ is_some self.now.file) }
+    {
         match &self.file {
             Some(file) => Ok(Some(Inode::of(file)?)),
             None => Ok(None),
