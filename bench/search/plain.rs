@@ -1,57 +1,13 @@
-// The search of crates/core_search in plain Rust, for bench/search.sh: the same knapsacks, the same verdicts, the same tree, and no events.
+// The search of crates/core_search and its dual simplex in plain Rust, for bench/search.sh: the same models, verdicts, pivots and tree, on whole
+// numbers alone, and no events. Numbers of 64 bits over one denominator; a division is taken as exact, and only sizes are tested.
 use std::cmp::Ordering;
+use std::collections::HashMap;
 use std::env;
 use std::error::Error;
+use std::fs;
 use std::time::Instant;
 
-#[derive(Clone, Copy)]
-struct Frac {
-    num: i128,
-    den: u128,
-}
-
-fn gcd(mut x: u128, mut y: u128) -> u128 {
-    while y != 0 {
-        (x, y) = (y, x % y);
-    }
-    x
-}
-
-impl Frac {
-    fn of(num: i128) -> Frac {
-        Frac { num, den: 1 }
-    }
-
-    fn add(self, y: Frac) -> Option<Frac> {
-        if self.den == 1 && y.den == 1 {
-            return Some(Frac::of(self.num.checked_add(y.num)?));
-        }
-        let g = gcd(self.den, y.den);
-        let left = self.num.checked_mul((y.den / g) as i128)?;
-        let right = y.num.checked_mul((self.den / g) as i128)?;
-        let (num, den) = (left.checked_add(right)?, self.den.checked_mul(y.den / g)?);
-        let h = gcd(num.unsigned_abs(), den);
-        Some(Frac { num: num / h as i128, den: den / h })
-    }
-
-    fn mul(self, y: Frac) -> Option<Frac> {
-        if self.den == 1 && y.den == 1 {
-            return Some(Frac::of(self.num.checked_mul(y.num)?));
-        }
-        let g = gcd(self.num.unsigned_abs(), y.den);
-        let h = gcd(y.num.unsigned_abs(), self.den);
-        let num = (self.num / g as i128).checked_mul(y.num / h as i128)?;
-        Some(Frac { num, den: (self.den / h).checked_mul(y.den / g)? })
-    }
-
-    fn cmp(self, y: Frac) -> Option<Ordering> {
-        if self.den == y.den {
-            return Some(self.num.cmp(&y.num));
-        }
-        let (left, right) = (self.num.checked_mul(y.den as i128)?, y.num.checked_mul(self.den as i128)?);
-        Some(left.cmp(&right))
-    }
-}
+const LIMIT: i128 = 1 << 62;
 
 #[derive(Clone, Copy)]
 struct Span {
@@ -59,19 +15,385 @@ struct Span {
     hi: i64,
 }
 
-type Terms = Vec<(u32, Frac)>;
+#[derive(Clone, Copy, PartialEq)]
+enum Sense {
+    AtLeast,
+    AtMost,
+    Equal,
+}
 
-/// `terms <= rhs`.
 struct Row {
-    terms: Terms,
-    rhs: Frac,
+    sense: Sense,
+    rhs: i64,
+    terms: Vec<(usize, i64)>,
 }
 
 struct Problem {
     rows: Vec<Row>,
-    objective: Terms,
+    costs: Vec<i64>,
     root: Vec<Span>,
 }
+
+// ---- the model
+
+/// Reads what bench/search/models.py writes: whole numbers, and columns of 0 and 1.
+fn read(text: &str) -> Option<Problem> {
+    let mut problem = Problem { rows: Vec::new(), costs: Vec::new(), root: Vec::new() };
+    let (mut rows, mut columns) = (HashMap::new(), HashMap::new());
+    let mut section = "";
+    for line in text.lines() {
+        let words: Vec<&str> = line.split_whitespace().collect();
+        if !line.starts_with(' ') {
+            section = words[0];
+            continue;
+        }
+        match (section, words.as_slice()) {
+            ("ROWS", [sense, name]) => {
+                let sense = match *sense {
+                    "G" => Sense::AtLeast,
+                    "L" => Sense::AtMost,
+                    "E" => Sense::Equal,
+                    _ => continue,
+                };
+                rows.insert(name.to_string(), problem.rows.len());
+                problem.rows.push(Row { sense, rhs: 0, terms: Vec::new() });
+            }
+            ("COLUMNS", [column, row, number]) if *row != "'MARKER'" => {
+                let next = columns.len();
+                let column = *columns.entry(column.to_string()).or_insert(next);
+                if column == problem.costs.len() {
+                    problem.costs.push(0);
+                    problem.root.push(Span { lo: 0, hi: 1 });
+                }
+                let number = number.parse().ok()?;
+                match rows.get(*row) {
+                    Some(&row) => problem.rows[row].terms.push((column, number)),
+                    None => problem.costs[column] = number,
+                }
+            }
+            ("RHS", [_, row, number]) => problem.rows[rows[*row]].rhs = number.parse().ok()?,
+            _ => {}
+        }
+    }
+    Some(problem)
+}
+
+// ---- fractions
+
+fn gcd(mut x: u128, mut y: u128) -> u128 {
+    while y != 0 {
+        if x < 1 << 64 && y < 1 << 64 {
+            let (mut a, mut b) = (x as u64, y as u64);
+            while b != 0 {
+                (a, b) = (b, a % b);
+            }
+            return a.into();
+        }
+        (x, y) = (y, x % y);
+    }
+    x
+}
+
+#[derive(Clone, Copy)]
+struct Frac {
+    num: i128,
+    den: i64,
+}
+
+fn reduced(num: i128, den: i64) -> Frac {
+    let g = if den == 1 { 1 } else { gcd(num.unsigned_abs(), den as u128) as i128 };
+    Frac { num: num / g, den: (i128::from(den) / g) as i64 }
+}
+
+// ---- the tableau
+
+#[derive(Clone, Copy)]
+struct Bounds {
+    lower: Option<i64>,
+    upper: Option<i64>,
+}
+
+/// A division by one number, which is exact: by the inverse of its odd part.
+#[derive(Clone, Copy)]
+struct Divisor {
+    shift: u32,
+    inverse: i64,
+}
+
+impl Divisor {
+    fn new(number: i64) -> Divisor {
+        let shift = number.trailing_zeros();
+        let odd = number >> shift;
+        let mut inverse = odd;
+        for _ in 0..5 {
+            inverse = inverse.wrapping_mul(2i64.wrapping_sub(odd.wrapping_mul(inverse)));
+        }
+        Divisor { shift, inverse }
+    }
+
+    fn divide(self, number: i64) -> i64 {
+        (number >> (self.shift & 63)).wrapping_mul(self.inverse)
+    }
+
+    fn divide_wide(self, number: i128) -> i64 {
+        ((number >> (self.shift & 63)) as i64).wrapping_mul(self.inverse)
+    }
+}
+
+/// A row of numerators with a bound on their sizes.
+struct Numbers {
+    items: Vec<i64>,
+    size: i64,
+}
+
+impl Numbers {
+    fn new(items: Vec<i64>) -> Numbers {
+        let mut numbers = Numbers { items, size: 0 };
+        numbers.look();
+        numbers
+    }
+
+    fn look(&mut self) {
+        self.size = self.items.iter().fold(0, |size, number| size.max(number.abs()));
+    }
+
+    /// `row * e + source * q`, over the old denominator, with 0 in the column before; none where a number is too large.
+    fn substitute(&mut self, column: usize, source: &Numbers, e: i64, old: i64, divisor: Divisor) -> Option<()> {
+        let q = self.items[column];
+        if q == 0 && e == old {
+            return Some(());
+        }
+        self.items[column] = 0;
+        let size = i128::from(self.size) * i128::from(e) + i128::from(source.size) * i128::from(q.abs());
+        if size < LIMIT {
+            for (t, s) in self.items.iter_mut().zip(&source.items) {
+                *t = divisor.divide(*t * e + *s * q);
+            }
+            self.size = size as i64 / old;
+        } else {
+            for (t, s) in self.items.iter_mut().zip(&source.items) {
+                *t = divisor.divide_wide(i128::from(*t) * i128::from(e) + i128::from(*s) * i128::from(q));
+            }
+            self.look();
+        }
+        (i128::from(self.size) < LIMIT).then_some(())
+    }
+}
+
+/// Basic variables have a place among the rows, the others one among the columns.
+struct Tableau {
+    bounds: Vec<Bounds>,
+    basic: Vec<usize>,
+    nonbasic: Vec<usize>,
+    at_upper: Vec<bool>,
+    bound: Vec<i64>,
+    rows: Vec<Numbers>,
+    costs: Numbers,
+    values: Vec<i128>,
+    denominator: i64,
+    pivots: u64,
+}
+
+enum End {
+    Done,
+    NoColumn { row: usize, rises: bool },
+    Stalled,
+}
+
+fn row_bounds(row: &Row) -> Bounds {
+    Bounds {
+        lower: (row.sense != Sense::AtMost).then_some(row.rhs),
+        upper: (row.sense != Sense::AtLeast).then_some(row.rhs),
+    }
+}
+
+impl Tableau {
+    fn start(problem: &Problem, dense: &[Vec<i64>], area: &[Span]) -> Tableau {
+        let columns = problem.costs.len();
+        let at_upper: Vec<bool> = problem.costs.iter().map(|&cost| cost < 0).collect();
+        let bound: Vec<i64> = area.iter().zip(&at_upper).map(|(span, &upper)| if upper { span.hi } else { span.lo }).collect();
+        let values = problem.rows.iter().map(|row| row.terms.iter().map(|&(j, a)| i128::from(a) * i128::from(bound[j])).sum()).collect();
+        Tableau {
+            bounds: area
+                .iter()
+                .map(|span| Bounds { lower: Some(span.lo), upper: Some(span.hi) })
+                .chain(problem.rows.iter().map(row_bounds))
+                .collect(),
+            basic: (columns..columns + problem.rows.len()).collect(),
+            nonbasic: (0..columns).collect(),
+            at_upper,
+            bound,
+            rows: dense.iter().map(|row| Numbers::new(row.clone())).collect(),
+            costs: Numbers::new(problem.costs.clone()),
+            values,
+            denominator: 1,
+            pivots: 0,
+        }
+    }
+
+    /// The place of the basic variable of least number that is outside its bounds, and whether it is to rise.
+    fn leaving(&self) -> Option<(usize, bool)> {
+        let mut best: Option<(usize, bool)> = None;
+        let d = i128::from(self.denominator);
+        for (i, &variable) in self.basic.iter().enumerate() {
+            if best.is_some_and(|(b, _)| self.basic[b] < variable) {
+                continue;
+            }
+            let (bounds, value) = (self.bounds[variable], self.values[i]);
+            if bounds.lower.is_some_and(|lower| value < i128::from(lower) * d) {
+                best = Some((i, true));
+            } else if bounds.upper.is_some_and(|upper| value > i128::from(upper) * d) {
+                best = Some((i, false));
+            }
+        }
+        best
+    }
+
+    /// The column of least ratio, and on a tie of the variable of least number.
+    fn entering(&self, row: usize, rises: bool) -> Option<usize> {
+        let mut best: Option<(usize, u64, u64)> = None;
+        for (k, (&t, &d)) in self.rows[row].items.iter().zip(&self.costs.items).enumerate() {
+            let bounds = self.bounds[self.nonbasic[k]];
+            if t == 0 || (t > 0) != (rises != self.at_upper[k]) || (bounds.lower.is_some() && bounds.lower == bounds.upper) {
+                continue;
+            }
+            let (t, d) = (t.unsigned_abs(), d.unsigned_abs());
+            let is_better = best.is_none_or(|(b, bt, bd)| {
+                match (u128::from(d) * u128::from(bt)).cmp(&(u128::from(bd) * u128::from(t))) {
+                    Ordering::Less => true,
+                    Ordering::Equal => self.nonbasic[k] < self.nonbasic[b],
+                    Ordering::Greater => false,
+                }
+            });
+            if is_better {
+                best = Some((k, t, d));
+            }
+        }
+        best.map(|(k, _, _)| k)
+    }
+
+    /// None where a number is too large.
+    fn pivot(&mut self, r: usize, k: usize, rises: bool) -> Option<()> {
+        let old = self.denominator;
+        let divisor = Divisor::new(old);
+        let leaving = self.bounds[self.basic[r]];
+        let bound = if rises { leaving.lower } else { leaving.upper }?;
+        let mut solved = std::mem::replace(&mut self.rows[r], Numbers { items: Vec::new(), size: 0 });
+        let p = solved.items[k];
+        solved.items[k] = -old;
+        let value = self.values[r] - i128::from(p) * i128::from(self.bound[k]) - i128::from(old) * i128::from(bound);
+        let value = if p > 0 { -value } else { value };
+        if p > 0 {
+            solved.items.iter_mut().for_each(|t| *t = -*t);
+        }
+        solved.size = solved.size.max(old);
+        let e = p.abs();
+        for (i, row) in self.rows.iter_mut().enumerate() {
+            if i == r {
+                continue;
+            }
+            let q = i128::from(row.items[k]);
+            let new = (self.values[i] - q * i128::from(self.bound[k])).checked_mul(e.into())?.checked_add(q.checked_mul(value)?)?;
+            self.values[i] = if old == 1 { new } else { new / i128::from(old) };
+            row.substitute(k, &solved, e, old, divisor)?;
+        }
+        self.costs.substitute(k, &solved, e, old, divisor)?;
+        self.rows[r] = solved;
+        self.values[r] = value;
+        std::mem::swap(&mut self.basic[r], &mut self.nonbasic[k]);
+        self.at_upper[k] = !rises;
+        self.bound[k] = bound;
+        self.denominator = e;
+        self.pivots += 1;
+        Some(())
+    }
+
+    fn run(&mut self) -> Option<End> {
+        let cap = 20 * self.bounds.len() as u64 + 100;
+        while self.pivots < cap {
+            let Some((r, rises)) = self.leaving() else { return Some(End::Done) };
+            let Some(k) = self.entering(r, rises) else { return Some(End::NoColumn { row: r, rises }) };
+            self.pivot(r, k, rises)?;
+        }
+        Some(End::Stalled)
+    }
+
+    /// The multipliers of the rows by the numbers of a list over the columns.
+    fn multipliers(&self, columns: usize, numbers: &[i64]) -> Vec<(u32, Frac)> {
+        let mut named: Vec<(u32, i64)> = self
+            .nonbasic
+            .iter()
+            .zip(numbers)
+            .filter(|&(&variable, &number)| variable >= columns && number != 0)
+            .map(|(&variable, &number)| ((variable - columns) as u32, number))
+            .collect();
+        named.sort_unstable_by_key(|&(row, _)| row);
+        named.into_iter().map(|(row, number)| (row, reduced(number.into(), self.denominator))).collect()
+    }
+
+    fn point(&self, columns: usize) -> Vec<Frac> {
+        let mut point = vec![Frac { num: 0, den: 1 }; columns];
+        for (&variable, &bound) in self.nonbasic.iter().zip(&self.bound) {
+            if variable < columns {
+                point[variable].num = bound.into();
+            }
+        }
+        for (&variable, &value) in self.basic.iter().zip(&self.values) {
+            if variable < columns {
+                point[variable] = reduced(value, self.denominator);
+            }
+        }
+        point
+    }
+}
+
+enum Answer {
+    Infeasible(Vec<(u32, Frac)>),
+    Optimal { point: Vec<Frac>, mult: Vec<(u32, Frac)>, value: Frac },
+    Stalled,
+}
+
+/// What the dual simplex answers, and the pivots that it took; none where a number is too large.
+fn solve(problem: &Problem, dense: &[Vec<i64>], area: &[Span]) -> Option<(Answer, u64)> {
+    let columns = problem.costs.len();
+    let mut tableau = Tableau::start(problem, dense, area);
+    let answer = match tableau.run()? {
+        End::Done => {
+            let point = tableau.point(columns);
+            let mult = tableau.multipliers(columns, &tableau.costs.items);
+            let d = i128::from(tableau.denominator);
+            let at_bounds: i128 = tableau
+                .nonbasic
+                .iter()
+                .zip(&tableau.bound)
+                .filter(|&(&variable, _)| variable < columns)
+                .map(|(&variable, &bound)| i128::from(problem.costs[variable]) * i128::from(bound) * d)
+                .sum();
+            let basic: i128 = tableau
+                .basic
+                .iter()
+                .zip(&tableau.values)
+                .filter(|&(&variable, _)| variable < columns)
+                .map(|(&variable, &value)| i128::from(problem.costs[variable]) * value)
+                .sum();
+            let value = reduced(at_bounds + basic, tableau.denominator);
+            Answer::Optimal { point, mult, value }
+        }
+        End::NoColumn { row, rises } => {
+            let signed: Vec<i64> = tableau.rows[row].items.iter().map(|&t| if rises { -t } else { t }).collect();
+            let mut mult = tableau.multipliers(columns, &signed);
+            if let Some(own) = tableau.basic[row].checked_sub(columns) {
+                let place = mult.partition_point(|&(row, _)| (row as usize) < own);
+                mult.insert(place, (own as u32, Frac { num: if rises { 1 } else { -1 }, den: 1 }));
+            }
+            Answer::Infeasible(mult)
+        }
+        End::Stalled => Answer::Stalled,
+    };
+    Some((answer, tableau.pivots))
+}
+
+// ---- the search
 
 #[derive(Clone, Copy)]
 enum Side {
@@ -89,9 +411,9 @@ struct Branch {
 
 enum Ending {
     Empty { column: u32 },
-    Refute { mult: Terms },
-    Bound { mult: Terms, rounded: bool },
-    Split { column: u32, bound: i64, left: u32, right: u32 },
+    Refute { mult: Vec<(u32, Frac)> },
+    Bound { mult: Vec<(u32, Frac)>, rounded: bool },
+    Split { column: u32, bound: i64, left: u32, point: Vec<Frac> },
 }
 
 struct Node {
@@ -106,75 +428,88 @@ struct Open {
 
 enum Verdict {
     Empty(u32),
-    Refuted(u32),
+    Refuted(u32, i64),
     Priced,
     Point,
     Unsettled,
 }
 
-fn low(terms: &Terms, area: &[Span]) -> Option<Frac> {
-    let mut total = Frac::of(0);
-    for &(column, coefficient) in terms {
-        let span = area[column as usize];
-        let end = if coefficient.num > 0 { span.lo } else { span.hi };
-        total = total.add(coefficient.mul(Frac::of(end.into()))?)?;
-    }
-    Some(total)
+/// The least value of a sum over the box, where the sign is 1, and minus the greatest, where it is -1.
+fn least(terms: &[(usize, i64)], area: &[Span], sign: i64) -> i128 {
+    terms
+        .iter()
+        .map(|&(column, coefficient)| {
+            let coefficient = coefficient * sign;
+            let end = if coefficient > 0 { area[column].lo } else { area[column].hi };
+            i128::from(coefficient) * i128::from(end)
+        })
+        .sum()
 }
 
-fn value(terms: &Terms, point: &[i64]) -> Option<Frac> {
-    let mut total = Frac::of(0);
-    for &(column, coefficient) in terms {
-        total = total.add(coefficient.mul(Frac::of(point[column as usize].into()))?)?;
-    }
-    Some(total)
-}
-
-fn verdict(problem: &Problem, area: &[Span], cutoff: Option<Frac>) -> Option<Verdict> {
-    if let Some(column) = area.iter().position(|span| span.hi < span.lo) {
-        return Some(Verdict::Empty(column as u32));
-    }
-    for (index, row) in problem.rows.iter().enumerate() {
-        if low(&row.terms, area)?.cmp(row.rhs)? == Ordering::Greater {
-            return Some(Verdict::Refuted(index as u32));
-        }
-    }
-    if let Some(bound) = cutoff {
-        if low(&problem.objective, area)?.cmp(bound)? != Ordering::Less {
-            return Some(Verdict::Priced);
-        }
-    }
-    let fixed = area.iter().all(|span| span.lo == span.hi);
-    Some(if fixed { Verdict::Point } else { Verdict::Unsettled })
-}
-
-struct Run {
+struct Run<'a> {
+    problem: &'a Problem,
+    dense: Vec<Vec<i64>>,
+    objective: Vec<(usize, i64)>,
     nodes: Vec<Node>,
     open: Vec<Open>,
     incumbent: Option<Vec<i64>>,
-    cutoff: Option<Frac>,
+    cutoff: Option<i128>,
+    pivots: u64,
 }
 
-impl Run {
-    fn new(problem: &Problem) -> Run {
+fn dense(problem: &Problem) -> Vec<Vec<i64>> {
+    let full = |row: &Row| {
+        let mut numbers = vec![0; problem.costs.len()];
+        row.terms.iter().for_each(|&(column, number)| numbers[column] = number);
+        numbers
+    };
+    problem.rows.iter().map(full).collect()
+}
+
+impl Run<'_> {
+    fn new(problem: &Problem) -> Run<'_> {
         Run {
+            problem,
+            dense: dense(problem),
+            objective: problem.costs.iter().copied().enumerate().filter(|&(_, cost)| cost != 0).collect(),
             nodes: vec![Node { branch: None, ending: None }],
             open: vec![Open { number: 0, area: problem.root.clone() }],
             incumbent: None,
             cutoff: None,
+            pivots: 0,
         }
     }
 
-    fn split(&mut self, node: Open) {
-        let column = node.area.iter().position(|span| span.lo < span.hi).unwrap();
-        let span = node.area[column];
-        let bound = span.lo + (span.hi - span.lo) / 2;
+    fn verdict(&self, area: &[Span]) -> Verdict {
+        if let Some(column) = area.iter().position(|span| span.hi < span.lo) {
+            return Verdict::Empty(column as u32);
+        }
+        for (index, row) in self.problem.rows.iter().enumerate() {
+            if row.sense != Sense::AtLeast && least(&row.terms, area, 1) > row.rhs.into() {
+                return Verdict::Refuted(index as u32, -1);
+            }
+            if row.sense != Sense::AtMost && -least(&row.terms, area, -1) < row.rhs.into() {
+                return Verdict::Refuted(index as u32, 1);
+            }
+        }
+        if self.cutoff.is_some_and(|cutoff| least(&self.objective, area, 1) >= cutoff) {
+            return Verdict::Priced;
+        }
+        if area.iter().all(|span| span.lo == span.hi) { Verdict::Point } else { Verdict::Unsettled }
+    }
+
+    fn accept(&mut self, point: Vec<i64>) {
+        self.cutoff = Some(self.objective.iter().map(|&(column, cost)| i128::from(cost) * i128::from(point[column])).sum());
+        self.incumbent = Some(point);
+    }
+
+    fn split(&mut self, node: Open, column: usize, bound: i64, point: Vec<Frac>) {
         let left = self.nodes.len() as u32;
         for (side, bound) in [(Side::High, bound), (Side::Low, bound + 1)] {
             let branch = Branch { parent: node.number, column: column as u32, side, bound };
             self.nodes.push(Node { branch: Some(branch), ending: None });
         }
-        self.nodes[node.number as usize].ending = Some(Ending::Split { column: column as u32, bound, left, right: left + 1 });
+        self.nodes[node.number as usize].ending = Some(Ending::Split { column: column as u32, bound, left, point });
         let mut right = node.area.clone();
         right[column].lo = bound + 1;
         let mut area = node.area;
@@ -183,55 +518,56 @@ impl Run {
         self.open.push(Open { number: left + 1, area: right });
     }
 
-    /// Whether the next open node was treated.
-    fn step(&mut self, problem: &Problem, budget: usize) -> Option<bool> {
+    /// How a node ends by its linear program; the node comes back where the budget is spent.
+    fn relax(&mut self, node: Open, budget: usize) -> Option<Option<Open>> {
+        let (answer, pivots) = solve(self.problem, &self.dense, &node.area)?;
+        self.pivots += pivots;
+        let ending = match answer {
+            Answer::Infeasible(mult) => Ending::Refute { mult },
+            Answer::Optimal { point, mult, value } => {
+                // The objective is whole, so that a bound is rounded up.
+                let bound = value.num.div_euclid(value.den.into()) + i128::from(value.den != 1);
+                let rounded = value.den != 1;
+                if self.cutoff.is_some_and(|cutoff| bound >= cutoff) {
+                    Ending::Bound { mult, rounded }
+                } else if let Some(column) = point.iter().position(|number| number.den != 1) {
+                    if self.nodes.len() + 2 > budget {
+                        return Some(Some(node));
+                    }
+                    let floor = point[column].num.div_euclid(point[column].den.into()) as i64;
+                    self.split(node, column, floor, point);
+                    return Some(None);
+                } else {
+                    self.accept(point.iter().map(|number| number.num as i64).collect());
+                    Ending::Bound { mult, rounded }
+                }
+            }
+            Answer::Stalled => return None,
+        };
+        self.nodes[node.number as usize].ending = Some(ending);
+        Some(None)
+    }
+
+    /// Whether the next open node was treated; none where a number is too large.
+    fn step(&mut self, budget: usize) -> Option<bool> {
         let Some(node) = self.open.pop() else { return Some(false) };
-        let ending = match verdict(problem, &node.area, self.cutoff)? {
+        let ending = match self.verdict(&node.area) {
             Verdict::Empty(column) => Ending::Empty { column },
-            Verdict::Refuted(row) => Ending::Refute { mult: vec![(row, Frac::of(-1))] },
+            Verdict::Refuted(row, sign) => Ending::Refute { mult: vec![(row, Frac { num: sign.into(), den: 1 })] },
             Verdict::Priced => Ending::Bound { mult: Vec::new(), rounded: false },
             Verdict::Point => {
-                let point: Vec<i64> = node.area.iter().map(|span| span.lo).collect();
-                self.cutoff = Some(value(&problem.objective, &point)?);
-                self.incumbent = Some(point);
+                self.accept(node.area.iter().map(|span| span.lo).collect());
                 Ending::Bound { mult: Vec::new(), rounded: false }
             }
-            Verdict::Unsettled if self.nodes.len() + 2 > budget => {
-                self.open.push(node);
-                return Some(false);
-            }
             Verdict::Unsettled => {
-                self.split(node);
-                return Some(true);
+                let left = self.relax(node, budget)?;
+                let is_done = left.is_none();
+                self.open.extend(left);
+                return Some(is_done);
             }
         };
         self.nodes[node.number as usize].ending = Some(ending);
         Some(true)
-    }
-}
-
-/// Numbers of a linear congruential generator, so many from `least` on.
-fn numbers(columns: usize, state: &mut u64, least: i16) -> Vec<i16> {
-    (0..columns)
-        .map(|_| {
-            *state = state.wrapping_mul(6_364_136_223_846_793_005).wrapping_add(1_442_695_040_888_963_407);
-            least + ((*state >> 33) % 200) as i16
-        })
-        .collect()
-}
-
-fn terms(numbers: Vec<i16>) -> Terms {
-    (0..).zip(numbers).filter(|&(_, n)| n != 0).map(|(column, n)| (column, Frac::of(n.into()))).collect()
-}
-
-fn knapsack(columns: usize, seed: u64) -> Problem {
-    let mut state = seed;
-    let weights = terms(numbers(columns, &mut state, 1));
-    let values = terms(numbers(columns, &mut state, -200));
-    Problem {
-        rows: vec![Row { terms: weights, rhs: Frac::of(50 * columns as i128) }],
-        objective: values,
-        root: vec![Span { lo: 0, hi: 1 }; columns],
     }
 }
 
@@ -242,22 +578,25 @@ fn sum(nodes: &[Node]) -> i64 {
         Ending::Empty { column } => i64::from(*column),
         Ending::Refute { mult } => mult.len() as i64,
         Ending::Bound { mult, rounded } => mult.len() as i64 + i64::from(*rounded),
-        Ending::Split { column, bound, left, right } => i64::from(*column) + bound + i64::from(*left) + i64::from(*right),
+        Ending::Split { column, bound, left, point } => i64::from(*column) + bound + i64::from(*left) + point.len() as i64,
     };
     nodes.iter().map(|n| n.branch.as_ref().map_or(0, branch) + n.ending.as_ref().map_or(0, ending)).sum()
 }
 
-/// Prints the nanoseconds, the nodes, how the search ended, and what tells that it was done.
+/// `search MODEL BUDGET` prints the nanoseconds, the nodes, how the search ended, the pivots, and what tells that it was done.
 fn main() -> Result<(), Box<dyn Error>> {
     let words: Vec<String> = env::args().skip(1).collect();
-    let [columns, seed, budget] = words.as_slice() else { return Err("COLUMNS SEED BUDGET".into()) };
-    let problem = knapsack(columns.parse()?, seed.parse()?);
-    let budget = budget.parse()?;
+    let [command, model, budget] = words.as_slice() else { return Err("search MODEL BUDGET".into()) };
+    if command != "search" {
+        return Err("search MODEL BUDGET".into());
+    }
+    let problem = read(&fs::read_to_string(model)?).ok_or("a model that can't be read")?;
+    let budget: usize = budget.parse()?;
     let start = Instant::now();
     let mut run = Run::new(&problem);
-    while run.step(&problem, budget).ok_or("a number is too large")? {}
+    while run.step(budget).ok_or("a number is too large")? {}
     let time = start.elapsed().as_nanos();
     let ending = if run.open.is_empty() { "finished" } else { "spent" };
-    println!("{time} {} {ending} {} {:?}", run.nodes.len(), sum(&run.nodes), run.cutoff.map(|c| c.num));
+    println!("{time} {} {ending} {} {} {:?}", run.nodes.len(), run.pivots, sum(&run.nodes), run.cutoff);
     Ok(())
 }

@@ -1,14 +1,20 @@
-"""Runs both programs, and prints their times and their memory: the least of five runs each."""
+"""Makes the models, runs both programs on them, and prints their times, the least of five runs each; and the bytes that an event takes."""
 import os
 import subprocess
 import sys
 
-COLUMNS = 30
-SEEDS = (1, 2, 3)
-BUDGETS = (500_000, 1_000_000)
+HERE = os.path.dirname(os.path.abspath(__file__))
+# kind, columns, rows, seed, budget of nodes
+MODELS = (
+    ("knapsack", 50, 5, 1, 20_001),
+    ("knapsack", 50, 5, 2, 20_001),
+    ("knapsack", 100, 10, 1, 5_001),
+    ("knapsack", 100, 10, 3, 5_001),
+    ("cover", 120, 300, 1, 101),
+    ("cover", 120, 300, 2, 101),
+)
 CLAIMS = (1 << 20, 1 << 21)
 RUNS = 5
-NUMBER = 24  # the bytes of a multiplier with its row
 
 
 def run(*words):
@@ -22,16 +28,17 @@ def run(*words):
     return line, usage.ru_maxrss * 1024
 
 
-class Searched:
-    """The least seconds and the least peak of a search, its nodes, and of core_search its events and the numbers that these carry."""
+def best(*words):
+    """The line of the fastest run."""
+    return min((run(*words)[0] for _ in range(RUNS)), key=lambda line: int(line[0]))
 
-    def __init__(self, program, seed, budget):
-        runs = [run(*program, COLUMNS, seed, budget) for _ in range(RUNS)]
-        line = runs[0][0]
-        self.seconds = min(int(words[0]) for words, _ in runs) / 1e9
-        self.peak = min(peak for _, peak in runs)
-        self.nodes, self.ending = int(line[1]), line[2]
-        self.history = line[3:]
+
+def make(folder, kind, columns, rows, seed):
+    path = os.path.join(folder, f"{kind}-{columns}-{rows}-{seed}.mps")
+    words = [sys.executable, os.path.join(HERE, "models.py"), kind, columns, rows, seed]
+    with open(path, "w", encoding="ascii") as file:
+        subprocess.run([str(word) for word in words], stdout=file, check=True)
+    return path
 
 
 def bytes_an_event(proved):
@@ -40,33 +47,25 @@ def bytes_an_event(proved):
     return (high - low) / (int(many[0]) - int(few[0]))
 
 
-def bytes_a_node(few, many):
-    """What the nodes between two budgets add to the peak, with all that stands for them, over their number."""
-    return (many.peak - few.peak) / (many.nodes - few.nodes)
-
-
-def bytes_beside_events(few, many, event):
-    """The same without the events and the numbers that they carry."""
-    events, numbers = (int(late) - int(early) for early, late in zip(few.history, many.history))
-    return bytes_a_node(few, many) - (events * event + numbers * NUMBER) / (many.nodes - few.nodes)
-
-
-def search_row(plain, proved, seed, event):
-    base = [Searched([plain], seed, budget) for budget in BUDGETS]
-    own = [Searched([proved, "search"], seed, budget) for budget in BUDGETS]
-    if (own[1].nodes, own[1].ending) != (base[1].nodes, base[1].ending):
-        sys.exit(f"{own[1].nodes} nodes, {own[1].ending}, and {base[1].nodes} nodes, {base[1].ending}")
-    rates = [search.nodes / search.seconds for search in (base[1], own[1])]
-    print(f"knapsack {seed}: plain Rust {rates[0]:10,.0f} nodes/s  core_search {rates[1]:10,.0f} nodes/s  ratio {rates[1] / rates[0]:5.3f}"
-          f"  bytes a node {bytes_a_node(*base):4.0f} and {bytes_a_node(*own):4.0f}, {bytes_beside_events(*own, event):4.0f} of them beside the events"
-          f"  events a node {int(own[1].history[0]) / own[1].nodes:5.3f}")
+def search_row(name, path, plain, proved, budget):
+    """Nodes and pivots a second; the tree is the same in both, and so are the pivots, which plain Rust counts."""
+    base, own = best(plain, "search", path, budget), best(proved, "search", path, budget)
+    if base[1:3] != own[1:3]:
+        sys.exit(f"{name}: plain Rust {base[1:3]}, core_search {own[1:3]}")
+    seconds = [int(line[0]) / 1e9 for line in (base, own)]
+    nodes, pivots = int(base[1]), int(base[3])
+    print(f"{name:22} {nodes / seconds[0]:9,.0f} and {nodes / seconds[1]:9,.0f} nodes/s  {pivots / seconds[0]:11,.0f} and {pivots / seconds[1]:11,.0f} pivots/s"
+          f"  ratio {seconds[1] / seconds[0]:5.2f}")
 
 
 def main():
-    plain, proved = sys.argv[1:]
+    plain, proved, folder = sys.argv[1:]
     event = bytes_an_event(proved)
-    for seed in SEEDS:
-        search_row(plain, proved, seed, event)
+    print("each line: plain Rust, then the proved program, and the ratio of their times")
+    for kind, columns, rows, seed, budget in MODELS:
+        path = make(folder, kind, columns, rows, seed)
+        name = f"{kind} {columns} x {rows}, {seed}"
+        search_row(name, path, plain, proved, budget)
     print(f"an event: {event:4.1f} bytes beside the numbers that it carries")
 
 

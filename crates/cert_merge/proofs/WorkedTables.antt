@@ -15,7 +15,7 @@ use Rattle.cert_rows.specs.declared.certificate.Goal.{Goal}
 use Rattle.cert_rows.specs.declared.certificate.Goal.TheVariants.{Infeas, Range}
 use Rattle.cert_rows.specs.declared.certificate.Cert.{Cert}
 use Rattle.node_events.specs.declared.proof.Proof.TheVariants.{Empty, Refute, Bound}
-use Rattle.node_events.specs.declared.reason.Reason.TheVariants.{Unsettled}
+use Rattle.node_events.specs.declared.reason.Reason.TheVariants.{Stalled}
 use Rattle.node_events.specs.declared.event.Event.{Event}
 use Rattle.node_events.specs.declared.event.Event.TheVariants.{Offer, Split, Close}
 use Rattle.derivation_book.specs.declared.cut.Cut.{Cut}
@@ -119,7 +119,7 @@ abbrev by_turned_row : ℕ → Event
 by_turned_row i = Close i (Refute ((0, m 0) ∷ []))
 
 abbrev tree : List Entry
-tree = events (Split 0 1 (pos 0) Unsettled ∷ by_row 1 ∷ Split 2 0 (pos 0) Unsettled ∷ by_turned_row 4 ∷ by_row 3 ∷ [])
+tree = events (Split 0 1 (pos 0) (Stalled 0) ∷ by_row 1 ∷ Split 2 0 (pos 0) (Stalled 0) ∷ by_turned_row 4 ∷ by_row 3 ∷ [])
 
 table6 : shown (merged even tree) ≡ (
   Infeas,
@@ -155,7 +155,7 @@ table11 = refl
 
 -- the same rows, split on x first, without cuts
 abbrev x_first : List Entry
-x_first = events (Split 0 0 (pos 0) Unsettled ∷ by_row 1 ∷ Split 2 1 (pos 0) Unsettled ∷ by_row 3 ∷ by_turned_row 4 ∷ [])
+x_first = events (Split 0 0 (pos 0) (Stalled 0) ∷ by_row 1 ∷ Split 2 1 (pos 0) (Stalled 0) ∷ by_row 3 ∷ by_turned_row 4 ∷ [])
 
 table_x_first : shown (merged even x_first) ≡ (
   Infeas,

@@ -5,21 +5,16 @@ use Rattle.std.specs.Option.{ForSome}
 use Rattle.std.proofs.Common.{sym, ap, ◌∙◌, subst, arith}
 use Rattle.std.proofs.lemmas.Int.{ints}
 use Rattle.std.proofs.lemmas.Bool.{eq-eqb}
-use Rattle.std.proofs.lemmas.Bool.Decides.{Decides-int_eq}
 use Rattle.fraction.specs.Rational.{ℚ, floor_div}
 use Rattle.fraction.specs.Lemmas.Rational.{floor_below, floor_least}
 use Rattle.fraction.specs.Order.{◌<ℚ◌}
-use Rattle.std.proofs.lemmas.Option.{same_Some}
 use Rattle.problem_box.specs.declared.span.Span.{Span}
 use Rattle.problem_box.specs.Changes.{IsFirstFree}
-use Rattle.problem.specs.Problem.{Problem}
 use Rattle.problem.specs.Feasible.{IsFeasible, objective_at}
-use Rattle.row_activity.specs.declared.verdict.Verdict.TheVariants.{Unsettled}
-use Rattle.row_activity.specs.Verdicts.{verdict}
 use Rattle.row_activity.specs.Meaning.{IsOnePoint}
 use Rattle.row_activity.specs.Lemmas.Laws.{feasible_point}
 use Rattle.node_events.specs.declared.proof.Proof.{Proof}
-use Rattle.node_events.specs.declared.reason.Reason.TheVariants.{Unsettled as ByVerdict}
+use Rattle.node_events.specs.declared.reason.Reason.{Reason}
 use Rattle.node_events.specs.declared.event.Event.TheVariants.{Claim, Release, Offer, Split, Close}
 use Rattle.derivation_book.specs.Legal.{is_legal_proof}
 use Rattle.incumbent.specs.declared.best.Best.{Best}
@@ -30,13 +25,12 @@ use Rattle.event_core.specs.declared.entry.Holder.{Holder}
 use Rattle.event_core.specs.States.{State, is_open, box_of, cutoff}
 use Rattle.event_core.specs.Holds.{is_held, is_busy, is_yours, without_hold}
 use Rattle.event_core.specs.Feasibility.{is_feasible}
-use Rattle.event_core.specs.Splits.{has_both, is_first_free, is_half, is_unsettled, is_reason}
+use Rattle.event_core.specs.Splits.{has_both, is_reason}
 use Rattle.event_core.specs.After.{after_claim, after_release}
 use Rattle.event_core.specs.Histories.{IsLegal}
 use Rattle.event_core.specs.Laws.{unheld}
 use Rattle.event_core.specs.Lemmas.Passing.{passing}
 use Rattle.event_core.specs.Lemmas.Points.{Decides-feasible}
-use Rattle.event_core.specs.Lemmas.Boxes.{middle_then}
 use Rattle.core_search.specs.Holding.{IsHeldAlone}
 use Rattle.core_search.specs.Closing.{corner, IsPart}
 use Rattle.core_search.proofs.Legal.{corner_is}
@@ -85,21 +79,25 @@ close_legal s i proof h e = record {
 
 -- ---- offers
 -- the one point of a box is better than the incumbent
-below_best : (i : Option Best) (v : ℚ) → ForSome (cutoff_of i) (λ z. v <ℚ z) → IsBetter i v
+pub below_best : (i : Option Best) (v : ℚ) → ForSome (cutoff_of i) (λ z. v <ℚ z) → IsBetter i v
 below_best None v h = λ b e. cc
 below_best (Some b) v h = λ c e. let same : b ≡ c = cc in h c.value (ap (λ (d : Best). Some d.value) same)
 
-pub offer_legal : (s : State) (box : List Span) → IsPart s.problem box → IsOnePoint s.problem box (cutoff s) → IsLegal s (Some 0) (Offer (corner box))
-offer_legal s box part h =
-    let x = corner box in
-    let e = corner_is s.problem box (cutoff s) h in
-    let feasible = subst (IsFeasible s.problem) (sym e) (feasible_point s.problem box (cutoff s) h (part h.point h.inside)) in
-    let below = subst (λ y. ForSome (cutoff s) (λ z. objective_at s.problem y <ℚ z)) (sym e) h.below in
-    record {
-      admitted = passing (is_feasible s.problem x) BadPoint _ ((Decides-feasible s.problem x).1 feasible)
-          (passing (is_better s.incumbent (objective_at s.problem x)) NotBetter Yes ((Decides-better s.incumbent (objective_at s.problem x)).1 (below_best s.incumbent (objective_at s.problem x) below)) refl);
-      stands = tt;
-    }
+pub offer_legal : (s : State) (x : List ℤ) → IsFeasible s.problem x → IsBetter s.incumbent (objective_at s.problem x) → IsLegal s (Some 0) (Offer x)
+offer_legal s x feasible better = record {
+  admitted = passing (is_feasible s.problem x) BadPoint _ ((Decides-feasible s.problem x).1 feasible)
+      (passing (is_better s.incumbent (objective_at s.problem x)) NotBetter Yes ((Decides-better s.incumbent (objective_at s.problem x)).1 better) refl);
+  stands = tt;
+}
+
+pub one_point_feasible : (s : State) (box : List Span) → IsPart s.problem box → IsOnePoint s.problem box (cutoff s) → IsFeasible s.problem (corner box)
+one_point_feasible s box part h =
+    subst (IsFeasible s.problem) (sym (corner_is s.problem box (cutoff s) h)) (feasible_point s.problem box (cutoff s) h (part h.point h.inside))
+
+pub one_point_better : (s : State) (box : List Span) → IsOnePoint s.problem box (cutoff s) → IsBetter s.incumbent (objective_at s.problem (corner box))
+one_point_better s box h =
+    below_best s.incumbent (objective_at s.problem (corner box))
+    (subst (λ y. ForSome (cutoff s) (λ z. objective_at s.problem y <ℚ z)) (sym (corner_is s.problem box (cutoff s) h)) h.below)
 
 -- ---- splits
 -- a box that is split at the middle of its first free column
@@ -125,22 +123,11 @@ module _ (ss : List Span) (j : ℕ) (free : IsFirstFree ss j) (b : ℤ) (middle 
           let q : int_lt z hi ≡ true = grind (arith, ints) in
           λ i. p i && q i
 
-  pub left_inside : ForSome (slice_get ss j) (λ s. (s.lo ≤ℤ b) × (b <ℤ s.hi))
-  left_inside = λ s e.
-      let q = same_Some free.span s (sym free.there ∙ e) in
-      subst (λ (t : Span). (t.lo ≤ℤ b) × (b <ℤ t.hi)) q (middle_low, middle_high)
-
-  pub middle_half : (is_first_free ss j && is_half (slice_get ss j) b) ≡ true
-  middle_half = sym (middle_then ss j j free.span b true free refl free.there (sym ((Decides-int_eq b (floor_div (free.span.lo +ℤ free.span.hi) 2)).1 middle)))
-
-  pub reason_holds : (p : Problem) (c : Option ℚ) → verdict p ss c ≡ Unsettled → is_reason p ss c j b ByVerdict ≡ true
-  reason_holds p c v = (λ i. is_unsettled (v i) && is_first_free ss j && is_half (slice_get ss j) b) ∙ middle_half
-
-pub split_legal : (s : State) (i j : ℕ) (b : ℤ) → IsHeldAlone s i → has_both (slice_get (box_of s i) j) b ≡ true → is_reason s.problem (box_of s i) (cutoff s) j b ByVerdict ≡ true
-    → IsLegal s (Some 0) (Split i j b ByVerdict)
-split_legal s i j b h e r = record {
+pub split_legal : (s : State) (i j : ℕ) (b : ℤ) (r : Reason) → IsHeldAlone s i → has_both (slice_get (box_of s i) j) b ≡ true → is_reason s.problem s.cuts (box_of s i) (cutoff s) j b r ≡ true
+    → IsLegal s (Some 0) (Split i j b r)
+split_legal s i j b r h e q = record {
   admitted = passing (is_open s i) NotOpen _ h.opened
       (passing (is_yours s (Some 0) i) NotYours _ (yours s i h)
-      (passing (has_both (slice_get (box_of s i) j) b) BadSplit _ e (passing (is_reason s.problem (box_of s i) (cutoff s) j b ByVerdict) BadReason Yes r refl)));
+      (passing (has_both (slice_get (box_of s i) j) b) BadSplit _ e (passing (is_reason s.problem s.cuts (box_of s i) (cutoff s) j b r) BadReason Yes q refl)));
   stands = tt;
 }

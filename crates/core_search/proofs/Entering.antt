@@ -11,17 +11,17 @@ use Rattle.event_core.specs.Histories.{state_from}
 use Rattle.event_core.specs.Rooms.{Recorded}
 use Rattle.event_core.specs.Lemmas.Running.{state_from-append}
 use Rattle.event_core.specs.Lemmas.Running.{after-problem}
-use Rattle.core_search.specs.Entries.{IsOfWorker, IsGreatestIfClaim, AreGreatestClaims, GoesOn}
+use Rattle.core_search.specs.Entries.{IsOfWorker, IsGreatestIfClaim, AreGreatestClaims, ExtendsHistory}
 
 abbrev entry : Event → Entry
 entry e = record { worker = Some 0; event = e }
 
 -- no event
-pub stays : (old new : Recorded) → new.state ≡ old.state → new.history ≡ old.history → GoesOn old new
+pub stays : (old new : Recorded) → new.state ≡ old.state → new.history ≡ old.history → ExtendsHistory old new
 stays old new s h = record { entries = []; history = h ∙ sym (append-nil old.history); state = s; of_worker = All-nil IsOfWorker; greatest = tt }
 
 -- one event
-pub one_event : (old new : Recorded) (e : Event) → new.state ≡ after old.state (Some 0) e → new.history ≡ old.history ++ entry e ∷ [] → IsGreatestIfClaim old.state e → GoesOn old new
+pub one_event : (old new : Recorded) (e : Event) → new.state ≡ after old.state (Some 0) e → new.history ≡ old.history ++ entry e ∷ [] → IsGreatestIfClaim old.state e → ExtendsHistory old new
 one_event old new e s h g = record {
   entries = entry e ∷ [];
   history = h;
@@ -35,7 +35,7 @@ claims_on s [] fs h k = k
 claims_on s (e ∷ es) fs h k = (h.0, claims_on (after s e.worker e.event) es fs h.1 k)
 
 -- one after the other
-pub joined : (a b c : Recorded) → GoesOn a b → GoesOn b c → GoesOn a c
+pub joined : (a b c : Recorded) → ExtendsHistory a b → ExtendsHistory b c → ExtendsHistory a c
 joined a b c h k = record {
   entries = h.entries ++ k.entries;
   history = k.history ∙ ap (λ es. es ++ k.entries) h.history ∙ append_assoc a.history h.entries k.entries;
@@ -49,5 +49,5 @@ pub from-problem : (s : State) (es : List Entry) → (state_from s es).problem �
 from-problem s [] = refl
 from-problem s (e ∷ es) = from-problem (after s e.worker e.event) es ∙ after-problem s e.worker e.event
 
-pub same_problem : (a b : Recorded) → GoesOn a b → b.state.problem ≡ a.state.problem
+pub same_problem : (a b : Recorded) → ExtendsHistory a b → b.state.problem ≡ a.state.problem
 same_problem a b h = ap (λ (s : State). s.problem) h.state ∙ from-problem a.state h.entries

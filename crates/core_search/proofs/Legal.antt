@@ -33,7 +33,7 @@ use Rattle.derivation_book.specs.Known.{known_lines}
 use Rattle.derivation_book.specs.Price.{price}
 use Rattle.derivation_book.specs.Laws.{PricesAreExact, ProofsAreDecided}
 use Rattle.derivation_book.specs.Legal.{NamesRowOrCut, is_legal_proof}
-use Rattle.core_search.specs.Closing.{multiplier, corner, closing, VerdictsClose}
+use Rattle.core_search.specs.Closing.{multiplier, corner, verdict_proof, VerdictsClose}
 use Rattle.core_search.proofs.Prices.{row_is, row_combined, row_above, bare_price}
 use Rattle.core_search.proofs.Fitting.{limited_modest, bare_price_there, row_price_there}
 
@@ -111,14 +111,14 @@ module _ (p : Problem) (cs : List Cut) (box : List Span) (limits : IsLimited p) 
   IsLegal cutoff None = Unit {0}
   IsLegal cutoff (Some proof) = is_legal_proof p cs box cutoff proof ≡ true
 
-  verdict_legal : (cutoff : Option ℚ) (v : Verdict) → verdict p box cutoff ≡ v → Tells p box cutoff v → IsLegal cutoff (closing v)
+  verdict_legal : (cutoff : Option ℚ) (v : Verdict) → verdict p box cutoff ≡ v → Tells p box cutoff v → IsLegal cutoff (verdict_proof v)
   verdict_legal cutoff (Empty j) e t = crossed_legal cutoff j t.0
   verdict_legal cutoff (Refuted i s) e t = refuted_legal cutoff i s (nonempty p box cutoff (λ j f. let bad : Refuted i s ≡ Empty j = sym e ∙ f in cc)) t
   verdict_legal cutoff Priced e t = bounded_legal t.bound cutoff t.given (nonempty p box cutoff (λ j f. let bad : Priced ≡ Empty j = sym e ∙ f in cc)) t.least
   verdict_legal cutoff OnePoint e t = tt
   verdict_legal cutoff Unsettled e t = tt
 
-  by_verdict : (cutoff : Option ℚ) (proof : Proof) → closing (verdict p box cutoff) ≡ Some proof → is_legal_proof p cs box cutoff proof ≡ true
+  by_verdict : (cutoff : Option ℚ) (proof : Proof) → verdict_proof (verdict p box cutoff) ≡ Some proof → is_legal_proof p cs box cutoff proof ≡ true
   by_verdict cutoff proof e = subst (IsLegal cutoff) e (verdict_legal cutoff (verdict p box cutoff) refl (verdict_tells p box cutoff))
 
   by_point : (cutoff : Option ℚ) → IsOnePoint p box cutoff → is_legal_proof p cs box (Some (objective_at p (corner box))) (Bound [] false) ≡ true

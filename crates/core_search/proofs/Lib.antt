@@ -10,3 +10,4 @@ pub mod Weighing
 pub mod Inside
 pub mod Choosing
 pub mod Stepping
+mod Optima

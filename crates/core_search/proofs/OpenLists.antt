@@ -12,14 +12,14 @@ use Rattle.event_core.specs.States.{State, tree_of, is_open, box_of, open_count}
 use Rattle.event_core.specs.After.{after_claim, after_split, after_close, after_offer}
 use Rattle.event_core.specs.Lemmas.Ended.{is_left, left_kept, left_prefix, left_within}
 use Rattle.core_search.specs.declared.open_node.OpenNode.{OpenNode}
-use Rattle.core_search.specs.OpenNodes.{IsOpenNode, AreRising, IsAmong, AreOpenNodes, children}
+use Rattle.core_search.specs.OpenNodes.{IsOpenNode, HaveRisingNumbers, IsAmong, AreOpenNodes, children}
 use Rattle.core_search.proofs.StillOpen.{not_left, left_before, first_left, second_left, which_left, none_open}
 
 abbrev Below : ℕ → OpenNode → Type 0
 Below n o = o.number < n
 
 -- ---- rising numbers
-pub rising_push : (os us : List OpenNode) (n : ℕ) → AreRising os → All (Below n) os → AreRising us → All (λ (u : OpenNode). n ≤ u.number) us → AreRising (os ++ us)
+pub rising_push : (os us : List OpenNode) (n : ℕ) → HaveRisingNumbers os → All (Below n) os → HaveRisingNumbers us → All (λ (u : OpenNode). n ≤ u.number) us → HaveRisingNumbers (os ++ us)
 rising_push [] us n h b k l = k
 rising_push (o ∷ os) us n h b k l =
     let here = All-head (Below n) o os b in (
@@ -27,7 +27,7 @@ rising_push (o ∷ os) us n h b k l =
       rising_push os us n h.1 (All-tail (Below n) o os b) k l,
     )
 
-pub rising_parts : (os : List OpenNode) (o : OpenNode) → AreRising (os ++ o ∷ []) → AreRising os × All (Below o.number) os
+pub rising_parts : (os : List OpenNode) (o : OpenNode) → HaveRisingNumbers (os ++ o ∷ []) → HaveRisingNumbers os × All (Below o.number) os
 rising_parts [] o h = (tt, All-nil (Below o.number))
 rising_parts (p ∷ os) o h =
     let r = rising_parts os o h.1 in
@@ -65,7 +65,7 @@ module _ (s : State) (os : List OpenNode) (o : OpenNode) (h : AreOpenNodes s (os
   pub last_node : IsOpenNode s o
   last_node = parts.1
 
-  rising : AreRising os × All (Below o.number) os
+  rising : HaveRisingNumbers os × All (Below o.number) os
   rising = rising_parts os o h.rising
 
   which : (k : ℕ) → is_open s k ≡ true → IsAmong os k ⊎ (o.number ≡ k)
@@ -170,7 +170,7 @@ popped s before rest o node e q h = subst (AreOpenNodes s) (e ∙ ap (λ p. rest
 -- the open nodes below n
 pub record AreOpenNodesBelow (s : State) (n : ℕ) (os : List OpenNode) : Type 0 where
   pub nodes : All (IsOpenNode s) os
-  pub rising : AreRising os
+  pub rising : HaveRisingNumbers os
   pub below : All (λ (o : OpenNode). o.number < n) os
   pub listed : (k : ℕ) → k < n → is_open s k ≡ true → IsAmong os k
 

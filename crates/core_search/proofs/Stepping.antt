@@ -1,28 +1,25 @@
 -- What a step does to the state and to the list of the open nodes.
-use Rattle.std.specs.Prelude.{◌≡◌, ◌<◌, ◌≤◌, ◌+◌, ◌^◌, ℕ, zero, suc, ℤ, pos, ◌+ℤ◌, ◌≤ℤ◌, ◌<ℤ◌, nat_abs, int_lt, Bool, true, false, List, [], ◌∷◌, ◌++◌, length, max, take, All, Option, Some, None, slice_get, Result, Ok, Err, OnOk, OnErr, refl}
+use Rattle.std.specs.Prelude.{◌≡◌, ◌<◌, ◌≤◌, ◌+◌, ◌^◌, ℕ, ℤ, pos, ◌+ℤ◌, ◌≤ℤ◌, ◌<ℤ◌, nat_abs, Bool, true, false, List, [], ◌∷◌, ◌++◌, length, max, All, Option, Some, None, slice_get, slice_index_or, Result, Ok, Err, OnOk, OnErr, refl}
 use Rattle.std.specs.Option.{ForSome}
-use Rattle.std.proofs.Common.{sym, ap, ◌∙◌, subst, arith}
+use Rattle.std.proofs.Common.{sym, ap, ◌∙◌, subst, arith, to_z, of_z, w64}
 use Rattle.std.proofs.Math.Nat.{le-max_left, le-max_right, max-le}
-use Rattle.std.proofs.lemmas.Int.{ints}
-use Rattle.std.proofs.lemmas.List.Elements.{All-nil, All-cons, All-head, All-tail, All-get_or}
-use Rattle.std.proofs.lemmas.Option.{same_Some, slice_get_within, get_or_from_slice_get}
+use Rattle.std.proofs.lemmas.Int.{ints, to_z-of_z}
+use Rattle.std.proofs.lemmas.List.Elements.{All-get_or}
+use Rattle.std.proofs.lemmas.Option.{same_Some, slice_get_within, get_or_from_slice_get, slice_get-get_or}
 use Rattle.fraction.specs.Rational.{ℚ, floor_div}
 use Rattle.problem_box.specs.declared.span.Span.{Span}
-use Rattle.problem_box.specs.Changes.{IsFirstFree, IsFixed}
+use Rattle.problem_box.specs.Changes.{IsFirstFree}
 use Rattle.problem.specs.Limited.{IsModestSpan, IsLimited}
 use Rattle.problem.specs.Feasible.{objective_at}
 use Rattle.row_activity.specs.declared.verdict.Verdict.{Verdict}
 use Rattle.row_activity.specs.declared.verdict.Verdict.TheVariants.{Empty, Refuted, Priced, Point as OnePoint, Unsettled}
 use Rattle.row_activity.specs.Lemmas.Laws.{verdict_tells}
 use Rattle.problem.specs.Problem.{Problem}
-use Rattle.row_activity.specs.Activity.{IsNonempty}
 use Rattle.row_activity.specs.Verdicts.{verdict}
-use Rattle.row_activity.specs.Meaning.{Tells, IsOnePoint, IsOpen}
+use Rattle.row_activity.specs.Meaning.{Tells}
 use Rattle.node_tree.specs.Trees.{IsTree}
 use Rattle.node_tree.specs.Lemmas.Splitting.{length-split, splits_share}
 use Rattle.node_events.specs.declared.proof.Proof.{Proof}
-use Rattle.node_events.specs.declared.proof.Proof.TheVariants.{Bound}
-use Rattle.node_events.specs.declared.reason.Reason.TheVariants.{Unsettled as ByVerdict}
 use Rattle.node_events.specs.declared.event.Event.TheVariants.{Split}
 use Rattle.derivation_book.specs.Legal.{is_legal_proof}
 use Rattle.event_core.specs.declared.admit.Admit.TheVariants.{Yes, NotOpen, NotYours, BadSplit, BadReason}
@@ -33,15 +30,17 @@ use Rattle.event_core.specs.After.{after_claim, after_close, after_offer, after_
 use Rattle.event_core.specs.Histories.{IsLegal}
 use Rattle.event_core.specs.Laws.{unheld}
 use Rattle.event_core.specs.Lemmas.Passing.{passing}
+use Rattle.event_core.specs.Lemmas.Boxes.{both_within, both_tells}
 use Rattle.event_core.specs.Lemmas.Ended.{left_within}
+use Rattle.core_search.specs.declared.finding.Branching.{Branching}
+use Rattle.core_search.specs.Findings.{IsBetterPoint, IsBranching}
 use Rattle.core_search.specs.declared.open_node.OpenNode.{OpenNode}
 use Rattle.core_search.specs.Holding.{IsHeldAlone}
 use Rattle.core_search.specs.OpenNodes.{IsOpenNode, AreOpenNodes, children}
-use Rattle.core_search.specs.Closing.{corner, IsNumbered, VerdictsClose}
+use Rattle.core_search.specs.Closing.{IsNumbered}
 use Rattle.core_search.specs.Entries.{IsGreatest}
-use Rattle.core_search.specs.Endings.{IsSpent}
 use Rattle.core_search.specs.Processing.{EndsNode, IsExhausted, ProcessesNode}
-use Rattle.core_search.proofs.Acting.{claimed, given_back, has_both_here, left_inside, reason_holds, split_legal}
+use Rattle.core_search.proofs.Acting.{claimed, given_back, split_legal}
 use Rattle.core_search.proofs.OpenLists.{closed_nodes, split_nodes, offered_nodes, less_closed, less_split}
 
 -- ---- results
@@ -105,11 +104,11 @@ pub closes : (s : State) (o : OpenNode) (v proof : Proof) → IsOpenNode s o →
     → is_legal_proof s.problem s.cuts (box_of s o.number) (cutoff s) proof ≡ true
 closes s o v proof h e l = (λ k. is_legal_proof s.problem s.cuts (sym h.area k) (cutoff s) (e k)) ∙ l
 
-pub point_closes : (s t : State) (o : OpenNode) (x : List ℤ) (proof : Proof) → t ≡ after_offer s x → x ≡ corner o.area → proof ≡ Bound [] false → IsOpenNode s o
-    → VerdictsClose s.problem s.cuts o.area → IsOnePoint s.problem o.area (cutoff s) → is_legal_proof t.problem t.cuts (box_of t o.number) (cutoff t) proof ≡ true
-point_closes s t o x proof e f q h v one =
+pub point_closes : (s t : State) (o : OpenNode) (x : List ℤ) (proof : Proof) → t ≡ after_offer s x → IsOpenNode s o → IsBetterPoint s o.area x proof
+    → is_legal_proof t.problem t.cuts (box_of t o.number) (cutoff t) proof ≡ true
+point_closes s t o x proof e h v =
     subst (λ (u : State). is_legal_proof u.problem u.cuts (box_of u o.number) (cutoff u) proof ≡ true) (sym e)
-    ((λ k. is_legal_proof s.problem s.cuts (sym h.area k) (Some (objective_at s.problem (f k))) (q k)) ∙ v.by_point (cutoff s) one)
+    (ap (λ ss. is_legal_proof s.problem s.cuts ss (Some (objective_at s.problem x)) proof) (sym h.area) ∙ v.closes)
 
 -- the node has ended
 pub ends_closed : (budget : ℕ) (s t : State) (os : List OpenNode) (o : OpenNode) → t ≡ after_close s o.number → IsHeldAlone s o.number → AreOpenNodes s (os ++ o ∷ []) → EndsNode budget s (os ++ o ∷ []) t os
@@ -126,50 +125,30 @@ ends_point budget s t x os o e h b =
     record { unheld = r.unheld; nodes = r.nodes; less = r.less }
 
 -- ---- splits
--- an open box has a first free column
-free_column : (ss : List Span) → IsNonempty ss → (IsFixed ss → ⊥) → (j : ℕ) × IsFirstFree ss j
-free_column [] n f = absurd (f (All-nil (λ (s : Span). s.lo ≡ s.hi)))
-free_column (s ∷ ss) n f = step (int_lt s.lo s.hi) refl (λ g. free_column ss (All-tail (λ (s : Span). s.lo ≤ℤ s.hi) s ss n) g)
-  where
-    fixed : int_lt s.lo s.hi ≡ false → s.lo ≡ s.hi
-    fixed e = let l = All-head (λ (s : Span). s.lo ≤ℤ s.hi) s ss n in let m : s.hi ≤ℤ s.lo = grind (arith, ints) in omega (arith, ints, l, m)
+abbrev no_span : Span
+no_span = record { lo = pos 0; hi = pos 0 }
 
-    step : (b : Bool) → int_lt s.lo s.hi ≡ b → ((IsFixed ss → ⊥) → (j : ℕ) × IsFirstFree ss j) → (j : ℕ) × IsFirstFree (s ∷ ss) j
-    step true e later = (zero, record { span = s; there = refl; free = grind (arith, ints); before = All-nil (λ (s : Span). s.hi ≤ℤ s.lo) })
-    step false e later =
-        let q = fixed e in
-        let m : s.hi ≤ℤ s.lo = omega (arith, ints, q) in
-        let r = later (λ g. f (All-cons (λ (s : Span). s.lo ≡ s.hi) s ss q g)) in
-        (suc r.0, record { span = r.1.span; there = r.1.there; free = r.1.free; before = All-cons (λ (s : Span). s.hi ≤ℤ s.lo) s (take r.0 ss) m r.1.before })
+module _ (s : State) (o : OpenNode) (open_node : IsOpenNode s o) (b : Branching) (h : IsBranching s o.area b) where
+  both : has_both (slice_get (box_of s o.number) b.place.column) b.place.bound ≡ true
+  both = ap (λ ss. has_both (slice_get ss b.place.column) b.place.bound) (sym open_node.area) ∙ h.both
 
-module _ (s : State) (o : OpenNode) (box : IsOpenNode s o) (unsettled : verdict s.problem o.area (cutoff s) ≡ Unsettled) where
-  -- at the middle of the first free column
-  module _ (j : ℕ) (free : IsFirstFree o.area j) (b : ℤ) (middle : b ≡ floor_div (free.span.lo +ℤ free.span.hi) 2) where
-    both : has_both (slice_get (box_of s o.number) j) b ≡ true
-    both = ap (λ ss. has_both (slice_get ss j) b) (sym box.area) ∙ has_both_here o.area j free b middle
+  reason : is_reason s.problem s.cuts (box_of s o.number) (cutoff s) b.place.column b.place.bound b.reason ≡ true
+  reason = ap (λ ss. is_reason s.problem s.cuts ss (cutoff s) b.place.column b.place.bound b.reason) (sym open_node.area) ∙ h.holds
 
-    reason : is_reason s.problem (box_of s o.number) (cutoff s) j b ByVerdict ≡ true
-    reason = ap (λ ss. is_reason s.problem ss (cutoff s) j b ByVerdict) (sym box.area) ∙ reason_holds o.area j free b middle s.problem (cutoff s) unsettled
+  pub split_is_legal : IsHeldAlone s o.number → IsLegal s (Some 0) (Split o.number b.place.column b.place.bound b.reason)
+  split_is_legal held = split_legal s o.number b.place.column b.place.bound b.reason held both reason
 
-    pub split_is_legal : IsHeldAlone s o.number → IsLegal s (Some 0) (Split o.number j b ByVerdict)
-    split_is_legal h = split_legal s o.number j b h both reason
+  split_admitted : judged s None (Split o.number b.place.column b.place.bound b.reason) ≡ Yes
+  split_admitted =
+      passing (is_open s o.number) NotOpen _ open_node.opened
+      (passing true NotYours _ refl
+      (passing (has_both (slice_get (box_of s o.number) b.place.column) b.place.bound) BadSplit _ both
+      (passing (is_reason s.problem s.cuts (box_of s o.number) (cutoff s) b.place.column b.place.bound b.reason) BadReason Yes reason refl)))
 
-    split_admitted : judged s None (Split o.number j b ByVerdict) ≡ Yes
-    split_admitted =
-        passing (is_open s o.number) NotOpen _ box.opened
-        (passing true NotYours _ refl
-        (passing (has_both (slice_get (box_of s o.number) j) b) BadSplit _ both (passing (is_reason s.problem (box_of s o.number) (cutoff s) j b ByVerdict) BadReason Yes reason refl)))
-
-  spent : (budget : ℕ) → IsOpen o.area → budget < length s.nodes + 2 → IsSpent budget s
-  spent budget open_box l =
-      let f = free_column o.area open_box.nonempty open_box.free in
-      let b : ℤ = floor_div (f.1.span.lo +ℤ f.1.span.hi) 2 in
-      record { splits = record { node = o.number; column = f.0; bound = b; reason = ByVerdict; admitted = split_admitted f.0 f.1 b refl }; full = l }
-
-  pub exhausted : (budget : ℕ) → IsOpen o.area → budget < length s.nodes + 2 → IsGreatest s o.number → IsExhausted budget s
-  exhausted budget open_box l greatest = (
-    spent budget open_box l,
-    record { node = o.number; opened = box.opened; greatest = greatest; unsettled = ap (λ ss. verdict s.problem ss (cutoff s)) (sym box.area) ∙ unsettled },
+  pub exhausted : (budget : ℕ) → budget < length s.nodes + 2 → IsGreatest s o.number → IsExhausted budget s
+  exhausted budget l greatest = (
+    record { splits = record { node = o.number; column = b.place.column; bound = b.place.bound; reason = b.reason; admitted = split_admitted }; full = l },
+    record { node = o.number; opened = open_node.opened; greatest = greatest; column = b.place.column; bound = b.place.bound; reason = b.reason; admitted = split_admitted },
   )
 
 -- nobody holds a node then
@@ -179,10 +158,10 @@ exhausted_unheld budget s t e h = subst (IsExhausted budget) (sym e) (
     splits = record { node = h.0.splits.node; column = h.0.splits.column; bound = h.0.splits.bound; reason = h.0.splits.reason; admitted = h.0.splits.admitted };
     full = h.0.full;
   },
-  record { node = h.1.node; opened = h.1.opened; greatest = h.1.greatest; unsettled = h.1.unsettled },
+  record { node = h.1.node; opened = h.1.opened; greatest = h.1.greatest; column = h.1.column; bound = h.1.bound; reason = h.1.reason; admitted = h.1.admitted },
 )
 
--- what a split asks of a box, where the span was read
+-- the span of the first free column, where it was read
 module _ (ss : List Span) (j : ℕ) (free : IsFirstFree ss j) (s : Span) (there : slice_get ss j ≡ Some s) where
   pub same_span : free.span ≡ s
   same_span = same_Some free.span s (sym free.there ∙ there)
@@ -193,18 +172,35 @@ module _ (ss : List Span) (j : ℕ) (free : IsFirstFree ss j) (s : Span) (there 
   pub span_modest : All IsModestSpan ss → IsModestSpan s
   span_modest m = subst IsModestSpan (get_or_from_slice_get ss j s s there) (All-get_or IsModestSpan ss j s (slice_get_within ss j s there) m)
 
-  module _ (b : ℤ) (e : b ≡ floor_div (s.lo +ℤ s.hi) 2) where
-    pub middle_is : b ≡ floor_div (free.span.lo +ℤ free.span.hi) 2
-    middle_is = e ∙ ap (λ (t : Span). floor_div (t.lo +ℤ t.hi) 2) (sym same_span)
+  pub middle_is : (b : ℤ) → b ≡ floor_div (s.lo +ℤ s.hi) 2 → b ≡ floor_div (free.span.lo +ℤ free.span.hi) 2
+  middle_is b e = e ∙ ap (λ (t : Span). floor_div (t.lo +ℤ t.hi) 2) (sym same_span)
 
-    pub left_at : ForSome (slice_get ss j) (λ s. (s.lo ≤ℤ b) × (b <ℤ s.hi))
-    left_at = left_inside ss j free b middle_is
+-- what the two children of a split ask of its box
+module _ (ss : List Span) (j : ℕ) (b : ℤ) (h : has_both (slice_get ss j) b ≡ true) where
+  pub left_at : ForSome (slice_get ss j) (λ s. (s.lo ≤ℤ b) × (b <ℤ s.hi))
+  left_at = both_tells (slice_get ss j) b h
 
-    pub right_at : ForSome (slice_get ss j) (λ s. (s.lo <ℤ (b +ℤ pos 1)) × ((b +ℤ pos 1) ≤ℤ s.hi))
-    right_at = λ t q. let h = left_at t q in (omega (arith, ints, h.0), omega (arith, ints, h.1))
+  pub right_at : ForSome (slice_get ss j) (λ s. (s.lo <ℤ (b +ℤ pos 1)) × ((b +ℤ pos 1) ≤ℤ s.hi))
+  right_at = λ t q. let k = left_at t q in (omega (arith, ints, k.0), omega (arith, ints, k.1))
 
-    pub bound_modest : All IsModestSpan ss → nat_abs b ≤ 10 ^ 9
-    bound_modest m = let h = left_at s there in let k = span_modest m in omega (arith, ints, h.0, h.1, k.0, k.1)
+  pub bound_modest : All IsModestSpan ss → nat_abs b ≤ 10 ^ 9
+  bound_modest m =
+      let l = both_within ss j b h in
+      let there = slice_get-get_or ss j no_span l in
+      let k = left_at (slice_index_or ss j no_span) there in
+      let n = All-get_or IsModestSpan ss j no_span l m in
+      omega (arith, ints, k.0, k.1, n.0, n.1)
+
+-- the bound as the code keeps it
+pub kept_bound : (b : ℤ) → nat_abs b ≤ 10 ^ 9 → to_z w64 (of_z w64 b) ≡ b
+kept_bound b h = grind (arith, ints, to_z-of_z, h)
+
+module _ (s : State) (box : List Span) (b : Branching) (h : IsBranching s box b) (m : All IsModestSpan box) where
+  pub kept_is : to_z w64 (of_z w64 b.place.bound) ≡ b.place.bound
+  kept_is = kept_bound b.place.bound (bound_modest box b.place.column b.place.bound h.both m)
+
+  pub kept_branching : IsBranching s box (record { place = record { column = b.place.column; bound = to_z w64 (of_z w64 b.place.bound) }; reason = b.reason })
+  kept_branching = subst (λ y. IsBranching s box (record { place = record { column = b.place.column; bound = y }; reason = b.reason })) (sym kept_is) (record { both = h.both; holds = h.holds })
 
 pub ends_split : (budget : ℕ) (s t : State) (os us : List OpenNode) (o : OpenNode) (j : ℕ) (b : ℤ) → t ≡ after_split s o.number j b → us ≡ os ++ children (length s.nodes) o.area j b
     → IsHeldAlone s o.number → AreOpenNodes s (os ++ o ∷ []) → IsTree (tree_of s) → length s.ended ≡ length s.nodes → length s.nodes + 2 ≤ budget → EndsNode budget s (os ++ o ∷ []) t us

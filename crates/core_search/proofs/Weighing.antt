@@ -1,5 +1,5 @@
 -- The boxes of the open nodes share no point, so that the nodes of a legal history are fewer than twice the root's points.
-use Rattle.std.specs.Prelude.{◌≡◌, ◌<◌, ◌≤◌, ◌+◌, ◌*◌, ℕ, zero, suc, ℤ, pos, ◌+ℤ◌, Bool, true, false, not, cond, ◌&&◌, List, [], ◌∷◌, ◌++◌, length, Option, Some, None, slice_get, slice_set, refl}
+use Rattle.std.specs.Prelude.{◌≡◌, ◌<◌, ◌≤◌, ◌+◌, ◌*◌, ℕ, zero, suc, ℤ, pos, ◌+ℤ◌, Bool, true, false, not, cond, List, [], ◌∷◌, ◌++◌, length, Option, Some, None, slice_get, slice_set, refl}
 use Rattle.std.proofs.Common.{ap, ◌∙◌, subst, arith}
 use Rattle.std.proofs.lemmas.List.{length-set, length-append}
 use Rattle.std.proofs.lemmas.List.Sums.{sum_by-cons}
@@ -8,12 +8,6 @@ use Rattle.problem_box.specs.declared.span.Span.{Span}
 use Rattle.problem_box.specs.Changes.{cut_low, cut_high}
 use Rattle.problem.specs.declared.row.Row.{Row}
 use Rattle.problem.specs.Problem.{Problem}
-use Rattle.row_activity.specs.declared.verdict.Verdict.{Verdict}
-use Rattle.row_activity.specs.declared.verdict.Verdict.TheVariants.{Empty, Refuted, Priced, Point, Unsettled}
-use Rattle.row_activity.specs.Activity.{IsNonempty}
-use Rattle.row_activity.specs.Verdicts.{verdict}
-use Rattle.row_activity.specs.Meaning.{Tells}
-use Rattle.row_activity.specs.Lemmas.Laws.{verdict_tells}
 use Rattle.node_tree.specs.declared.branch.Node.{Node}
 use Rattle.node_tree.specs.Nodes.{Tree, no_node}
 use Rattle.node_tree.specs.Paths.{box_at}
@@ -21,13 +15,14 @@ use Rattle.node_tree.specs.Splits.{with_split}
 use Rattle.node_tree.specs.Lemmas.Boxes.{box_of_root}
 use Rattle.node_tree.specs.Lemmas.Splitting.{length-split}
 use Rattle.node_events.specs.declared.reason.Reason.{Reason}
-use Rattle.node_events.specs.declared.reason.Reason.TheVariants.{Unsettled as ByVerdict}
 use Rattle.node_events.specs.declared.event.Event.{Event}
 use Rattle.node_events.specs.declared.event.Event.TheVariants.{Claim, Release, Cut, Offer, Split, Close}
+use Rattle.derivation_book.specs.declared.cut.Cut.{Cut as MadeCut}
 use Rattle.derivation_book.specs.Rounded.{rounded_row}
 use Rattle.event_core.specs.declared.entry.Entry.{Entry}
 use Rattle.event_core.specs.States.{State, first_state, box_of, cutoff}
-use Rattle.event_core.specs.Splits.{has_both, is_first_free, is_half, is_unsettled, is_reason}
+use Rattle.event_core.specs.Splits.{has_both, is_reason}
+use Rattle.event_core.specs.Lemmas.Reasons.{decides-reason}
 use Rattle.event_core.specs.After.{after, after_cut}
 use Rattle.event_core.specs.Histories.{IsLegal, state_from, AreLegalFrom, state_of}
 use Rattle.event_core.specs.Lemmas.Passing.{split_passed, close_passed}
@@ -180,32 +175,16 @@ module _ (root : List Span) (nodes : List Node) (ended : List Bool) (w : IsWeigh
         by_root (suc m) l h = h
 
 -- ---- splits that are admitted
-and_first : (a b : Bool) → (a && b) ≡ true → a ≡ true
-and_first true b e = refl
-and_first false b e = cc
-
-unsettled_is : (v : Verdict) → is_unsettled v ≡ true → v ≡ Unsettled
-unsettled_is (Empty j) e = cc
-unsettled_is (Refuted i s) e = cc
-unsettled_is Priced e = cc
-unsettled_is Point e = cc
-unsettled_is Unsettled e = refl
-
-reason_nonempty : (p : Problem) (box : List Span) (c : Option ℚ) (j : ℕ) (b : ℤ) (r : Reason) → is_reason p box c j b r ≡ true → IsNonempty box
-reason_nonempty p box c j b ByVerdict e =
-    let u = and_first (is_unsettled (verdict p box c)) (is_first_free box j) (and_first (is_unsettled (verdict p box c) && is_first_free box j) (is_half (slice_get box j) b) e) in
-    (subst (Tells p box c) (unsettled_is (verdict p box c) u) (verdict_tells p box c)).nonempty
-
 span_there : (o : Option Span) (b : ℤ) → has_both o b ≡ true → (t : Span) × (o ≡ Some t)
 span_there None b e = cc
 span_there (Some t) b e = (t, refl)
 
-admitted_halves : (p : Problem) (box : List Span) (c : Option ℚ) (j : ℕ) (b : ℤ) (r : Reason) → has_both (slice_get box j) b ≡ true → is_reason p box c j b r ≡ true
+admitted_halves : (p : Problem) (cs : List MadeCut) (box : List Span) (c : Option ℚ) (j : ℕ) (b : ℤ) (r : Reason) → has_both (slice_get box j) b ≡ true → is_reason p cs box c j b r ≡ true
     → AreHalves (cut_high box j b) (cut_low box j (b +ℤ pos 1)) box
-admitted_halves p box c j b r h e =
+admitted_halves p cs box c j b r h e =
     let t = span_there (slice_get box j) b h in
     let k = both_tells (slice_get box j) b h t.0 t.1 in
-    are_halves box j b t.0 t.1 k.0 k.1 (reason_nonempty p box c j b r e)
+    are_halves box j b t.0 t.1 k.0 k.1 ((decides-reason p cs box c j b r).0 e).nonempty
 
 -- ---- histories
 abbrev IsWeighedState : State → Type 0
@@ -222,7 +201,7 @@ after_weighed s w (Cut mult) h l = cut_weighed s mult (rounded_row s.problem s.c
 after_weighed s w (Offer x) h l = h
 after_weighed s w (Split i j b r) h l =
     let p = split_passed s w i j b r l.admitted in
-    split_weighed s.problem.spans s.nodes s.ended h i p.opened j b (admitted_halves s.problem (box_of s i) (cutoff s) j b r p.both p.reason)
+    split_weighed s.problem.spans s.nodes s.ended h i p.opened j b (admitted_halves s.problem s.cuts (box_of s i) (cutoff s) j b r p.both p.reason)
 after_weighed s w (Close i proof) h l = closed_weighed s.problem.spans s.nodes s.ended h i (close_passed s w i proof l.admitted).opened
 
 from_weighed : (s : State) (es : List Entry) → IsWeighedState s → AreLegalFrom s es → IsWeighedState (state_from s es)
@@ -234,5 +213,5 @@ splits_points p es l a =
     let s : State = state_of p es in
     let w : IsWeighedState s = from_weighed (first_state p) es (first_weighed p.spans) l in
     let q = split_passed s None a.node a.column a.bound a.reason a.admitted in
-    let h = split_points s.problem.spans s.nodes s.ended w a.node q.opened a.column a.bound (admitted_halves s.problem (box_of s a.node) (cutoff s) a.column a.bound a.reason q.both q.reason) in
+    let h = split_points s.problem.spans s.nodes s.ended w a.node q.opened a.column a.bound (admitted_halves s.problem s.cuts (box_of s a.node) (cutoff s) a.column a.bound a.reason q.both q.reason) in
     subst (λ (o : Problem). length s.nodes + 2 < 2 * point_count o.spans) (from-problem (first_state p) es) h

@@ -27,12 +27,12 @@ abbrev pub corner : List Span → Point
 corner box = map (λ (s : Span). s.lo) box
 
 -- the proof that a verdict gives; none where it leaves a point that may be better
-abbrev pub closing : Verdict → Option Proof
-closing (Empty j) = Some (Crossed j)
-closing (Refuted i s) = Some (Refute ((i, multiplier s) ∷ []))
-closing Priced = Some (Bound [] false)
-closing OnePoint = None
-closing Unsettled = None
+abbrev pub verdict_proof : Verdict → Option Proof
+verdict_proof (Empty j) = Some (Crossed j)
+verdict_proof (Refuted i s) = Some (Refute ((i, multiplier s) ∷ []))
+verdict_proof Priced = Some (Bound [] false)
+verdict_proof OnePoint = None
+verdict_proof Unsettled = None
 
 -- the column and the row that a verdict names have numbers of 32 bits
 abbrev pub IsNumbered : Verdict → Type 0
@@ -48,5 +48,5 @@ IsPart p box = (x : Point) → IsInBox box x → IsInBox p.spans x
 
 -- the proofs that verdicts on a box give are legal, and the box of one point is closed where the cutoff is the objective at that point
 pub record VerdictsClose (p : Problem) (cs : List Cut) (box : List Span) : Type 0 where
-  pub by_verdict : (cutoff : Option ℚ) (proof : Proof) → closing (verdict p box cutoff) ≡ Some proof → is_legal_proof p cs box cutoff proof ≡ true
+  pub by_verdict : (cutoff : Option ℚ) (proof : Proof) → verdict_proof (verdict p box cutoff) ≡ Some proof → is_legal_proof p cs box cutoff proof ≡ true
   pub by_point : (cutoff : Option ℚ) → IsOnePoint p box cutoff → is_legal_proof p cs box (Some (objective_at p (corner box))) (Bound [] false) ≡ true

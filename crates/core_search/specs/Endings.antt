@@ -1,11 +1,9 @@
 -- How searches end.
 use Rattle.std.specs.Prelude.{◌≡◌, ◌<◌, ◌+◌, ℕ, ℤ, true, length, None}
-use Rattle.row_activity.specs.declared.verdict.Verdict.TheVariants.{Unsettled}
-use Rattle.row_activity.specs.Verdicts.{verdict}
 use Rattle.node_events.specs.declared.reason.Reason.{Reason}
 use Rattle.node_events.specs.declared.event.Event.TheVariants.{Split}
 use Rattle.event_core.specs.declared.admit.Admit.TheVariants.{Yes}
-use Rattle.event_core.specs.States.{State, is_open, box_of, cutoff}
+use Rattle.event_core.specs.States.{State, is_open}
 use Rattle.event_core.specs.Judging.{judged}
 use Rattle.core_search.specs.Entries.{IsGreatest}
 
@@ -22,9 +20,12 @@ pub record IsSpent (budget : ℕ) (s : State) : Type 0 where
   pub splits : AdmitsSplit s
   pub full : budget < length s.nodes + 2
 
--- the open node of greatest number is unsettled
-pub record HasUnsettledNext (s : State) : Type 0 where
+-- the open node of greatest number admits a split
+pub record HasSplitNext (s : State) : Type 0 where
   pub node : ℕ
   pub opened : is_open s node ≡ true
   pub greatest : IsGreatest s node
-  pub unsettled : verdict s.problem (box_of s node) (cutoff s) ≡ Unsettled
+  pub column : ℕ
+  pub bound : ℤ
+  pub reason : Reason
+  pub admitted : judged s None (Split node column bound reason) ≡ Yes

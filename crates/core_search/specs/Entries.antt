@@ -27,7 +27,7 @@ AreGreatestClaims s [] = Unit {0}
 AreGreatestClaims s (e ∷ es) = IsGreatestIfClaim s e.event × AreGreatestClaims (after s e.worker e.event) es
 
 -- the history goes on with events of worker 0, who claims the open node of greatest number each time
-pub record GoesOn (old new : Recorded) : Type 0 where
+pub record ExtendsHistory (old new : Recorded) : Type 0 where
   pub entries : List Entry
   pub history : new.history ≡ old.history ++ entries
   pub state : new.state ≡ state_from old.state entries

@@ -11,9 +11,9 @@ pub record IsOpenNode (s : State) (o : OpenNode) : Type 0 where
   pub area : o.area ≡ box_of s o.number
 
 -- the numbers rise
-abbrev pub AreRising : List OpenNode → Type 0
-AreRising [] = Unit {0}
-AreRising (o ∷ os) = All (λ (p : OpenNode). o.number < p.number) os × AreRising os
+abbrev pub HaveRisingNumbers : List OpenNode → Type 0
+HaveRisingNumbers [] = Unit {0}
+HaveRisingNumbers (o ∷ os) = All (λ (p : OpenNode). o.number < p.number) os × HaveRisingNumbers os
 
 -- node k is one of these
 abbrev pub IsAmong : List OpenNode → ℕ → Type 0
@@ -23,7 +23,7 @@ IsAmong (o ∷ os) k = (o.number ≡ k) ⊎ IsAmong os k
 -- all open nodes with their boxes, by rising number
 pub record AreOpenNodes (s : State) (os : List OpenNode) : Type 0 where
   pub nodes : All (IsOpenNode s) os
-  pub rising : AreRising os
+  pub rising : HaveRisingNumbers os
   pub listed : (k : ℕ) → is_open s k ≡ true → IsAmong os k
 
 -- the two children of a node with this box that is split by x <= b and x >= b + 1 in column j; the left one has number k

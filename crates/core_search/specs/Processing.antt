@@ -5,7 +5,7 @@ use Rattle.core_search.specs.declared.open_node.OpenNode.{OpenNode}
 use Rattle.core_search.specs.declared.node_loop.Ending.{Ending}
 use Rattle.core_search.specs.declared.node_loop.Ending.TheVariants.{Finished, Spent, Memory}
 use Rattle.core_search.specs.OpenNodes.{AreOpenNodes, work_left}
-use Rattle.core_search.specs.Endings.{IsSpent, HasUnsettledNext}
+use Rattle.core_search.specs.Endings.{IsSpent, HasSplitNext}
 
 -- the held node was closed or split: nobody holds a node, the open nodes are known, and less work is left
 pub record EndsNode (budget : ℕ) (old : State) (before : List OpenNode) (new : State) (after : List OpenNode) : Type 0 where
@@ -13,9 +13,9 @@ pub record EndsNode (budget : ℕ) (old : State) (before : List OpenNode) (new :
   pub nodes : AreOpenNodes new after
   pub less : work_left budget new after < work_left budget old before
 
--- the node that is next is unsettled, and its two children would pass the budget
+-- the node that is next admits a split, and its two children would pass the budget
 abbrev pub IsExhausted : ℕ → State → Type 0
-IsExhausted budget s = IsSpent budget s × HasUnsettledNext s
+IsExhausted budget s = IsSpent budget s × HasSplitNext s
 
 -- whether the held node was closed or split; where it wasn't, the state is as before, and the budget is exhausted
 abbrev pub ProcessesNode : ℕ → State → List OpenNode → State → List OpenNode → Bool → Type 0

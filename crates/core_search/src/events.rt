@@ -4,7 +4,7 @@ ghost use Rattle.event_core.specs.After.{after};
 ghost use Rattle.event_core.specs.Histories.{IsLegal};
 ghost use Rattle.event_core.specs.Laws.{unheld};
 ghost use Rattle.event_core.specs.Rooms.{HasNumbers};
-ghost use Rattle.core_search.specs.Entries.{IsGreatestIfClaim, GoesOn};
+ghost use Rattle.core_search.specs.Entries.{IsGreatestIfClaim, ExtendsHistory};
 ghost use Rattle.core_search.specs.Holding.{IsHeldAlone};
 
 use event_core::State;
@@ -19,7 +19,7 @@ pub fn apply_event(alloc: Global, state: &mut State, event: Event) -> Result<(),
     requires legal { IsLegal state.old.state (Some 0) event }
     requires numbers { HasNumbers state.old.state event }
     requires greatest { IsGreatestIfClaim state.old.state event }
-    ensures goes_on { GoesOn state.old state.new }
+    ensures goes_on { ExtendsHistory state.old state.new }
     ensures applied { OnOk result (state.new.state ≡ after state.old.state (Some 0) event) }
     ensures failed { OnErr result (state.new.state ≡ state.old.state) }
 {
@@ -31,7 +31,7 @@ pub fn apply_event(alloc: Global, state: &mut State, event: Event) -> Result<(),
 /// Releases the node that the worker holds. This takes no memory.
 pub fn release(state: &mut State, node: u32)
     requires { IsHeldAlone state.old.state node }
-    ensures goes_on { GoesOn state.old state.new }
+    ensures goes_on { ExtendsHistory state.old state.new }
     ensures released { state.new.state ≡ unheld state.old.state }
 {
     state.apply(Some(WORKER), Event::Release { node });

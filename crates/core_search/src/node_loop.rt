@@ -1,11 +1,12 @@
 // The search, node by node.
 ghost use Rattle.std.specs.Prelude.{◌≡◌, ◌<◌, ◌≤◌, [], max, length};
 ghost use Rattle.event_core.specs.States.{open_count};
-ghost use Rattle.core_search.specs.Entries.{GoesOn};
-ghost use Rattle.core_search.specs.Endings.{IsSpent, HasUnsettledNext};
+ghost use Rattle.core_search.specs.Entries.{ExtendsHistory};
+ghost use Rattle.core_search.specs.Endings.{IsSpent, HasSplitNext};
 
 use crate::open_node::open_nodes;
 use crate::step::step;
+use dual_simplex::Relaxation;
 use event_core::State;
 use std::alloc::Global;
 
@@ -14,7 +15,7 @@ use std::alloc::Global;
 pub enum Ending {
     /// No node is open.
     Finished,
-    /// The open node of greatest number is unsettled, and its two children would pass the budget.
+    /// The open node of greatest number admits a split, and its two children would pass the budget.
     Spent,
     /// There was no memory for the next event. This may come at any time.
     Memory,
@@ -22,28 +23,33 @@ pub enum Ending {
 
 /// Searches on as worker 0, with at most `budget` nodes in the tree, or with those that are there already.
 ///
-/// The open node of greatest number is next. It is closed by the verdict on its box, or by its point, which becomes the incumbent; or else it is
-/// split in the middle of its first free column. However the search ends, nobody holds a node then.
+/// The open node of greatest number is next. The verdict on its box closes it, or leaves its one point, which becomes the incumbent. Else the linear
+/// program over its box does: it is infeasible, or its bound reaches the cutoff, or its optimum is whole and becomes the incumbent; or the node is
+/// split in the least column where the optimum isn't whole. Where the run is cramped or stalled, it is split in the middle of its first free column.
+/// However the search ends, nobody holds a node then.
 pub fn search(alloc: Global, state: &mut State, budget: u32) -> Ending
     requires few { budget ≤ 1_000_000_000 }
     requires unheld { state.old.state.holds ≡ [] }
 
     // Each event is legal, as it is in each state's history; here it is one of worker 0, and a claim is of the open node of greatest number.
-    ensures goes_on { GoesOn state.old state.new }
+    ensures goes_on { ExtendsHistory state.old state.new }
     ensures problem { state.new.state.problem ≡ state.old.state.problem }
     ensures unheld { state.new.state.holds ≡ [] }
     ensures within_budget { length state.new.state.nodes ≤ max budget (length state.old.state.nodes) }
 
     ensures finished { result ≡ Ending.Finished → open_count state.new.state ≡ 0 }
     ensures spent { result ≡ Ending.Spent → IsSpent budget state.new.state }
-    ensures next { result ≡ Ending.Spent → HasUnsettledNext state.new.state }
+    ensures next { result ≡ Ending.Spent → HasSplitNext state.new.state }
     ensures left { result ≡ Ending.Spent → 0 < open_count state.new.state }
 {
     let Ok(mut nodes) = open_nodes(alloc, state) else {
         return Ending::Memory;
     };
+    let Ok(relaxation) = Relaxation::new(alloc, state.problem(), state.book(), 0) else {
+        return Ending::Memory;
+    };
     while let Some(node) = nodes.pop() {
-        if let Some(ending) = step(alloc, state, &mut nodes, node, budget) {
+        if let Some(ending) = step(alloc, state, &relaxation, &mut nodes, node, budget) {
             return ending;
         }
     }

@@ -1,6 +1,7 @@
 // One step of the search: a node is claimed, and closed or split, or else released.
 ghost use Rattle.std.specs.Prelude.{◌≡◌, ◌≤◌, ◌<◌, ◌++◌, ◌∷◌, [], max, IfNone, IfSome, length};
-ghost use Rattle.core_search.specs.Entries.{GoesOn};
+ghost use Rattle.core_search.specs.Entries.{ExtendsHistory};
+ghost use Rattle.core_search.specs.Findings.{IsRelaxationWithoutCuts};
 ghost use Rattle.core_search.specs.OpenNodes.{AreOpenNodes, work_left};
 ghost use Rattle.core_search.specs.Processing.{IsEnding};
 
@@ -8,6 +9,7 @@ use crate::events::{apply_event, release};
 use crate::node_loop::Ending;
 use crate::open_node::OpenNode;
 use crate::process::process;
+use dual_simplex::Relaxation;
 use event_core::State;
 use node_events::Event;
 use std::alloc::Global;
@@ -16,14 +18,16 @@ use std::alloc::Global;
 pub fn step(
     alloc: Global,
     state: &mut State,
+    relaxation: &Relaxation,
     nodes: &mut Vec<OpenNode>,
     node: OpenNode,
     budget: u32,
 ) -> Option<Ending>
     requires few { budget ≤ 1_000_000_000 }
+    requires relaxation { IsRelaxationWithoutCuts state.old.state.problem relaxation.now }
     requires unheld { state.old.state.holds ≡ [] }
     requires nodes { AreOpenNodes state.old.state (nodes.old.items ++ node ∷ []) }
-    ensures goes_on { GoesOn state.old state.new }
+    ensures goes_on { ExtendsHistory state.old state.new }
     ensures unheld { state.new.state.holds ≡ [] }
     ensures within_budget { length state.new.state.nodes ≤ max budget (length state.old.state.nodes) }
     ensures nodes { IfNone result (AreOpenNodes state.new.state nodes.new.items) }
@@ -34,7 +38,7 @@ pub fn step(
     let Ok(()) = apply_event(alloc, state, Event::Claim { node: number }) else {
         return Some(Ending::Memory);
     };
-    let Ok(has_ended) = process(alloc, state, nodes, node, budget) else {
+    let Ok(has_ended) = process(alloc, state, relaxation, nodes, node, budget) else {
         release(state, number);
         return Some(Ending::Memory);
     };

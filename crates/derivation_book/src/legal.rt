@@ -31,7 +31,7 @@ fn is_above_zero(price: Option<Frac>) -> bool
 }
 
 /// Whether there are a cutoff and a price, and the price, rounded up if asked, is at least the cutoff.
-fn reaches(cutoff: Option<Frac>, rounded: bool, price: Option<Frac>) -> bool
+pub fn reaches(cutoff: Option<Frac>, rounded: bool, price: Option<Frac>) -> bool
     ensures { result ≡ reaches cutoff rounded price }
 {
     match (cutoff, price) {

@@ -16,3 +16,4 @@ mod price;
 
 pub use book::Book;
 pub use cut::Cut;
+pub use legal::reaches;

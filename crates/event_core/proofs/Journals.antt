@@ -24,7 +24,7 @@ unheld_split : (s : State) (w : Option ℕ) (i j : ℕ) (b : ℤ) (r : Reason) �
 unheld_split s w i j b r e =
     let p = split_passed s w i j b r e in
     passing (is_open s i) NotOpen _ p.opened
-    (passing true NotYours _ refl (passing (has_both (slice_get (box_of s i) j) b) BadSplit _ p.both (passing (is_reason s.problem (box_of s i) (cutoff s) j b r) BadReason Yes p.reason refl)))
+    (passing true NotYours _ refl (passing (has_both (slice_get (box_of s i) j) b) BadSplit _ p.both (passing (is_reason s.problem s.cuts (box_of s i) (cutoff s) j b r) BadReason Yes p.reason refl)))
 
 unheld_close : (s : State) (w : Option ℕ) (i : ℕ) (proof : Proof) → judged_close s w i proof ≡ Yes → judged_close (unheld s) None i proof ≡ Yes
 unheld_close s w i proof e =

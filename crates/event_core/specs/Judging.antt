@@ -43,7 +43,7 @@ abbrev pub judged_split : State → Option ℕ → ℕ → ℕ → ℤ → Reaso
 judged_split s w i j b reason =
     checked (is_open s i) NotOpen
     (checked (is_yours s w i) NotYours
-    (checked (has_both (slice_get (box_of s i) j) b) BadSplit (checked (is_reason s.problem (box_of s i) (cutoff s) j b reason) BadReason Yes)))
+    (checked (has_both (slice_get (box_of s i) j) b) BadSplit (checked (is_reason s.problem s.cuts (box_of s i) (cutoff s) j b reason) BadReason Yes)))
 
 abbrev pub judged_close : State → Option ℕ → ℕ → Proof → Admit
 judged_close s w i proof =

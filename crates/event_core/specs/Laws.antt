@@ -1,8 +1,14 @@
 -- What histories promise.
-use Rattle.std.specs.Prelude.{◌≡◌, ℕ, true, List, [], ◌++◌, slice_get, Some}
+use Rattle.std.specs.Prelude.{◌≡◌, ℕ, ℤ, true, List, [], ◌++◌, slice_get, Option, Some}
+use Rattle.std.specs.Bool.{Decides}
+use Rattle.fraction.specs.Rational.{ℚ}
+use Rattle.problem_box.specs.declared.span.Span.{Span}
 use Rattle.problem.specs.Problem.{Problem}
+use Rattle.node_events.specs.declared.reason.Reason.{Reason}
+use Rattle.derivation_book.specs.declared.cut.Cut.{Cut}
 use Rattle.event_core.specs.declared.entry.Entry.{Entry}
 use Rattle.event_core.specs.States.{State}
+use Rattle.event_core.specs.Splits.{IsReason, is_reason}
 use Rattle.event_core.specs.Histories.{state_of, AreLegal, journaled}
 use Rattle.event_core.specs.Sound.{IsSound}
 
@@ -28,3 +34,8 @@ BeginningsAreLegal p = (es more : List Entry) → AreLegal p (es ++ more) → Is
 
 abbrev pub LegalStatesAreSound : Problem → Type 0
 LegalStatesAreSound p = (es : List Entry) → AreLegal p es → IsSound (state_of p es)
+
+-- the test of reasons says what they mean
+abbrev pub ReasonsAreDecided : Problem → Type 0
+ReasonsAreDecided p =
+    (cs : List Cut) (box : List Span) (cutoff : Option ℚ) (j : ℕ) (b : ℤ) (reason : Reason) → Decides (is_reason p cs box cutoff j b reason) (IsReason p cs box cutoff j b reason)

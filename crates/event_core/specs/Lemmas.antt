@@ -5,4 +5,5 @@ pub mod Holds
 pub mod Ended
 pub mod Points
 pub mod Boxes
+pub mod Reasons
 pub mod Sounding

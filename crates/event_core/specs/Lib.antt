@@ -1,6 +1,7 @@
 pub mod States
 pub mod Holds
 pub mod Feasibility
+pub mod Relaxed
 pub mod Splits
 pub mod Judging
 pub mod After

@@ -1,5 +1,5 @@
 // Which events are admitted.
-ghost use Rattle.std.specs.Prelude.{◌≡◌, true, IfOk, length, All};
+ghost use Rattle.std.specs.Prelude.{◌≡◌, ◌≤◌, true, IfOk, length, All};
 ghost use Rattle.problem.specs.Limited.{IsModestSpan};
 ghost use Rattle.event_core.specs.States.{is_open, box_of};
 ghost use Rattle.event_core.specs.Holds.{is_held, is_holding, holds_node, is_busy, is_yours};
@@ -7,6 +7,7 @@ ghost use Rattle.event_core.specs.Judging.{judged_claim, judged_release, judged_
 
 use crate::admit::Admit;
 use crate::parts::Parts;
+use crate::split_place::SplitPlace;
 use crate::split_rule::{has_both, is_reason};
 use node_events::{Event, Mult, Proof, Reason};
 use node_tree::laws::boxes_are_cut;
@@ -146,6 +147,7 @@ impl Parts {
         bound: i64,
         reason: &Reason,
     ) -> Result<Admit, AllocError>
+        requires { length self.now.state.cuts ≤ 256 }
         ensures { IfOk result (λ a. a ≡ judged_split self.now.state worker node column bound reason.now) }
     {
         if !self.is_open(node) {
@@ -159,7 +161,8 @@ impl Parts {
             return Ok(Admit::BadSplit);
         }
         let cutoff = self.incumbent.cutoff();
-        if !is_reason(&self.problem, &area, cutoff, column, bound, reason) {
+        let at = SplitPlace { column, bound };
+        if !is_reason(alloc, &self.problem, &self.book, &area, cutoff, at, reason)? {
             return Ok(Admit::BadReason);
         }
         Ok(Admit::Yes)
@@ -199,6 +202,7 @@ impl Parts {
         worker: Option<u32>,
         event: &Event,
     ) -> Result<Admit, AllocError>
+        requires { length self.now.state.cuts ≤ 256 }
         ensures { IfOk result (λ a. a ≡ judged self.now.state worker event.now) }
     {
         match event {

@@ -1,6 +1,6 @@
 //! Laws of histories.
 
-ghost use Rattle.event_core.specs.Laws.{JournalsAreLegal, BeginningsAreLegal, LegalStatesAreSound};
+ghost use Rattle.event_core.specs.Laws.{JournalsAreLegal, BeginningsAreLegal, LegalStatesAreSound, ReasonsAreDecided};
 
 use problem::Problem;
 
@@ -19,4 +19,9 @@ pub fn beginnings_are_legal(_problem: &Problem)
 /// two nodes, and no two workers hold one.
 pub fn legal_states_are_sound(_problem: &Problem)
     ensures { LegalStatesAreSound _problem.now }
+{}
+
+/// The test of reasons says what they mean.
+pub fn reasons_are_decided(_problem: &Problem)
+    ensures { ReasonsAreDecided _problem.now }
 {}

@@ -10,6 +10,8 @@ mod entry;
 mod judge;
 pub mod laws;
 mod parts;
+mod relaxed;
+mod split_place;
 mod split_rule;
 mod state;
 #[cfg(test)]
@@ -17,4 +19,5 @@ mod tests;
 
 pub use admit::Admit;
 pub use entry::{Entry, Holder};
+pub use split_place::{SplitPlace, middle};
 pub use state::State;

@@ -1,16 +1,23 @@
 // Where a node may be split, and for which reason.
-ghost use Rattle.std.specs.Prelude.{◌≡◌, ◌&&◌, ◌+ℤ◌, ◌<ℤ◌, length, slice_get, All};
+ghost use Rattle.std.specs.Prelude.{◌≡◌, ◌<◌, ◌≤◌, ◌^◌, ◌+ℤ◌, ◌<ℤ◌, int_le, IfOk, length, take, slice_get, All};
+ghost use Rattle.std.specs.List.{list_all};
 ghost use Rattle.std.specs.Ordering.{int_eq};
 ghost use Rattle.fraction.specs.Rational.{floor_div};
+ghost use Rattle.problem_box.specs.declared.span.Span.{Span as SpanValue};
 ghost use Rattle.problem.specs.Limited.{IsModestSpan};
-ghost use Rattle.row_activity.specs.Verdicts.{verdict};
-ghost use Rattle.event_core.specs.Splits.{has_both, is_first_free, is_half, is_unsettled, is_reason};
+ghost use Rattle.dual_simplex.specs.Relaxation.{rational_at};
+ghost use Rattle.dual_simplex.specs.Answers.{answer};
+ghost use Rattle.event_core.specs.Splits.{has_both, cuts_of, is_between, is_middle, is_cramped, is_stalled, is_given, is_reason};
 
+use crate::relaxed::{is_below_cutoff, is_relaxed};
+use crate::split_place::{SplitPlace, middle};
+use derivation_book::Book;
+use dual_simplex::{Answer, solve};
 use fraction::Frac;
-use node_events::Reason;
+use node_events::{RationalPoint, Reason};
 use problem::Problem;
 use problem_box::{IntBox, Span};
-use row_activity::{Verdict, box_verdict};
+use std::alloc::{AllocError, Global};
 
 /// Whether the column is there, and its span has the bound and the number after it.
 pub fn has_both(area: &IntBox, column: u32, bound: i64) -> bool
@@ -24,17 +31,8 @@ pub fn has_both(area: &IntBox, column: u32, bound: i64) -> bool
     span.lo <= bound && bound < span.hi
 }
 
-/// Half the sum of the bounds of a span that is free, rounded down.
-fn middle(span: Span) -> i64
-    requires modest { IsModestSpan span }
-    requires free { span.lo <ℤ span.hi }
-    ensures { result ≡ floor_div (span.lo +ℤ span.hi) 2 }
-{
-    span.lo + (span.hi - span.lo) / 2
-}
-
 /// Whether the bound is half the sum of the bounds of a span that is free, rounded down.
-fn is_middle(span: Span, bound: i64) -> bool
+fn is_half(span: Span, bound: i64) -> bool
     requires modest { IsModestSpan span }
     requires free { span.lo <ℤ span.hi }
     ensures { result ≡ int_eq bound (floor_div (span.lo +ℤ span.hi) 2) }
@@ -43,44 +41,150 @@ fn is_middle(span: Span, bound: i64) -> bool
 }
 
 /// Whether the column is the least one with more than one number, and the bound is the middle of its span.
-fn is_middle_of_first_free(area: &IntBox, column: u32, bound: i64) -> bool
+fn is_middle(area: &IntBox, column: u32, bound: i64) -> bool
     requires { All IsModestSpan area.now }
-    ensures { result ≡ (is_first_free area.now column && is_half (slice_get area.now column) bound) }
+    ensures { result ≡ is_middle area.now column bound }
 {
     match area.first_free() {
-        Some(first) => first == column as usize && is_middle(area.span(first), bound),
+        Some(first) => first == column as usize && is_half(area.span(first), bound),
         None => false,
     }
 }
 
-/// Whether the verdict on the box is that it is unsettled.
-fn is_unsettled(problem: &Problem, area: &IntBox, cutoff: Option<Frac>) -> bool
-    requires columns { length area.now ≡ length problem.now.spans }
-    requires modest { All IsModestSpan area.now }
-    ensures { result ≡ is_unsettled (verdict problem.now area.now cutoff) }
+/// The point's number in the column, and 0 where there is no such column.
+fn number_in(point: &RationalPoint, column: u32) -> Frac
+    ensures { result ≡ rational_at point.now column }
 {
-    match box_verdict(problem, area, cutoff) {
-        Verdict::Unsettled => true,
-        _ => false,
+    let column = column as usize;
+    if column < point.len() {
+        point.get(column)
+    } else {
+        Frac::of(0)
     }
 }
 
-/// Whether the reason holds for a split of the box, whose spans are as many as the problem's columns and not larger than those may be.
-pub fn is_reason(
+/// Whether the number isn't whole, and has this floor.
+fn is_between(number: Frac, bound: i64) -> bool
+    ensures { result ≡ is_between number bound }
+{
+    !number.is_whole() && number.floor() == i128::from(bound)
+}
+
+/// Whether the run with the first cuts is cramped after so many pivots. The one error is want of memory.
+fn is_cramped(
+    alloc: Global,
     problem: &Problem,
+    book: &Book,
+    cuts: usize,
     area: &IntBox,
-    cutoff: Option<Frac>,
-    column: u32,
-    bound: i64,
-    reason: &Reason,
-) -> bool
+    pivots: u32,
+) -> Result<bool, AllocError>
+    requires few { cuts ≤ length book.now.cuts }
+    requires numbered { cuts < 2 ^ 27 }
     requires columns { length area.now ≡ length problem.now.spans }
-    requires modest { All IsModestSpan area.now }
-    ensures { result ≡ is_reason problem.now area.now cutoff column bound reason.now }
+    ensures { IfOk result (λ b. b ≡ is_cramped pivots (answer problem.now (take cuts book.now.cuts) area.now)) }
+{
+    match solve(alloc, problem, book, cuts, area)?.answer {
+        Answer::Cramped { pivots: found } => Ok(found == pivots),
+        _ => Ok(false),
+    }
+}
+
+/// Whether the run with the first cuts is stalled. The one error is want of memory.
+fn is_stalled(
+    alloc: Global,
+    problem: &Problem,
+    book: &Book,
+    cuts: usize,
+    area: &IntBox,
+) -> Result<bool, AllocError>
+    requires few { cuts ≤ length book.now.cuts }
+    requires numbered { cuts < 2 ^ 27 }
+    requires columns { length area.now ≡ length problem.now.spans }
+    ensures { IfOk result (λ b. b ≡ is_stalled (answer problem.now (take cuts book.now.cuts) area.now)) }
+{
+    match solve(alloc, problem, book, cuts, area)?.answer {
+        Answer::Stalled => Ok(true),
+        _ => Ok(false),
+    }
+}
+
+/// How many cuts the reason's linear program has.
+fn cuts_of(reason: &Reason) -> u32
+    ensures { result ≡ cuts_of reason.now }
 {
     match reason {
-        Reason::Unsettled => {
-            is_unsettled(problem, area, cutoff) && is_middle_of_first_free(area, column, bound)
+        Reason::Fractional { cuts, .. } => *cuts,
+        Reason::Cramped { cuts, .. } => *cuts,
+        Reason::Stalled { cuts } => *cuts,
+    }
+}
+
+/// Whether what the reason says is so, where its cuts are there. The one error is want of memory.
+fn is_given(
+    alloc: Global,
+    problem: &Problem,
+    book: &Book,
+    area: &IntBox,
+    cutoff: Option<Frac>,
+    at: SplitPlace,
+    reason: &Reason,
+) -> Result<bool, AllocError>
+    requires few { cuts_of reason.now ≤ length book.now.cuts }
+    requires few_cuts { length book.now.cuts ≤ 256 }
+    requires columns { length area.now ≡ length problem.now.spans }
+    requires modest { All IsModestSpan area.now }
+    ensures { IfOk result (λ b. b ≡ is_given problem.now book.now.cuts area.now cutoff at.column at.bound reason.now) }
+{
+    match reason {
+        Reason::Fractional { cuts, point } => Ok(
+            is_between(number_in(point, at.column), at.bound)
+                && is_relaxed(problem, book, *cuts as usize, area, point)
+                && is_below_cutoff(problem, cutoff, point),
+        ),
+        Reason::Cramped { cuts, pivots } => {
+            if !is_middle(area, at.column, at.bound) {
+                return Ok(false);
+            }
+            is_cramped(alloc, problem, book, *cuts as usize, area, *pivots)
+        }
+        Reason::Stalled { cuts } => {
+            if !is_middle(area, at.column, at.bound) {
+                return Ok(false);
+            }
+            is_stalled(alloc, problem, book, *cuts as usize, area)
         }
     }
+}
+
+/// Whether each span has a number.
+fn is_nonempty(area: &IntBox) -> bool
+    ensures { result ≡ list_all (λ (s : SpanValue). int_le s.lo s.hi) area.now }
+{
+    match area.empty_at() {
+        Some(_) => false,
+        None => true,
+    }
+}
+
+/// Whether the reason holds for a split of the box, whose spans are as many as the problem's columns and not larger than those may be. The one error
+/// is want of memory.
+pub fn is_reason(
+    alloc: Global,
+    problem: &Problem,
+    book: &Book,
+    area: &IntBox,
+    cutoff: Option<Frac>,
+    at: SplitPlace,
+    reason: &Reason,
+) -> Result<bool, AllocError>
+    requires few_cuts { length book.now.cuts ≤ 256 }
+    requires columns { length area.now ≡ length problem.now.spans }
+    requires modest { All IsModestSpan area.now }
+    ensures { IfOk result (λ b. b ≡ is_reason problem.now book.now.cuts area.now cutoff at.column at.bound reason.now) }
+{
+    if !is_nonempty(area) || cuts_of(reason) as usize > book.len() {
+        return Ok(false);
+    }
+    is_given(alloc, problem, book, area, cutoff, at, reason)
 }

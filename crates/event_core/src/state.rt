@@ -126,6 +126,7 @@ impl State {
     ) -> Result<Admit, AllocError>
         ensures { IfOk result (λ a. a ≡ judged self.now.state worker event.now) }
     {
+        self.conditions_hold();
         self.parts.admits(alloc, worker, event)
     }
 

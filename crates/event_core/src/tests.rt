@@ -5,7 +5,7 @@ ghost use Rattle.problem.specs.Limited.{IsLimitedRow, IsModestSpan};
 
 use crate::{Admit, State};
 use fraction::Frac;
-use node_events::{Event, Mult, Proof, Reason};
+use node_events::{Event, Mult, Proof, RationalPoint, Reason};
 use problem::{Names, Point, Problem, Row, Sense, Terms};
 use problem_box::{IntBox, Span};
 use std::alloc::{AllocError, Global};
@@ -58,13 +58,35 @@ fn cut(alloc: Global, row: u32, positive: bool) -> Result<Event, AllocError> {
     Ok(Event::Cut { mult })
 }
 
-/// A split that is unsettled.
-fn split(node: u32, column: u32, bound: i64) -> Event {
-    Event::Split {
+/// A split by a point with these numbers of halves.
+fn split(
+    alloc: Global,
+    node: u32,
+    column: u32,
+    bound: i64,
+    halves: &[i64],
+) -> Result<Event, AllocError> {
+    let mut numbers = Vec::new(alloc);
+    for half in halves {
+        numbers.push(Frac::make(i128::from(*half), 2))?;
+    }
+    let point = RationalPoint::make(alloc, numbers)?;
+    let reason = Reason::Fractional { cuts: 0, point };
+    Ok(Event::Split {
         node,
         column,
         bound,
-        reason: Reason::Unsettled,
+        reason,
+    })
+}
+
+/// A split of node 0 in column 0 at 0.
+fn split_in_x(reason: Reason) -> Event {
+    Event::Split {
+        node: 0,
+        column: 0,
+        bound: 0,
+        reason,
     }
 }
 
@@ -122,11 +144,11 @@ fn answers_are_right(rt: &impl Abort, alloc: Global, state: &State) -> Result<()
     assert!(rt; is_answer(alloc, state, cut(alloc, 0, true)?, Admit::Yes)?);
     assert!(rt; is_answer(alloc, state, cut(alloc, 0, false)?, Admit::BadCut)?);
     assert!(rt; is_answer(alloc, state, cut(alloc, 3, true)?, Admit::BadCut)?);
-    assert!(rt; is_answer(alloc, state, split(1, 0, 2), Admit::NotOpen)?);
-    assert!(rt; is_answer(alloc, state, split(0, 0, 5), Admit::BadSplit)?);
-    assert!(rt; is_answer(alloc, state, split(0, 1, 0), Admit::BadSplit)?);
-    assert!(rt; is_answer(alloc, state, split(0, 0, 1), Admit::BadReason)?);
-    assert!(rt; is_answer(alloc, state, split(0, 0, 2), Admit::Yes)?);
+    assert!(rt; is_answer(alloc, state, split(alloc, 1, 0, 1, &[3])?, Admit::NotOpen)?);
+    assert!(rt; is_answer(alloc, state, split(alloc, 0, 0, 5, &[3])?, Admit::BadSplit)?);
+    assert!(rt; is_answer(alloc, state, split(alloc, 0, 1, 0, &[3])?, Admit::BadSplit)?);
+    assert!(rt; is_answer(alloc, state, split(alloc, 0, 0, 2, &[3])?, Admit::BadReason)?);
+    assert!(rt; is_answer(alloc, state, split(alloc, 0, 0, 1, &[3])?, Admit::Yes)?);
     assert!(rt; is_answer(alloc, state, refute(alloc, 0, 0, true)?, Admit::BadProof)?);
     Ok(())
 }
@@ -175,11 +197,11 @@ fn many_cuts(rt: HostRuntime) -> Result<(), AllocError> {
 fn events_of_splits(alloc: Global) -> Result<Vec<Event>, AllocError> {
     let events = vec![in alloc;
         Event::Claim { node: 0 },
-        split(0, 0, 0),
+        split(alloc, 0, 0, 0, &[1, 2])?,
         Event::Claim { node: 2 },
         Event::Release { node: 2 },
         Event::Claim { node: 2 },
-        split(2, 1, 0),
+        split(alloc, 2, 1, 0, &[2, 1])?,
     ]?;
     Ok(events)
 }
@@ -191,9 +213,50 @@ fn events_of_leaf(alloc: Global, node: u32, positive: bool) -> Result<Vec<Event>
     Ok(events)
 }
 
+/// The answers to splits of node 0 of `2x + 2y = 3`.
+fn reasons_are_right(rt: &impl Abort, alloc: Global, state: &State) -> Result<(), AllocError> {
+    assert!(rt; is_answer(alloc, state, split(alloc, 0, 1, 0, &[2, 1])?, Admit::Yes)?);
+    assert!(rt;
+        is_answer(
+            alloc,
+            state,
+            split(alloc, 0, 0, 0, &[2, 1])?,
+            Admit::BadReason
+        )?
+    );
+    assert!(rt; is_answer(alloc, state, split(alloc, 0, 0, 0, &[1, 2])?, Admit::Yes)?);
+    assert!(rt;
+        is_answer(
+            alloc,
+            state,
+            split(alloc, 0, 0, 0, &[3, 0])?,
+            Admit::BadReason
+        )?
+    );
+    let cramped = split_in_x(Reason::Cramped { cuts: 0, pivots: 0 });
+    assert!(rt; is_answer(alloc, state, cramped, Admit::BadReason)?);
+    let stalled = split_in_x(Reason::Stalled { cuts: 0 });
+    assert!(rt; is_answer(alloc, state, stalled, Admit::BadReason)?);
+    Ok(())
+}
+
+#[test]
+fn reasons(rt: HostRuntime) -> Result<(), AllocError> {
+    let alloc = rt.alloc();
+    let state = two_columns(alloc)?;
+    reasons_are_right(&rt, alloc, &state)
+}
+
 /// The search of `2x + 2y = 3`.
 fn search_is_right(rt: &impl Abort, alloc: Global, state: &mut State) -> Result<(), AllocError> {
-    assert!(rt; act(alloc, state, split(0, 0, 0), Admit::NotYours)?);
+    assert!(rt;
+        act(
+            alloc,
+            state,
+            split(alloc, 0, 0, 0, &[1, 2])?,
+            Admit::NotYours
+        )?
+    );
     assert!(rt; act_all(alloc, state, events_of_splits(alloc)?)?);
     for (node, positive) in [(4, false), (3, true), (1, true)] {
         assert!(rt; act_all(alloc, state, events_of_leaf(alloc, node, positive)?)?);

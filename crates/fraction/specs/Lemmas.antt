@@ -7,3 +7,4 @@ pub mod Whole
 pub mod Ring
 pub mod Order
 pub mod Bounds
+pub mod Checked

@@ -1,4 +1,4 @@
-//! Searches: one that goes on with a greater budget each time, and one of five nodes.
+//! Searches that go on with a greater budget: one with an optimum, and one of five nodes without a point.
 
 ghost use Rattle.std.specs.Prelude.{◌≡◌, ◌≤◌, []};
 
@@ -10,13 +10,15 @@ use event_core::State;
 use std::alloc::Global;
 use std::io;
 
-/// Minimise -3a - 2b - 2c - d where 2a + 2b + c + d <= 3, with columns 0 or 1.
+/// Minimise -3a - 2b - 2c - d where 2a + 2b + c + d <= 2, with columns 0 or 1.
 ///
-/// Node 0 is split in a, 2 in b, 3 in c, 6 in d; 4 and 8 are refuted, 7 is the point, and 5 and 1 are priced.
+/// At node 0 the linear program has its optimum at a = 1/2 and c = 1, so it is split in a; at node 2 it is the point a = 1, and at node 1 it reaches
+/// the cutoff.
 const KNAPSACK: &str =
-    "ROWS\n N o\n L r\nCOLUMNS\n m 'MARKER' 'INTORG'\n a o -3 r 2\n b o -2 r 2\n c o -2 r 1\n d o -1 r 1\nRHS\n r 3\nBOUNDS\n BV a\n BV b\n BV c\n BV d\nENDATA\n";
+    "ROWS\n N o\n L r\nCOLUMNS\n m 'MARKER' 'INTORG'\n a o -3 r 2\n b o -2 r 2\n c o -2 r 1\n d o -1 r 1\nRHS\n r 2\nBOUNDS\n BV a\n BV b\n BV c\n BV d\nENDATA\n";
 
-/// No whole numbers give 4x + 2y = 7, x from 0 to 1 and y from 0 to 2. Node 0 is split in x, 2 in y; 4, 3 and 1 are refuted.
+/// No whole numbers give 4x + 2y = 7, x from 0 to 1 and y from 0 to 2. Node 0 is split in y at (1, 3/2), and node 2 in x at (3/4, 2); 4, 3 and 1 are
+/// refuted.
 const PARITY: &str =
     "ROWS\n N o\n E r\nCOLUMNS\n m 'MARKER' 'INTORG'\n x r 4\n y r 2\nRHS\n r 7\nBOUNDS\n UP x 1\n UP y 2\nENDATA\n";
 
@@ -57,6 +59,7 @@ fn show_search<R: Print + Alloc<A = Global>>(
 /// The state after the search of the problem that no point satisfies.
 pub(crate) fn finished<R: Print + Alloc<A = Global>>(rt: &R) -> Result<State> {
     let mut state = State::new(rt.alloc(), problem_of(rt.alloc(), PARITY)?)?;
+    show_search(rt, &mut state, 4)?;
     show_search(rt, &mut state, 5)?;
     Ok(state)
 }
@@ -65,7 +68,6 @@ pub(crate) fn finished<R: Print + Alloc<A = Global>>(rt: &R) -> Result<State> {
 pub(crate) fn show<R: Print + Alloc<A = Global>>(rt: &R) -> Result<()> {
     let mut state = State::new(rt.alloc(), problem_of(rt.alloc(), KNAPSACK)?)?;
     show_search(rt, &mut state, 2)?;
-    show_search(rt, &mut state, 8)?;
-    show_search(rt, &mut state, 9)?;
+    show_search(rt, &mut state, 3)?;
     Ok(())
 }

@@ -8,9 +8,11 @@
 mod event;
 mod mult;
 mod proof;
+mod rational_point;
 mod reason;
 
 pub use event::Event;
 pub use mult::Mult;
 pub use proof::Proof;
+pub use rational_point::RationalPoint;
 pub use reason::Reason;

@@ -1,5 +1,6 @@
 -- What the steps of a run say of it is all that it promises.
 use Rattle.std.proofs.Common.{arith, ◌≡◌, ◌∙◌, ◌++◌, ◌≤◌, ℕ, inl, inr, Option, Some, None, Result, Ok, Err, true, length, sym, ap, subst, rules}
+use Rattle.std.specs.Prelude.{List, is_some}
 use Rattle.std.proofs.Math.Seq.{take-length}
 use Rattle.mps_reader.specs.Lemmas.Laws.{never_both}
 use Rattle.mps_reader.specs.declared.kinds.Kind.{Kind}
@@ -13,12 +14,12 @@ use Rattle.solve_top.specs.declared.outcome.Refusal.{Refusal}
 use Rattle.solve_top.specs.declared.outcome.Refusal.TheVariants as refusal
 use Rattle.solve_top.specs.declared.status.Status.{Status}
 use Rattle.solve_top.specs.declared.status.Status.TheVariants as status
-use Rattle.solve_top.specs.Changes.{SinkChange, IsTold, Stays, Takes, TakesPrefix, TakesNothing}
+use Rattle.solve_top.specs.Changes.{SinkChange, IsTold, Rises, Stays, Takes, TakesPrefix, TakesNothing}
 use Rattle.solve_top.specs.Commands.{budget_of, upper_of}
 use Rattle.solve_top.specs.Statuses.{refused_line}
-use Rattle.solve_top.specs.Searches.{Search, end_of, IsSolved, certificate_text}
+use Rattle.solve_top.specs.Searches.{Search, end_of, HasSpent, HasTooFewNodes, IsSolved, certificate_text, lines_due}
 use Rattle.solve_top.specs.Steps.{IsReading, IsSolution, IsToldAs}
-use Rattle.solve_top.specs.Headline.{Run, EndsWith, HasFault, IsSearchOf, KeepsPromise}
+use Rattle.solve_top.specs.Headline.{Run, EndsWith, HasFault, IsSearchOf, IsComplete, KeepsPromise}
 
 -- all of a certificate is a prefix of it
 prefix_solved : (s : Search) (cert : SinkChange) → IsSolved s cert → TakesPrefix cert (certificate_text s)
@@ -91,10 +92,62 @@ module _ (r : Run) (t : Status) (ends : EndsWith r t) (command : is_command r.wo
     only_search : (P : Search → Type 0) → P s → (u : Search) → r.last ≡ Some u → P u
     only_search P h u e = let same : s ≡ u = cc in subst P same h
 
+    -- of a spent search, whose lines were written on status 8, and broke off on status 7
+    spent_promise : 7 ≤ r.number → r.number ≤ 8 → IsSearchOf r s → Stays r.model.faults → HasSpent (budget_of r.words) s → TakesNothing r.cert → Stays r.cert.faults
+        → (EndsWith r status.Spent → HasTooFewNodes s.problem (budget_of r.words) × Takes r.out (lines_due s) × Stays r.out.faults)
+        → (EndsWith r status.Sink → TakesPrefix r.out (lines_due s) × Rises r.out.faults)
+        → IsComplete r → KeepsPromise r
+    spent_promise late early found quiet spent none kept told cut complete =
+        let not_done : EndsWith r status.Done → ⊥ = λ e. omega (arith, late, e) in
+        let not_model : EndsWith r status.Model → ⊥ = λ e. omega (arith, late, e) in
+        let not_usage : EndsWith r status.Usage → ⊥ = λ e. omega (arith, late, e) in
+        let not_fault : EndsWith r status.ReadFault → ⊥ = λ e. omega (arith, late, e) in
+        let not_memory : EndsWith r status.Memory → ⊥ = λ e. omega (arith, early, e) in
+        record {
+          cause = record {
+            named = (t, ends);
+            usage = λ e. absurd (not_usage e);
+            command = λ a b. command;
+            fault = λ e. absurd (not_fault e);
+            whole = λ e. quiet;
+            refused = λ e. absurd (not_model e);
+            searched = λ e. ap is_some last;
+            unsearched = λ e. absurd (elim e [ inl d ↦ not_usage d | inr d ↦ elim d [ inl f ↦ not_model f | inr f ↦ not_fault f ] ]);
+            history = λ u e. only_search (IsSearchOf r) found u e;
+            spent = λ e. (s, last, spent);
+            few = λ e. (s, last, (told e).0);
+            sink = λ e. inr ((cut e).1);
+            kept = λ e. kept;
+            quiet = λ e. elim e [ inl d ↦ absurd (not_done d) | inr d ↦ (told d).2 ];
+          };
+          complete = complete;
+          certificate = record {
+            done = λ e. absurd (not_done e);
+            printed = λ e. (s, last, inr (inr (spent, none)));
+            prefix = λ e. inl none;
+            none = λ e. none;
+          };
+          lines = record {
+            answered = λ e. (s, last, elim e [ inl d ↦ absurd (not_done d) | inr d ↦ (told d).1 ]);
+            usage_line = λ e. absurd (not_usage e);
+            model_line = λ e. absurd (not_model e);
+            fault_line = λ e. absurd (not_fault e);
+            memory_line = λ e. absurd (not_memory e);
+            cut_short = λ e. (s, last, inr (kept, (cut e).0, (cut e).1));
+          };
+        }
+
     outcome_promise : (o : Result Answer Refusal) → IsSearchOf r s → IsReading r.model (upper_of r.words) (Ok s.problem)
         → IsSolution (budget_of r.words) s r.cert o → IsToldAs r.out o t → KeepsPromise r
     outcome_promise (Ok (answer.Done lines)) found reading h told = search (rules, prefix_solved, only_search)
-    outcome_promise (Ok (answer.Spent lines)) found reading h told = search (rules, only_search)
+    outcome_promise (Ok (answer.Spent lines)) found reading h (inl told) =
+        let at : EndsWith r status.Spent = subst (EndsWith r) told.0 ends in
+        spent_promise (omega (arith, at)) (omega (arith, at)) found reading.2 h.0 h.2 h.3 (λ e. (h.1, subst (Takes r.out) h.4 told.1, told.2)) (λ e. absurd (omega (arith, at, e)))
+        (λ tells asked has read cert out. inr (inl at))
+    outcome_promise (Ok (answer.Spent lines)) found reading h (inr told) =
+        let at : EndsWith r status.Sink = subst (EndsWith r) told.0 ends in
+        spent_promise (omega (arith, at)) (omega (arith, at)) found reading.2 h.0 h.2 h.3 (λ e. absurd (omega (arith, at, e))) (λ e. (subst (TakesPrefix r.out) h.4 told.1, told.2))
+        (λ tells asked has read cert out. absurd (out told.2))
     outcome_promise (Err refusal.Sink) found reading h told = search (rules, only_search)
     outcome_promise (Err refusal.Memory) found reading h told = search (rules, only_search)
     outcome_promise (Err q) found reading h told = absurd h

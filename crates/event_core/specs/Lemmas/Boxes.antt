@@ -9,7 +9,7 @@ use Rattle.std.proofs.lemmas.Int.{ints}
 use Rattle.std.proofs.lemmas.Bool.{eqb-true}
 use Rattle.std.proofs.lemmas.Bool.Decides.{Decides-eqb}
 use Rattle.std.proofs.lemmas.Option.{same_Some, none-some}
-use Rattle.std.proofs.lemmas.List.Elements.{All-head, All-tail}
+use Rattle.std.proofs.lemmas.List.Elements.{All-nil, All-cons, All-head, All-tail}
 use Rattle.fraction.specs.Rational.{floor_div}
 use Rattle.problem_box.specs.declared.span.Span.{Span}
 use Rattle.problem_box.specs.Changes.{IsFirstFree}
@@ -53,13 +53,29 @@ free_test s h = grind (arith, ints)
 fixed_test : (s : Span) → s.hi ≤ℤ s.lo → int_lt s.lo s.hi ≡ false
 fixed_test s h = grind (arith, ints)
 
-first_at : (ss : List Span) (k : ℕ) → IsFirstFree ss k → is_first_free ss k ≡ true
+pub first_at : (ss : List Span) (k : ℕ) → IsFirstFree ss k → is_first_free ss k ≡ true
 first_at [] k h = absurd (none-some h.span h.there)
 first_at (s ∷ ss) zero h = free_test s (subst (λ (t : Span). t.lo <ℤ t.hi) (sym (same_Some s h.span h.there)) h.free)
 first_at (s ∷ ss) (suc k) h =
     let here = fixed_test s (All-head (λ (t : Span). t.hi ≤ℤ t.lo) s (take k ss) h.before) in
     let later = first_at ss k (record { span = h.span; there = h.there; free = h.free; before = All-tail (λ (t : Span). t.hi ≤ℤ t.lo) s (take k ss) h.before }) in
     ap (λ b. not b && is_first_free ss k) here ∙ later
+
+-- and the other way round
+pub free_at : (ss : List Span) (k : ℕ) → is_first_free ss k ≡ true → IsFirstFree ss k
+free_at [] k e = cc
+free_at (s ∷ ss) zero e = record { span = s; there = refl; free = grind (arith, ints); before = All-nil (λ (t : Span). t.hi ≤ℤ t.lo) }
+free_at (s ∷ ss) (suc k) e =
+    let h = and_true (not (int_lt s.lo s.hi)) (is_first_free ss k) e in
+    let later = free_at ss k h.1 in
+    record { span = later.span; there = later.there; free = later.free; before = All-cons (λ (t : Span). t.hi ≤ℤ t.lo) s (take k ss) (fixed_at s (flipped (int_lt s.lo s.hi) h.0)) later.before }
+  where
+    flipped : (b : Bool) → not b ≡ true → b ≡ false
+    flipped true e = cc
+    flipped false e = refl
+
+    fixed_at : (t : Span) → int_lt t.lo t.hi ≡ false → t.hi ≤ℤ t.lo
+    fixed_at t e = grind (arith, ints)
 
 first_only : (ss : List Span) (j k : ℕ) → is_first_free ss j ≡ true → is_first_free ss k ≡ true → j ≡ k
 first_only [] j k p q = cc

@@ -81,14 +81,14 @@ pub record IsPassedSplit (s : State) (w : Option ℕ) (i j : ℕ) (b : ℤ) (r :
   pub opened : is_open s i ≡ true
   pub yours : is_yours s w i ≡ true
   pub both : has_both (slice_get (box_of s i) j) b ≡ true
-  pub reason : is_reason s.problem (box_of s i) (cutoff s) j b r ≡ true
+  pub reason : is_reason s.problem s.cuts (box_of s i) (cutoff s) j b r ≡ true
 
 pub split_passed : (s : State) (w : Option ℕ) (i j : ℕ) (b : ℤ) (r : Reason) → judged_split s w i j b r ≡ Yes → IsPassedSplit s w i j b r
 split_passed s w i j b r e =
     let k = passes (is_open s i) NotOpen _ (λ q. cc) e in
     let l = passes (is_yours s w i) NotYours _ (λ q. cc) k.rest in
     let m = passes (has_both (slice_get (box_of s i) j) b) BadSplit _ (λ q. cc) l.rest in
-    let n = passes (is_reason s.problem (box_of s i) (cutoff s) j b r) BadReason Yes (λ q. cc) m.rest in
+    let n = passes (is_reason s.problem s.cuts (box_of s i) (cutoff s) j b r) BadReason Yes (λ q. cc) m.rest in
     record { opened = k.holds; yours = l.holds; both = m.holds; reason = n.holds }
 
 pub record IsPassedClose (s : State) (w : Option ℕ) (i : ℕ) (proof : Proof) : Type 0 where

@@ -21,7 +21,7 @@ use Rattle.problem.specs.Problem.{Problem}
 use Rattle.problem.specs.Feasible.{IsFeasible}
 use Rattle.event_core.specs.Feasibility.{stands, is_satisfied, is_feasible}
 
-stands_tells : (s : Sense) (v rhs : ℚ) (o : Ordering) → o ≡ compare v rhs → Decides (stands s o) (Compares s rhs v)
+pub stands_tells : (s : Sense) (v rhs : ℚ) (o : Ordering) → o ≡ compare v rhs → Decides (stands s o) (Compares s rhs v)
 stands_tells G v rhs Less e = (λ f. absurd (false≢true f), λ h. absurd (not_both rhs v h (less v rhs e)))
 stands_tells G v rhs Equal e = (λ _. same_le rhs v (sym (equal v rhs e)), λ _. refl)
 stands_tells G v rhs Greater e = (λ _. less_at_most rhs v (greater v rhs e), λ _. refl)

@@ -1,4 +1,7 @@
-use Rattle.std.proofs.Common.{◌≡◌, arith, vec_len}
+use Rattle.std.proofs.Common.{◌≡◌, [], arith, vec_len, subst, sym, ◌∙◌}
+use Rattle.event_core.specs.Lemmas.Ended.{count-ended}
+use Rattle.core_search.specs.Processing.{IsEnding, IsExhausted}
+use Rattle.dual_simplex.specs.Prepared.{IsRelaxationOf}
 use Rattle.core_search.proofs.Entering.{joined, same_problem}
 use Rattle.core_search.proofs.OpenLists.{none_left}
 use Rattle.core_search.proofs.Stepping.{joined_within}
@@ -28,3 +31,15 @@ pub returns-clause-finished : goal.returns-clause-finished
 returns-clause-finished c = λ _.
     let none : vec_len c.loop-node.nodes ≡ 0 = c.in_default-pop.ensures.cases.0 in
     none_left c.loop-node.state.state c.loop-node.nodes.items (omega (arith, none, c.loop-node.nodes.ok.0)) c.loop-node.invariant.nodes
+
+pub step-requires-clause-relaxation : goal.step-requires-clause-relaxation
+step-requires-clause-relaxation c = record {
+  no_cuts = c.in-Ok-new.ensures.cuts;
+  prepared = subst (λ p. IsRelaxationOf p [] c.in-Ok-new.relaxation) (c.problem.ensures ∙ sym (same_problem c.args.state.now c.loop-node.state c.loop-node.invariant.goes_on)) c.in-Ok-new.ensures.prepared;
+}
+
+pub returns-in-Some-step-clause-left : goal.returns-in-Some-step-clause-left
+returns-in-Some-step-clause-left c = λ e.
+    let s = c.step.new.state.state in
+    let h : IsExhausted c.args.budget s = subst (λ x. IsEnding c.args.budget x s) e c.in-Some-step.ensures.ended in
+    omega (arith, count-ended s.ended h.1.node h.1.opened)

@@ -1,25 +1,20 @@
-use Rattle.std.proofs.Common.{◌∙◌, sym, ap, subst, List}
-use Rattle.std.specs.Prelude.{ℤ, Some}
-use Rattle.node_events.specs.declared.event.Event.TheVariants.{Offer}
+use Rattle.std.proofs.Common.{◌∙◌, ap}
 use Rattle.event_core.specs.States.{State}
-use Rattle.event_core.specs.After.{after_offer, after_close}
-use Rattle.event_core.specs.Histories.{IsLegal}
+use Rattle.event_core.specs.After.{after_close}
 use Rattle.core_search.proofs.Acting.{offer_legal}
 use Rattle.core_search.proofs.Entering.{joined}
 use Rattle.core_search.proofs.Stepping.{on_ok, on_any_err, held_at, held_offered, point_closes}
 use Rattle.core_search.proofs.process.offer_point.Goals as goal
 
 pub apply_event-requires-clause-legal : goal.apply_event-requires-clause-legal
-apply_event-requires-clause-legal c =
-    subst (λ (x : List ℤ). IsLegal c.args.state.now.state (Some 0) (Offer x)) (sym c.in_ok-point.ensures)
-    (offer_legal c.args.state.now.state c.args.node.now.area c.node_conditions_hold.ensures.part c.requires.point)
+apply_event-requires-clause-legal c = offer_legal c.args.state.now.state c.args.point c.requires.better.feasible c.requires.better.better
 
 pub close-requires-clause-held : goal.close-requires-clause-held
-close-requires-clause-held c = held_offered c.args.state.now.state c.apply_event.new.state.state c.in_ok-point.point c.args.node.now.number c.in_ok-apply_event.ensures.applied c.requires.held
+close-requires-clause-held c = held_offered c.args.state.now.state c.apply_event.new.state.state c.args.point c.args.node.now.number c.in_ok-apply_event.ensures.applied c.requires.held
 
 pub close-requires-clause-legal : goal.close-requires-clause-legal
 close-requires-clause-legal c =
-    point_closes c.args.state.now.state c.apply_event.new.state.state c.args.node.now c.in_ok-point.point c.objective_bound.result c.in_ok-apply_event.ensures.applied c.in_ok-point.ensures c.objective_bound.ensures c.requires.area c.node_conditions_hold.ensures.closes c.requires.point
+    point_closes c.args.state.now.state c.apply_event.new.state.state c.args.node.now c.args.point c.args.proof c.in_ok-apply_event.ensures.applied c.requires.area c.requires.better
 
 pub returns-in_err-apply_event-clause-failed : goal.returns-in_err-apply_event-clause-failed
 returns-in_err-apply_event-clause-failed c = on_any_err _ (held_at c.args.state.now.state c.apply_event.new.state.state c.args.node.now.number c.in_err-apply_event.ensures.failed c.requires.held)
@@ -28,8 +23,7 @@ pub returns-clause-goes_on : goal.returns-clause-goes_on
 returns-clause-goes_on c = joined c.args.state.now c.apply_event.new.state c.close.new.state c.apply_event.ensures.goes_on c.close.ensures.goes_on
 
 pub returns-clause-closed : goal.returns-clause-closed
-returns-clause-closed c =
-    on_ok c.close.result (λ e. e ∙ ap (λ (s : State). after_close s c.args.node.now.number) (c.in_ok-apply_event.ensures.applied ∙ ap (after_offer c.args.state.now.state) c.in_ok-point.ensures)) c.close.ensures.closed
+returns-clause-closed c = on_ok c.close.result (λ e. e ∙ ap (λ (s : State). after_close s c.args.node.now.number) c.in_ok-apply_event.ensures.applied) c.close.ensures.closed
 
 pub returns-clause-nodes : goal.returns-clause-nodes
 returns-clause-nodes c = c.close.ensures.nodes ∙ ap (λ (s : State). s.nodes) c.in_ok-apply_event.ensures.applied

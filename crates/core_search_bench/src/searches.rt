@@ -1,0 +1,100 @@
+// Searches, and what they print.
+
+use crate::models::small_knapsack;
+use anyhow::Result;
+use core_search::{Ending, search};
+use event_core::{Entry, State};
+use node_events::{Event, Proof, Reason};
+use problem::Problem;
+use std::alloc::Global;
+use std::mem::size_of;
+use std::rt::Clock;
+use std::time::Instant;
+
+// An event of a history takes at most 64 bytes beside the numbers that it carries.
+const _: () = prove!(size_of::<Entry>() <= 64);
+
+/// The greatest budget that a search may have.
+const MOST_NODES: u32 = 1_000_000_000;
+
+/// The word for an ending.
+fn word(ending: Ending) -> &'static str {
+    match ending {
+        Ending::Finished => "finished",
+        Ending::Spent => "spent",
+        Ending::Memory => "memory",
+    }
+}
+
+/// How many multipliers an event carries.
+fn multipliers(event: &Event) -> usize {
+    match event {
+        Event::Cut { mult } => mult.len(),
+        Event::Close { proof, .. } => match proof {
+            Proof::Empty { .. } => 0,
+            Proof::Refute { mult } => mult.len(),
+            Proof::Bound { mult, .. } => mult.len(),
+        },
+        Event::Claim { .. } | Event::Release { .. } | Event::Offer { .. } | Event::Split { .. } => {
+            0
+        }
+    }
+}
+
+/// How many columns the rational point of an event has, if there is one.
+fn coordinates(event: &Event) -> usize {
+    match event {
+        Event::Split { reason, .. } => match reason {
+            Reason::Fractional { point, .. } => point.len(),
+            Reason::Cramped { .. } | Reason::Stalled { .. } => 0,
+        },
+        _ => 0,
+    }
+}
+
+/// How many multipliers and how many coordinates the events of a history carry.
+fn carried(history: &[Entry]) -> (usize, usize) {
+    let mut all: (usize, usize) = (0, 0);
+    for entry in history {
+        all.0 = all.0.saturating_add(multipliers(&entry.event));
+        all.1 = all.1.saturating_add(coordinates(&entry.event));
+    }
+    all
+}
+
+/// Searches a small knapsack, and prints the nodes, and how the search ended.
+pub(crate) fn show_search<R: Print>(
+    rt: &R,
+    alloc: Global,
+    columns: u16,
+    seed: u32,
+    budget: u32,
+) -> Result<()> {
+    let mut state = State::new(alloc, small_knapsack(alloc, columns, seed)?)?;
+    let ending = search(alloc, &mut state, budget.min(MOST_NODES));
+    println!(rt; "{} nodes, {}", state.tree().len(), word(ending))?;
+    Ok(())
+}
+
+/// Searches a problem, and prints the nanoseconds, the nodes, how the search ended, the events, and how many multipliers and
+/// coordinates these carry.
+pub(crate) fn time_search<R: Clock + Print>(
+    rt: &R,
+    alloc: Global,
+    problem: Problem,
+    budget: u32,
+) -> Result<()> {
+    let start = Instant::now(rt)?;
+    let mut state = State::new(alloc, problem)?;
+    let ending = search(alloc, &mut state, budget.min(MOST_NODES));
+    let time = start.elapsed(rt)?.as_nanos();
+    let nodes = state.tree().len();
+    let history = state.history();
+    let events = history.len();
+    let (multipliers, coordinates) = carried(history);
+    println!(rt;
+        "{time} {nodes} {} {events} {multipliers} {coordinates}",
+        word(ending)
+    )?;
+    Ok(())
+}

@@ -1,0 +1,174 @@
+-- The answer at the end of a run, as the code makes it.
+use Rattle.std.specs.Prelude.{All, IfSome, IfOk, Result, cond}
+use Rattle.std.proofs.Common.{◌≡◌, ℕ, ◌+◌, ◌*◌, ◌<◌, ◌≤◌, arith, refl, ap, sym, ◌∙◌, subst, Bool, true, false, Option, Some, None, List, [], length, take, drop, map}
+use Rattle.std.specs.Option.{option_map, option_and_then}
+use Rattle.std.proofs.lemmas.Result.{IfOk-weaker}
+use Rattle.std.proofs.lemmas.List.{length-map, length-append, length-take-le, take-append-drop}
+use Rattle.fraction.specs.Rational.{ℚ}
+use Rattle.problem_box.specs.declared.span.Span.{Span}
+use Rattle.problem.specs.declared.row.Row.{Row}
+use Rattle.problem.specs.Linear.{Terms, Multipliers}
+use Rattle.problem.specs.Problem.{Problem}
+use Rattle.derivation_book.specs.declared.cut.Cut.{Cut}
+use Rattle.derivation_book.specs.Known.{known_lines}
+use Rattle.derivation_book.specs.Sums.{Sums}
+use Rattle.derivation_book.specs.Price.{with_columns, price}
+use Rattle.derivation_book.specs.Legal.{AreProofMultipliers}
+use Rattle.derivation_book.specs.Lemmas.Staying.{still_combination, still_combined}
+use Rattle.tableau.specs.declared.place.Place.{Place}
+use Rattle.tableau.specs.declared.place.Place.TheVariants.{NoColumn, Cramped as CrampedRatio}
+use Rattle.tableau.specs.LinearProgram.{variables}
+use Rattle.tableau.specs.Tableau.{Tableau}
+use Rattle.tableau.specs.Place.{place}
+use Rattle.tableau.specs.Start.{started}
+use Rattle.tableau.specs.Run.{RunEnd, EndsAs, run_from}
+use Rattle.tableau.specs.Multipliers.{point_of, mult_of_cost, mult_of_row}
+use Rattle.tableau.specs.Invariants.{IsTableauOf, EndsWithTableauOf}
+use Rattle.tableau.specs.Lemmas.Places.{IsNoColumn, no_column_is}
+use Rattle.tableau.specs.Lemmas.RunKeeps.{run_keeps, lost_cramped}
+use Rattle.dual_simplex.specs.declared.answer.Answer.{Answer}
+use Rattle.dual_simplex.specs.declared.answer.Answer.TheVariants.{Infeasible, Optimal}
+use Rattle.dual_simplex.specs.declared.solution.Solution.{Solution}
+use Rattle.dual_simplex.specs.PointSums.{sums_fit}
+use Rattle.dual_simplex.specs.Answers.{linear_program, pivot_limit, run_of_start, run, infeasible_answer, optimal_answer, answer_or_cramped, answer_at, answer_of_run, answer}
+use Rattle.dual_simplex.specs.Meaning.{IsTableauAt}
+use Rattle.dual_simplex.specs.Ends.{IsEnd, AreMultipliers}
+use Rattle.dual_simplex.specs.Lemmas.Holds.{size, variables_are, start_is_tableau, cost_multipliers_usable, row_multipliers_usable}
+
+abbrev row_of_cut : Cut → Row
+row_of_cut c = c.row
+
+-- ---- the first cuts
+module _ (p : Problem) (cs : List Cut) (k : ℕ) (mult : Multipliers) (usable : AreProofMultipliers p (take k cs) mult) where
+  first_priced : (box : List Span) (target : Terms) → price p cs box target mult ≡ price p (take k cs) box target mult
+  first_priced box target =
+      ap (λ (ds : List Cut). price p ds box target mult) (sym (take-append-drop k cs))
+      ∙ ap (option_and_then (λ (q : Sums). with_columns q.side target 0 q.coefficients box)) (still_combined p (take k cs) (drop k cs) mult usable.combined (length p.spans))
+
+  first_known : All (λ m. m.0 < length (known_lines p cs)) mult
+  first_known =
+      subst (λ (ds : List Cut). All (λ m. m.0 < length (known_lines p ds)) mult) (take-append-drop k cs) (still_combination p (take k cs) (drop k cs) mult usable.combined).earlier
+
+module _ (p : Problem) (cs : List Cut) (k : ℕ) (box : List Span) where
+  abbrev first : List Cut
+  first = take k cs
+
+  sized : (t : Tableau) → IsTableauAt p first box t → IsTableauOf (size p first box) (linear_program p first box) t
+  sized t h = subst (λ n. IsTableauOf n (linear_program p first box) t) (variables_are p first box) h
+
+  -- ---- a tableau that is done
+  pub cost_multipliers : (t : Tableau) → IsTableauAt p first box t → AreMultipliers p cs (mult_of_cost t)
+  cost_multipliers t h =
+      let u = cost_multipliers_usable p first box t (sized t h) in record { rising = u.0; nonzero = u.1; known = first_known p cs k (mult_of_cost t) u.2 }
+
+  -- its price by all cuts is that by the first
+  pub cost_price_same : (t : Tableau) (target : Terms) → IsTableauAt p first box t → price p cs box target (mult_of_cost t) ≡ price p first box target (mult_of_cost t)
+  cost_price_same t target h = first_priced p cs k (mult_of_cost t) (cost_multipliers_usable p first box t (sized t h)).2 box target
+
+  pub optimal_there : (t : Tableau) (v : ℚ) → IsTableauAt p first box t → sums_fit p first (point_of t) ≡ true → price p cs box p.objective (mult_of_cost t) ≡ Some v
+      → Some (Optimal (point_of t) (mult_of_cost t) v) ≡ optimal_answer p first box (point_of t) (mult_of_cost t)
+  optimal_there t v h f e =
+      let u = cost_multipliers_usable p first box t (sized t h) in
+      sym (chosen _ _ f ∙ ap (option_map (λ v. Optimal (point_of t) (mult_of_cost t) v)) (sym (first_priced p cs k (mult_of_cost t) u.2 box p.objective) ∙ e))
+    where
+      chosen : (b : Bool) (o : Option Answer) → b ≡ true → cond b o None ≡ o
+      chosen true o e = refl
+      chosen false o e = cc
+
+  pub optimal_not_priced : (t : Tableau) → IsTableauAt p first box t → price p cs box p.objective (mult_of_cost t) ≡ None → None ≡ optimal_answer p first box (point_of t) (mult_of_cost t)
+  optimal_not_priced t h e =
+      let u = cost_multipliers_usable p first box t (sized t h) in
+      sym (neither (sums_fit p first (point_of t)) _ (ap (option_map (λ v. Optimal (point_of t) (mult_of_cost t) v)) (sym (first_priced p cs k (mult_of_cost t) u.2 box p.objective) ∙ e)))
+    where
+      neither : (b : Bool) (o : Option Answer) → o ≡ None → cond b o None ≡ None
+      neither true o e = e
+      neither false o e = refl
+
+  -- ---- a row that no column can help
+  module _ (t : Tableau) (r : ℕ) (q : Place) (end : IsEnd p first box q t) (here : q ≡ NoColumn r) where
+    whole : q ≡ CrampedRatio → ⊥
+    whole e = let f : NoColumn r ≡ CrampedRatio = sym here ∙ e in cc
+
+    is_tableau : IsTableauOf (size p first box) (linear_program p first box) t
+    is_tableau = sized t (end.tableau whole)
+
+    no_column : IsNoColumn (size p first box) t r
+    no_column = no_column_is (size p first box) t r is_tableau.size (sym (end.place whole) ∙ here)
+
+    pub row_there : r < length t.statuses
+    row_there = omega (arith, no_column.leaving.there, is_tableau.size.statuses)
+
+    pub row_multipliers : AreMultipliers p cs (mult_of_row t r)
+    row_multipliers =
+        let u = row_multipliers_usable p first box t is_tableau r no_column in record { rising = u.0; nonzero = u.1; known = first_known p cs k (mult_of_row t r) u.2 }
+
+    pub row_price_same : price p cs box [] (mult_of_row t r) ≡ price p first box [] (mult_of_row t r)
+    row_price_same = first_priced p cs k (mult_of_row t r) (row_multipliers_usable p first box t is_tableau r no_column).2 box []
+
+    pub infeasible_there : answer_or_cramped t.pivots (infeasible_answer p cs box (mult_of_row t r)) ≡ answer_at p first box t.pivots (Some t) q
+    infeasible_there =
+        let u = row_multipliers_usable p first box t is_tableau r no_column in
+        ap (λ o. answer_or_cramped t.pivots (option_map (λ v. Infeasible (mult_of_row t r)) o)) (first_priced p cs k (mult_of_row t r) u.2 box [])
+        ∙ ap (answer_at p first box t.pivots (Some t)) (sym here)
+
+-- ---- the run
+module _ (p : Problem) (cs : List Cut) (box : List Span) (t u : Tableau) (q : Place) (start : started (linear_program p cs box) ≡ Some t)
+    (ends : EndsAs (run_from (pivot_limit (linear_program p cs box)) t) q u) where
+  abbrev end : RunEnd
+  end = run_from (pivot_limit (linear_program p cs box)) t
+
+  run_is : run (linear_program p cs box) ≡ end
+  run_is = ap (run_of_start (linear_program p cs box)) start
+
+  pub is_end : IsEnd p cs box q u
+  is_end = record {
+    tableau = λ whole. (at end.tableau refl ends.tableau kept.tableau kept.place whole).0;
+    place = λ whole. (at end.tableau refl ends.tableau kept.tableau kept.place whole).1;
+  }
+    where
+      h : IsTableauAt p cs box t
+      h = subst (λ n. IsTableauOf n (linear_program p cs box) t) (sym (variables_are p cs box)) (start_is_tableau p cs box t start)
+
+      kept : EndsWithTableauOf (variables (linear_program p cs box)) (linear_program p cs box) end
+      kept = run_keeps (variables (linear_program p cs box)) (linear_program p cs box) (pivot_limit (linear_program p cs box)) t h
+
+      at : (o : Option Tableau) → end.tableau ≡ o → IfSome o (λ v. u ≡ v) → IfSome o (IsTableauAt p cs box) → IfSome o (λ v. end.place ≡ place v) → (q ≡ CrampedRatio → ⊥)
+          → IsTableauAt p cs box u × (q ≡ place u)
+      at None f g i j whole = absurd (whole (ends.place ∙ lost_cramped (pivot_limit (linear_program p cs box)) t f))
+      at (Some v) f g i j whole = (subst (IsTableauAt p cs box) (sym g) i, ends.place ∙ j ∙ ap place (sym g))
+
+  pub answer_is : answer_at p cs box u.pivots (Some u) q ≡ answer p cs box
+  answer_is = at end.tableau refl ends.tableau ∙ ap (answer_of_run p cs box) (sym run_is)
+    where
+      at : (o : Option Tableau) → end.tableau ≡ o → IfSome o (λ v. u ≡ v) → answer_at p cs box u.pivots (Some u) q ≡ answer_at p cs box end.pivots end.tableau end.place
+      at (Some v) f g = (λ i. answer_at p cs box (ends.pivots i) (Some (g i)) (ends.place i)) ∙ ap (λ o. answer_at p cs box end.pivots o end.place) (sym f)
+      at None f g =
+          (λ i. answer_at p cs box (ends.pivots i) (Some u) ((ends.place ∙ lost_cramped (pivot_limit (linear_program p cs box)) t f) i)) ∙ ap (λ o. answer_at p cs box end.pivots o end.place) (sym f)
+
+  pub left_is : IfSome (run (linear_program p cs box)).tableau (λ v. Some u ≡ Some v)
+  left_is = subst (λ (e : RunEnd). IfSome e.tableau (λ v. Some u ≡ Some v)) (sym run_is) (at end.tableau ends.tableau)
+    where
+      at : (o : Option Tableau) → IfSome o (λ v. u ≡ v) → IfSome o (λ v. Some u ≡ Some v)
+      at None g = tt
+      at (Some v) g = ap Some g
+
+  -- of a solution
+  pub answers : {E : Type 0} (r : Result Solution E) → IfOk r (λ (s : Solution). s.answer ≡ answer_at p cs box u.pivots (Some u) q) → IfOk r (λ (s : Solution). s.answer ≡ answer p cs box)
+  answers r h =
+      IfOk-weaker r (λ (s : Solution). s.answer ≡ answer_at p cs box u.pivots (Some u) q) (λ (s : Solution). s.answer ≡ answer p cs box) (λ s e. e ∙ answer_is) h
+
+  pub leaves : {E : Type 0} (r : Result Solution E) → IfOk r (λ (s : Solution). s.tableau ≡ Some u) → IfOk r (λ (s : Solution). IfSome (run (linear_program p cs box)).tableau (λ v. s.tableau ≡ Some v))
+  leaves r h =
+      IfOk-weaker r (λ (s : Solution). s.tableau ≡ Some u) (λ (s : Solution). IfSome (run (linear_program p cs box)).tableau (λ v. s.tableau ≡ Some v))
+      (λ s e. subst (λ (o : Option Tableau). IfSome (run (linear_program p cs box)).tableau (λ v. o ≡ Some v)) (sym e) left_is) h
+
+-- ---- how many pivots a run makes at most
+limit_is : (p : Problem) (cs : List Cut) (k : ℕ) (box : List Span) → k ≤ length cs → length box ≡ length p.spans
+    → 20 * (length p.spans + (length p.rows + k)) + 100 ≡ pivot_limit (linear_program p (take k cs) box)
+limit_is p cs k box l columns =
+    ap (λ n. 20 * n + 100) (sym (variables_are p (take k cs) box ∙ (λ i. columns i + (length-append p.rows (map row_of_cut (take k cs)) ∙ ap (λ n. length p.rows + n) (length-map (take k cs) row_of_cut ∙ length-take-le k cs l)) i)))
+
+-- the run with so many pivots is that of the answer; it left tableau u, kept as v
+pub ends_so : (p : Problem) (cs : List Cut) (k : ℕ) (box : List Span) → k ≤ length cs → length box ≡ length p.spans → (n : ℕ) → n ≡ 20 * (length p.spans + (length p.rows + k)) + 100
+    → (t u v : Tableau) (q : Place) → v ≡ u → EndsAs (run_from n t) q u → EndsAs (run_from (pivot_limit (linear_program p (take k cs) box)) t) q v
+ends_so p cs k box l columns n e t u v q same h = subst (EndsAs (run_from (pivot_limit (linear_program p (take k cs) box)) t) q) (sym same) (subst (λ n. EndsAs (run_from n t) q u) (e ∙ limit_is p cs k box l columns) h)

@@ -1,0 +1,47 @@
+use Rattle.std.specs.Prelude.{All, Some}
+use Rattle.std.proofs.Common.{sym, ap, ◌∙◌, subst, ℕ, ◌<◌, length, take}
+use Rattle.fraction.specs.Rational.{ℚ}
+use Rattle.problem.specs.Rising.{AreRising, AreNonzero}
+use Rattle.derivation_book.specs.Known.{known_lines}
+use Rattle.derivation_book.specs.Price.{price}
+use Rattle.dual_simplex.specs.declared.answer.Answer.TheVariants.{Optimal}
+use Rattle.dual_simplex.specs.PointSums.{checked_sum, sums_fit}
+use Rattle.dual_simplex.proofs.Ending.{cost_multipliers, cost_price_same, optimal_there, optimal_not_priced}
+use Rattle.dual_simplex.proofs.answering.optimal_answer.Goals as goal
+
+pub make-mult-requires-clause-rising : goal.make-mult-requires-clause-rising
+make-mult-requires-clause-rising c =
+    subst AreRising (sym c.in_ok-mult_of_cost.ensures) (cost_multipliers c.args.problem.now c.args.book.now.cuts c.args.cuts c.args.area.now c.args.tableau.now c.requires.tableau).rising
+
+pub make-mult-requires-clause-nonzero : goal.make-mult-requires-clause-nonzero
+make-mult-requires-clause-nonzero c =
+    subst AreNonzero (sym c.in_ok-mult_of_cost.ensures) (cost_multipliers c.args.problem.now c.args.book.now.cuts c.args.cuts c.args.area.now c.args.tableau.now c.requires.tableau).nonzero
+
+pub objective_price-requires-clause-known : goal.objective_price-requires-clause-known
+objective_price-requires-clause-known c =
+    subst (All (λ (m : ℕ × ℚ). m.0 < length (known_lines c.args.problem.now c.args.book.now.cuts))) (sym (c.make-mult.ensures ∙ c.in_ok-mult_of_cost.ensures))
+    (cost_multipliers c.args.problem.now c.args.book.now.cuts c.args.cuts c.args.area.now c.args.tableau.now c.requires.tableau).known
+
+pub objective_price-requires-clause-there : goal.objective_price-requires-clause-there
+objective_price-requires-clause-there c = λ q.
+    ap (price c.args.problem.now c.args.book.now.cuts c.args.area.now c.args.problem.now.objective) (c.make-mult.ensures ∙ c.in_ok-mult_of_cost.ensures)
+    ∙ cost_price_same c.args.problem.now c.args.book.now.cuts c.args.cuts c.args.area.now c.args.tableau.now c.args.problem.now.objective c.requires.tableau
+    ∙ (c.requires.there q).priced ∙ ap (checked_sum c.args.problem.now.objective) (sym (c.in_ok-point.ensures ∙ c.in_ok-numbers.ensures))
+
+pub are_sums_there-requires-clause-there : goal.are_sums_there-requires-clause-there
+are_sums_there-requires-clause-there c = λ q.
+    ap (sums_fit c.args.problem.now (take c.args.cuts c.args.book.now.cuts)) (c.in_ok-point.ensures ∙ c.in_ok-numbers.ensures) ∙ (c.requires.there q).sums
+
+pub returns-in-Some : goal.returns-in-Some
+returns-in-Some c =
+    let mult = c.make-mult.ensures ∙ c.in_ok-mult_of_cost.ensures in
+    let point = c.in_ok-point.ensures ∙ c.in_ok-numbers.ensures in
+    (λ i. Some (Optimal (point i) (mult i) c.in-Some.value))
+    ∙ optimal_there c.args.problem.now c.args.book.now.cuts c.args.cuts c.args.area.now c.args.tableau.now c.in-Some.value c.requires.tableau
+    (ap (sums_fit c.args.problem.now (take c.args.cuts c.args.book.now.cuts)) (sym point) ∙ sym c.are_sums_there.ensures ∙ c.if-not-are_sums_there.false)
+    (ap (price c.args.problem.now c.args.book.now.cuts c.args.area.now c.args.problem.now.objective) (sym mult) ∙ sym c.in_ok-value.ensures ∙ c.in-Some.is)
+
+pub returns-in-None : goal.returns-in-None
+returns-in-None c =
+    optimal_not_priced c.args.problem.now c.args.book.now.cuts c.args.cuts c.args.area.now c.args.tableau.now c.requires.tableau
+    (ap (price c.args.problem.now c.args.book.now.cuts c.args.area.now c.args.problem.now.objective) (sym (c.make-mult.ensures ∙ c.in_ok-mult_of_cost.ensures)) ∙ sym c.in_ok-value.ensures ∙ c.in-None.is)

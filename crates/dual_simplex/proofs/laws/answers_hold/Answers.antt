@@ -1,0 +1,5 @@
+use Rattle.dual_simplex.specs.Lemmas.Holds.{answers_hold}
+use Rattle.dual_simplex.proofs.laws.answers_hold.Goals as goal
+
+pub returns : goal.returns
+returns c = answers_hold

@@ -1,0 +1,11 @@
+-- Lemmas that other crates, or the definitions themselves, stand on. Contracts cite none of them.
+pub mod EachOne
+pub mod RationalValues
+pub mod Numbers
+pub mod Prices
+pub mod Below
+pub mod Optimum
+pub mod Holds
+pub mod WholePoints
+pub mod Closing
+pub mod ReadOff

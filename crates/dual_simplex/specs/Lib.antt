@@ -1,0 +1,10 @@
+pub mod Relaxation
+pub mod PointSums
+pub mod Answers
+pub mod Meaning
+pub mod Sizes
+pub mod Prepared
+pub mod Forms
+pub mod Ends
+pub mod Laws
+pub mod Lemmas

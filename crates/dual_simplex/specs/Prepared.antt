@@ -1,0 +1,22 @@
+-- A relaxation that was prepared, to be solved over many boxes.
+use Rattle.std.specs.Prelude.{◌≡◌, ℕ, ◌<◌, ◌^◌, List, Option, IfSome}
+use Rattle.problem.specs.Problem.{Problem}
+use Rattle.derivation_book.specs.declared.cut.Cut.{Cut}
+use Rattle.tableau.specs.LinearProgram.{LinearProgram}
+use Rattle.dual_simplex.specs.Answers.{linear_program}
+use Rattle.dual_simplex.specs.Sizes.{IsIntegerRelaxation}
+
+-- how many cuts it has, and its linear program over the problem's own box, where that has the form of small whole numbers
+pub record Prepared : Type 0 where
+  pub cuts : ℕ
+  pub program : Option LinearProgram
+
+-- the linear program of a problem and these cuts, whose numbers are whole and small
+pub record IsIntegerProgramOf (p : Problem) (cs : List Cut) (lp : LinearProgram) : Type 0 where
+  pub is_program : lp ≡ linear_program p cs p.spans
+  pub integers : IsIntegerRelaxation p cs
+
+-- prepared for a problem and these cuts
+pub record IsRelaxationOf (p : Problem) (cs : List Cut) (r : Prepared) : Type 0 where
+  pub numbered : r.cuts < 2 ^ 27
+  pub program : IfSome r.program (IsIntegerProgramOf p cs)

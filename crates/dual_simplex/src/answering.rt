@@ -1,0 +1,162 @@
+//! The answer at the end of a run.
+
+ghost use Rattle.std.specs.Prelude.{◌≡◌, ◌<◌, ◌≤◌, ◌^◌, [], true, IsTrue, IsSome, IfOk, All, length, take};
+ghost use Rattle.derivation_book.specs.Known.{known_lines};
+ghost use Rattle.derivation_book.specs.Price.{price};
+ghost use Rattle.tableau.specs.Multipliers.{point_of, mult_of_cost, mult_of_row};
+ghost use Rattle.dual_simplex.specs.PointSums.{checked_sum, sums_fit};
+ghost use Rattle.dual_simplex.specs.Answers.{infeasible_answer, optimal_answer, answer_or_cramped, answer_at};
+ghost use Rattle.dual_simplex.specs.Meaning.{IsTableauAt};
+ghost use Rattle.dual_simplex.specs.Ends.{IsEnd, AreMultipliers, IsOptimumThere, IsAnswerThere};
+
+use crate::answer::Answer;
+use crate::final_tableau::FinalTableau;
+use crate::point_sums::checked_sum;
+use crate::sums::sums_fit;
+use derivation_book::Book;
+use fraction::Frac;
+use node_events::{Mult, RationalPoint};
+use problem::Problem;
+use problem_box::IntBox;
+use std::alloc::{AllocError, Global};
+use tableau::Place;
+
+/// Infeasible by the multipliers of a row that no column can help; none exactly where their price is cramped. That it isn't may be known before. The
+/// one error is want of memory.
+fn infeasible_answer(
+    alloc: Global,
+    problem: &Problem,
+    book: &Book,
+    area: &IntBox,
+    tableau: &FinalTableau,
+    row: usize,
+    is_there: bool,
+) -> Result<Option<Answer>, AllocError>
+    requires columns { length area.now ≡ length problem.now.spans }
+    requires row { row < length tableau.now.statuses }
+    requires multipliers { AreMultipliers problem.now book.now.cuts (mult_of_row tableau.now row) }
+    requires there { IsTrue is_there → IsSome (price problem.now book.now.cuts area.now [] (mult_of_row tableau.now row)) }
+    ensures { IfOk result (λ a. a ≡ infeasible_answer problem.now book.now.cuts area.now (mult_of_row tableau.now row)) }
+{
+    let mult = Mult::make(tableau.mult_of_row(alloc, row)?);
+    if is_there {
+        return Ok(Some(Answer::Infeasible { mult }));
+    }
+    match book.price(alloc, problem, area, &[], &mult)? {
+        Some(_) => Ok(Some(Answer::Infeasible { mult })),
+        None => Ok(None),
+    }
+}
+
+/// Whether the sums of the objective, of each row and of the first cuts at a point are there. That they are may be known before.
+fn are_sums_there(
+    problem: &Problem,
+    book: &Book,
+    cuts: usize,
+    point: &RationalPoint,
+    is_there: bool,
+) -> bool
+    requires few { cuts ≤ length book.now.cuts }
+    requires there { IsTrue is_there → sums_fit problem.now (take cuts book.now.cuts) point.now ≡ true }
+    ensures { result ≡ sums_fit problem.now (take cuts book.now.cuts) point.now }
+{
+    is_there || sums_fit(problem, book, cuts, point)
+}
+
+/// The price of the objective by these multipliers; none exactly where it is cramped. Where it is known to be the objective at the point, it is that
+/// sum. The one error is want of memory.
+fn objective_price(
+    alloc: Global,
+    problem: &Problem,
+    book: &Book,
+    area: &IntBox,
+    point: &RationalPoint,
+    mult: &Mult,
+    is_there: bool,
+) -> Result<Option<Frac>, AllocError>
+    requires columns { length area.now ≡ length problem.now.spans }
+    requires known { All (λ m. m.0 < length (known_lines problem.now book.now.cuts)) mult.now }
+    requires there { IsTrue is_there → price problem.now book.now.cuts area.now problem.now.objective mult.now ≡ checked_sum problem.now.objective point.now }
+    ensures { IfOk result (λ v. v ≡ price problem.now book.now.cuts area.now problem.now.objective mult.now) }
+{
+    problem.limits_hold();
+    let objective = problem.objective().as_slice();
+    if is_there {
+        Ok(checked_sum(point, objective))
+    } else {
+        book.price(alloc, problem, area, objective, mult)
+    }
+}
+
+/// Optimal at the point of a tableau that is done; none exactly where the price of its multipliers or a sum at the point is cramped. That none is may be
+/// known before. The one error is want of memory.
+fn optimal_answer(
+    alloc: Global,
+    problem: &Problem,
+    book: &Book,
+    cuts: usize,
+    area: &IntBox,
+    tableau: &FinalTableau,
+    is_there: bool,
+) -> Result<Option<Answer>, AllocError>
+    requires few { cuts ≤ length book.now.cuts }
+    requires columns { length area.now ≡ length problem.now.spans }
+    requires tableau { IsTableauAt problem.now (take cuts book.now.cuts) area.now tableau.now }
+    requires there { IsTrue is_there → IsOptimumThere problem.now (take cuts book.now.cuts) area.now tableau.now }
+    ensures { IfOk result (λ a. a ≡ optimal_answer problem.now (take cuts book.now.cuts) area.now (point_of tableau.now) (mult_of_cost tableau.now)) }
+{
+    let numbers = tableau.point(alloc)?;
+    let point = RationalPoint::make(alloc, numbers)?;
+    if !are_sums_there(problem, book, cuts, &point, is_there) {
+        return Ok(None);
+    }
+    let mult = Mult::make(tableau.mult_of_cost(alloc)?);
+    match objective_price(alloc, problem, book, area, &point, &mult, is_there)? {
+        Some(value) => Ok(Some(Answer::Optimal { point, mult, value })),
+        None => Ok(None),
+    }
+}
+
+/// The answer, or cramped after so many pivots.
+fn answer_or_cramped(pivots: u32, answer: Option<Answer>) -> Answer
+    ensures { result ≡ answer_or_cramped pivots answer }
+{
+    match answer {
+        Some(answer) => answer,
+        None => Answer::Cramped { pivots },
+    }
+}
+
+/// The answer of a run that ended at this place with this tableau. That its sums and prices are there may be known before. The one error is want of
+/// memory.
+pub(crate) fn answer_at(
+    alloc: Global,
+    problem: &Problem,
+    book: &Book,
+    cuts: usize,
+    area: &IntBox,
+    tableau: &FinalTableau,
+    place: Place,
+    is_there: bool,
+) -> Result<Answer, AllocError>
+    requires few { cuts ≤ length book.now.cuts }
+    requires columns { length area.now ≡ length problem.now.spans }
+    requires few_pivots { tableau.now.pivots < 2 ^ 32 }
+    requires end { IsEnd problem.now (take cuts book.now.cuts) area.now place tableau.now }
+    requires there { IsTrue is_there → IsAnswerThere problem.now (take cuts book.now.cuts) area.now place tableau.now }
+    ensures { IfOk result (λ a. a ≡ answer_at problem.now (take cuts book.now.cuts) area.now tableau.now.pivots (Some tableau.now) place) }
+{
+    let pivots = tableau.pivots() as u32;
+    match place {
+        Place::Done => {
+            let answer = optimal_answer(alloc, problem, book, cuts, area, tableau, is_there)?;
+            Ok(answer_or_cramped(pivots, answer))
+        }
+        Place::NoColumn { row } => {
+            let answer = infeasible_answer(alloc, problem, book, area, tableau, row, is_there)?;
+            Ok(answer_or_cramped(pivots, answer))
+        }
+        Place::Pivot { .. } => Ok(Answer::Stalled),
+        Place::Cramped => Ok(Answer::Cramped { pivots }),
+    }
+}

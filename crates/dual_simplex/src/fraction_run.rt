@@ -1,0 +1,62 @@
+//! The run over exact fractions.
+
+ghost use Rattle.std.specs.Prelude.{◌≡◌, ◌<◌, ◌≤◌, ◌^◌, IfOk, IfSome, Some, length, take};
+ghost use Rattle.tableau.specs.Start.{started};
+ghost use Rattle.dual_simplex.specs.Answers.{linear_program, run, answer};
+
+use crate::answer::Answer;
+use crate::final_tableau::FinalTableau;
+use crate::program::linear_program;
+use crate::solution::{Solution, pivot_limit, solution_at};
+use derivation_book::Book;
+use problem::Problem;
+use problem_box::IntBox;
+use std::alloc::{AllocError, Global};
+use tableau::Tableau;
+
+/// The run from a start. The one error is want of memory.
+fn run(
+    alloc: Global,
+    problem: &Problem,
+    book: &Book,
+    cuts: usize,
+    area: &IntBox,
+    start: Tableau,
+) -> Result<Solution, AllocError>
+    requires few { cuts ≤ length book.now.cuts }
+    requires numbered { cuts < 2 ^ 27 }
+    requires columns { length area.now ≡ length problem.now.spans }
+    requires fresh { start.pivots ≡ 0 }
+    requires start { started (linear_program problem.now (take cuts book.now.cuts) area.now) ≡ Some start }
+    ensures answer { IfOk result (λ s. s.answer ≡ answer problem.now (take cuts book.now.cuts) area.now) }
+    ensures tableau { IfOk result (λ s. IfSome (run (linear_program problem.now (take cuts book.now.cuts) area.now)).tableau (λ t. s.tableau ≡ Some t)) }
+{
+    let mut tableau = start;
+    let place = tableau.run(alloc, pivot_limit(problem, cuts))?;
+    let tableau = FinalTableau::of_fractions(tableau);
+    solution_at(alloc, problem, book, cuts, area, place, tableau, false)
+}
+
+/// What the run over exact fractions answers of a problem's rows and the first cuts over a box. The one error is want of memory.
+pub(crate) fn solve_by_fractions(
+    alloc: Global,
+    problem: &Problem,
+    book: &Book,
+    cuts: usize,
+    area: &IntBox,
+) -> Result<Solution, AllocError>
+    requires few { cuts ≤ length book.now.cuts }
+    requires numbered { cuts < 2 ^ 27 }
+    requires columns { length area.now ≡ length problem.now.spans }
+    ensures answer { IfOk result (λ s. s.answer ≡ answer problem.now (take cuts book.now.cuts) area.now) }
+    ensures tableau { IfOk result (λ s. IfSome (run (linear_program problem.now (take cuts book.now.cuts) area.now)).tableau (λ t. s.tableau ≡ Some t)) }
+{
+    let program = linear_program(alloc, problem, book, cuts, area)?;
+    match Tableau::start(alloc, program)? {
+        Some(start) => run(alloc, problem, book, cuts, area, start),
+        None => Ok(Solution {
+            answer: Answer::Cramped { pivots: 0 },
+            tableau: None,
+        }),
+    }
+}

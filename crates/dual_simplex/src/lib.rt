@@ -1,0 +1,21 @@
+//! What the dual simplex answers of the relaxation of a problem and some cuts over a box.
+#![tactic(auto)]
+
+mod answer;
+mod answering;
+mod final_tableau;
+mod fraction_run;
+mod integer_run;
+pub mod laws;
+mod point_sums;
+mod program;
+mod relaxation;
+mod sizes;
+mod solution;
+mod sums;
+
+pub use answer::Answer;
+pub use final_tableau::FinalTableau;
+pub use point_sums::checked_sum;
+pub use relaxation::{Relaxation, solve};
+pub use solution::Solution;

@@ -1,0 +1,141 @@
+//! The relaxation of a problem and cuts, over many boxes.
+
+ghost use Rattle.std.specs.Prelude.{◌≡◌, ◌<◌, ◌≤◌, ◌^◌, IfOk, IfSome, Some, length, take};
+ghost use Rattle.dual_simplex.specs.Answers.{linear_program, run, answer};
+ghost use Rattle.dual_simplex.specs.Prepared.{IsIntegerProgramOf, IsRelaxationOf};
+
+use crate::fraction_run::solve_by_fractions;
+use crate::integer_run::solve_by_integers;
+use crate::program::linear_program;
+use crate::sizes::is_integer_relaxation;
+use crate::solution::Solution;
+use derivation_book::Book;
+use integer_tableau::IntegerProgram;
+use problem::Problem;
+use problem_box::IntBox;
+use std::alloc::{AllocError, Global};
+use std::marker::Model;
+
+/// The relaxation of a problem's rows and the first cuts of its book, prepared once and solved over many boxes.
+///
+/// It is for that problem and that book: each call is given both. A book that has got more cuts since is the same book.
+#[derive(Drop)]
+pub struct Relaxation {
+    cuts: usize,
+    program: Option<IntegerProgram>,
+}
+
+impl Model for Relaxation {
+    ghost use Rattle.dual_simplex.specs.Prepared.{Prepared};
+
+    ghost Value = { Prepared };
+
+    ghost view = { λ r. record { cuts = r.cuts; program = r.program } };
+}
+
+/// The linear program of a problem's rows and the first cuts over the problem's own box, in the form of whole numbers; none where a number isn't whole,
+/// or isn't small. The one error is want of memory.
+fn integer_program(
+    alloc: Global,
+    problem: &Problem,
+    book: &Book,
+    cuts: usize,
+) -> Result<Option<IntegerProgram>, AllocError>
+    requires few { cuts ≤ length book.now.cuts }
+    requires numbered { cuts < 2 ^ 27 }
+    ensures { IfOk result (λ o. IfSome o (IsIntegerProgramOf problem.now (take cuts book.now.cuts))) }
+{
+    if !is_integer_relaxation(problem, book, cuts) {
+        return Ok(None);
+    }
+    let program = linear_program(alloc, problem, book, cuts, problem.root())?;
+    IntegerProgram::of(alloc, &program)
+}
+
+impl Relaxation {
+    /// The relaxation of the problem's rows and the first cuts. The one error is want of memory.
+    pub fn new(
+        alloc: Global,
+        problem: &Problem,
+        book: &Book,
+        cuts: usize,
+    ) -> Result<Relaxation, AllocError>
+        requires few { cuts ≤ length book.now.cuts }
+        requires numbered { cuts < 2 ^ 27 }
+        ensures cuts { IfOk result (λ r. r.cuts ≡ cuts) }
+        ensures prepared { IfOk result (λ r. IsRelaxationOf problem.now (take cuts book.now.cuts) r) }
+    {
+        let program = integer_program(alloc, problem, book, cuts)?;
+        Ok(Relaxation { cuts, program })
+    }
+
+    /// How many of the book's first cuts it has.
+    pub fn cuts(&self) -> usize
+        ensures { result ≡ self.now.cuts }
+    {
+        self.cuts
+    }
+
+    /// What the run on whole numbers answers over a box; none where there is no such run, or it is given up. The one error is want of memory.
+    fn solution_by_integers(
+        &self,
+        alloc: Global,
+        problem: &Problem,
+        book: &Book,
+        area: &IntBox,
+    ) -> Result<Option<Solution>, AllocError>
+        requires few { self.now.cuts ≤ length book.now.cuts }
+        requires prepared { IsRelaxationOf problem.now (take self.now.cuts book.now.cuts) self.now }
+        requires columns { length area.now ≡ length problem.now.spans }
+        ensures answer { IfOk result (λ o. IfSome o (λ s. s.answer ≡ answer problem.now (take self.now.cuts book.now.cuts) area.now)) }
+        ensures tableau { IfOk result (λ o. IfSome o (λ s. IfSome (run (linear_program problem.now (take self.now.cuts book.now.cuts) area.now)).tableau (λ t. s.tableau ≡ Some t))) }
+    {
+        match &self.program {
+            Some(program) => solve_by_integers(alloc, problem, book, self.cuts, area, program),
+            None => Ok(None),
+        }
+    }
+
+    /// What the dual simplex answers over a box, by the least-index run from the rows' values as the basis. Where the run ends with a tableau, that is
+    /// handed out too.
+    ///
+    /// The run goes on whole numbers first. Where that is given up, the one on exact fractions takes its place, from the start. The answer is the
+    /// same. The one error is want of memory.
+    pub fn solve(
+        &self,
+        alloc: Global,
+        problem: &Problem,
+        book: &Book,
+        area: &IntBox,
+    ) -> Result<Solution, AllocError>
+        requires few { self.now.cuts ≤ length book.now.cuts }
+        requires prepared { IsRelaxationOf problem.now (take self.now.cuts book.now.cuts) self.now }
+        requires columns { length area.now ≡ length problem.now.spans }
+        ensures answer { IfOk result (λ s. s.answer ≡ answer problem.now (take self.now.cuts book.now.cuts) area.now) }
+        ensures tableau { IfOk result (λ s. IfSome (run (linear_program problem.now (take self.now.cuts book.now.cuts) area.now)).tableau (λ t. s.tableau ≡ Some t)) }
+    {
+        match self.solution_by_integers(alloc, problem, book, area)? {
+            Some(solution) => Ok(solution),
+            None => solve_by_fractions(alloc, problem, book, self.cuts, area),
+        }
+    }
+}
+
+/// What the dual simplex answers of a problem's rows and the first cuts of a book over one box, as `Relaxation::solve` does.
+///
+/// The one error is want of memory.
+pub fn solve(
+    alloc: Global,
+    problem: &Problem,
+    book: &Book,
+    cuts: usize,
+    area: &IntBox,
+) -> Result<Solution, AllocError>
+    requires few { cuts ≤ length book.now.cuts }
+    requires numbered { cuts < 2 ^ 27 }
+    requires columns { length area.now ≡ length problem.now.spans }
+    ensures answer { IfOk result (λ s. s.answer ≡ answer problem.now (take cuts book.now.cuts) area.now) }
+    ensures tableau { IfOk result (λ s. IfSome (run (linear_program problem.now (take cuts book.now.cuts) area.now)).tableau (λ t. s.tableau ≡ Some t)) }
+{
+    Relaxation::new(alloc, problem, book, cuts)?.solve(alloc, problem, book, area)
+}

@@ -1,0 +1,59 @@
+//! What a run answers.
+
+ghost use Rattle.std.specs.Prelude.{◌≡◌, ◌<◌, ◌≤◌, ◌+◌, ◌*◌, ◌^◌, IsTrue, IfOk, length, take, Some};
+ghost use Rattle.dual_simplex.specs.Answers.{answer_at};
+ghost use Rattle.dual_simplex.specs.Ends.{IsEnd, IsAnswerThere};
+
+use crate::answer::Answer;
+use crate::answering::answer_at;
+use crate::final_tableau::FinalTableau;
+use derivation_book::Book;
+use problem::Problem;
+use problem_box::IntBox;
+use std::alloc::{AllocError, Global};
+use tableau::Place;
+
+/// What a run answers, and the tableau that it left.
+#[derive(Drop)]
+pub struct Solution {
+    /// The answer.
+    pub answer: Answer,
+    /// The tableau at the end of the run. After a cramped pivot it tells only how many pivots were whole; at a cramped start there is none.
+    pub tableau: Option<FinalTableau>,
+}
+
+/// How many pivots a run makes at most.
+pub(crate) fn pivot_limit(problem: &Problem, cuts: usize) -> u64
+    requires { cuts < 2 ^ 27 }
+    ensures value { result ≡ 20 * (length problem.now.spans + (length problem.now.rows + cuts)) + 100 }
+    ensures few { result < 2 ^ 32 }
+{
+    problem.limits_hold();
+    20 * (problem.columns() + (problem.rows() + cuts)) as u64 + 100
+}
+
+/// The answer of a run that ended at this place with this tableau, and the tableau. The one error is want of memory.
+pub(crate) fn solution_at(
+    alloc: Global,
+    problem: &Problem,
+    book: &Book,
+    cuts: usize,
+    area: &IntBox,
+    place: Place,
+    tableau: FinalTableau,
+    is_there: bool,
+) -> Result<Solution, AllocError>
+    requires few { cuts ≤ length book.now.cuts }
+    requires columns { length area.now ≡ length problem.now.spans }
+    requires few_pivots { tableau.pivots < 2 ^ 32 }
+    requires end { IsEnd problem.now (take cuts book.now.cuts) area.now place tableau }
+    requires there { IsTrue is_there → IsAnswerThere problem.now (take cuts book.now.cuts) area.now place tableau }
+    ensures answer { IfOk result (λ s. s.answer ≡ answer_at problem.now (take cuts book.now.cuts) area.now tableau.pivots (Some tableau) place) }
+    ensures tableau { IfOk result (λ s. s.tableau ≡ Some tableau) }
+{
+    let answer = answer_at(alloc, problem, book, cuts, area, &tableau, place, is_there)?;
+    Ok(Solution {
+        answer,
+        tableau: Some(tableau),
+    })
+}

@@ -1,0 +1,60 @@
+//! Whether the sums at a rational point are there.
+
+ghost use Rattle.std.specs.Prelude.{◌≡◌, ◌≤◌, is_some, length, take};
+ghost use Rattle.std.specs.List.{list_all};
+ghost use Rattle.problem.specs.declared.row.Row.{Row as RowValue};
+ghost use Rattle.problem.specs.Rising.{AreRising};
+ghost use Rattle.derivation_book.specs.declared.cut.Cut.{Cut};
+ghost use Rattle.dual_simplex.specs.PointSums.{checked_sum, sums_fit};
+
+use crate::point_sums::checked_sum;
+use derivation_book::Book;
+use node_events::RationalPoint;
+use problem::{Problem, Term};
+
+/// Whether the sum of these terms, whose columns rise, is there.
+fn sum_fits(terms: &[Term], point: &RationalPoint) -> bool
+    requires { AreRising terms.now }
+    ensures { result ≡ is_some (checked_sum terms.now point.now) }
+{
+    checked_sum(point, terms).is_some()
+}
+
+/// Whether the sum of each row of the problem is there.
+fn row_sums_fit(problem: &Problem, point: &RationalPoint) -> bool
+    ensures { result ≡ list_all (λ (r : RowValue). is_some (checked_sum r.terms point.now)) problem.now.rows }
+{
+    problem.limits_hold();
+    for index in 0..problem.rows() {
+        let row = problem.row(index);
+        if !sum_fits(row.terms.as_slice(), point) {
+            return false;
+        }
+    }
+    true
+}
+
+/// Whether the sum of each of the first cuts is there.
+fn cut_sums_fit(book: &Book, cuts: usize, point: &RationalPoint) -> bool
+    requires { cuts ≤ length book.now.cuts }
+    ensures { result ≡ list_all (λ (c : Cut). is_some (checked_sum c.row.terms point.now)) (take cuts book.now.cuts) }
+{
+    for index in 0..cuts {
+        let row = book.cut(index);
+        if !sum_fits(row.terms.as_slice(), point) {
+            return false;
+        }
+    }
+    true
+}
+
+/// Whether the sums of the objective, of each row and of the first cuts at a point are there.
+pub(crate) fn sums_fit(problem: &Problem, book: &Book, cuts: usize, point: &RationalPoint) -> bool
+    requires { cuts ≤ length book.now.cuts }
+    ensures { result ≡ sums_fit problem.now (take cuts book.now.cuts) point.now }
+{
+    problem.limits_hold();
+    sum_fits(problem.objective().as_slice(), point)
+        && row_sums_fit(problem, point)
+        && cut_sums_fit(book, cuts, point)
+}

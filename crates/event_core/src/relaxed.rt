@@ -1,0 +1,126 @@
+// The test of points whose numbers need not be whole.
+ghost use Rattle.std.specs.Prelude.{◌≡◌, ◌≤◌, length, take};
+ghost use Rattle.std.specs.List.{list_all};
+ghost use Rattle.problem.specs.declared.row.Row.{Row as RowValue};
+ghost use Rattle.problem.specs.Rising.{AreRising};
+ghost use Rattle.derivation_book.specs.declared.cut.Cut.{Cut};
+ghost use Rattle.derivation_book.specs.Legal.{has_whole_objective};
+ghost use Rattle.dual_simplex.specs.PointSums.{checked_sum};
+ghost use Rattle.event_core.specs.Feasibility.{stands};
+ghost use Rattle.event_core.specs.Relaxed.{lies_in, lies_in_box, satisfies_row, is_relaxed, is_below_cutoff};
+
+use derivation_book::{Book, reaches};
+use dual_simplex::checked_sum;
+use fraction::Frac;
+use node_events::RationalPoint;
+use problem::{Problem, Row, Sense};
+use problem_box::{IntBox, Span};
+use std::cmp::Ordering;
+
+/// Whether the number lies between the ends of the span.
+fn lies_in(span: Span, number: Frac) -> bool
+    ensures { result ≡ lies_in span number }
+{
+    let low = Frac::of(i128::from(span.lo));
+    let high = Frac::of(i128::from(span.hi));
+    low.cmp(number).is_le() && number.cmp(high).is_le()
+}
+
+/// Whether the point has one number per span, each between the span's ends.
+fn lies_in_box(area: &IntBox, point: &RationalPoint) -> bool
+    ensures { result ≡ lies_in_box area.now point.now }
+{
+    if area.len() != point.len() {
+        return false;
+    }
+    for column in 0..area.len() {
+        let span = area.span(column);
+        let number = point.get(column);
+        if !lies_in(span, number) {
+            return false;
+        }
+    }
+    true
+}
+
+/// Whether a value that compares so with the right side of a row of this sense satisfies it.
+fn stands(sense: Sense, ordering: Ordering) -> bool
+    ensures { result ≡ stands sense ordering }
+{
+    match sense {
+        Sense::G => ordering.is_ge(),
+        Sense::L => ordering.is_le(),
+        Sense::E => ordering.is_eq(),
+    }
+}
+
+/// Whether the sum of a row whose columns rise is there, and satisfies the row.
+fn satisfies_row(point: &RationalPoint, row: &Row) -> bool
+    requires { AreRising row.now.terms }
+    ensures { result ≡ satisfies_row point.now row.now }
+{
+    match checked_sum(point, row.terms.as_slice()) {
+        Some(value) => stands(row.sense, value.cmp(row.rhs)),
+        None => false,
+    }
+}
+
+/// Whether the point satisfies each row of the problem, and each sum is there.
+fn satisfies_rows(problem: &Problem, point: &RationalPoint) -> bool
+    ensures { result ≡ list_all (λ (r : RowValue). satisfies_row point.now r) problem.now.rows }
+{
+    problem.limits_hold();
+    for index in 0..problem.rows() {
+        let row = problem.row(index);
+        if !satisfies_row(point, row) {
+            return false;
+        }
+    }
+    true
+}
+
+/// Whether the point satisfies each of the first cuts, and each sum is there.
+fn satisfies_cuts(book: &Book, cuts: usize, point: &RationalPoint) -> bool
+    requires { cuts ≤ length book.now.cuts }
+    ensures { result ≡ list_all (λ (c : Cut). satisfies_row point.now c.row) (take cuts book.now.cuts) }
+{
+    for index in 0..cuts {
+        let row = book.cut(index);
+        if !satisfies_row(point, row) {
+            return false;
+        }
+    }
+    true
+}
+
+/// Whether the point lies in the box and satisfies all rows and the first cuts, and each sum is there.
+pub fn is_relaxed(
+    problem: &Problem,
+    book: &Book,
+    cuts: usize,
+    area: &IntBox,
+    point: &RationalPoint,
+) -> bool
+    requires { cuts ≤ length book.now.cuts }
+    ensures { result ≡ is_relaxed problem.now (take cuts book.now.cuts) area.now point.now }
+{
+    lies_in_box(area, point) && satisfies_rows(problem, point) && satisfies_cuts(book, cuts, point)
+}
+
+/// Whether the objective is whole.
+fn has_whole_objective(problem: &Problem) -> bool
+    ensures { result ≡ has_whole_objective problem.now }
+{
+    problem.whole_objective()
+}
+
+/// Whether the sum of the objective is there, and, rounded up where the objective is whole, below the cutoff, if there is one.
+pub fn is_below_cutoff(problem: &Problem, cutoff: Option<Frac>, point: &RationalPoint) -> bool
+    ensures { result ≡ is_below_cutoff problem.now cutoff (checked_sum problem.now.objective point.now) }
+{
+    problem.limits_hold();
+    match checked_sum(point, problem.objective().as_slice()) {
+        Some(value) => !reaches(cutoff, has_whole_objective(problem), Some(value)),
+        None => false,
+    }
+}

@@ -1,0 +1,76 @@
+-- One denominator for all numbers of a tableau.
+use Rattle.std.proofs.Common.{◌≡◌, ℕ, zero, suc, ◌-◌, ◌*◌, ◌^◌, ◌≤◌, ◌<◌, arith, ap, sym, ◌∙◌, subst, List, [], ◌∷◌, length, get_or}
+use Rattle.std.specs.Prelude.{ℤ, nat_abs, All}
+use Rattle.std.proofs.Math.Nat.{mul-one, mul-le-mul_right}
+use Rattle.std.proofs.lemmas.Int.{unsigned_abs-mul}
+use Rattle.std.proofs.lemmas.List.Elements.{All-nil, All-cons}
+use Rattle.fraction.specs.Bounds.{Within}
+use Rattle.fraction.specs.Rational.{ℚ, frac, whole}
+use Rattle.integer_tableau.proofs.Fractions.{Within-frac}
+use Rattle.integer_tableau.proofs.Sums.{coefficient_is, numerator_within}
+use Rattle.integer_tableau.specs.Consistent.{IsConsistent}
+use Rattle.integer_tableau.specs.Denominator.{HasDenominator, value_numerator}
+use Rattle.integer_tableau.specs.IntegerTableau.{IntegerTableau, row_of_position, rows_of, tableau_of, value, values_of}
+use Rattle.integer_tableau.specs.Numbers.{IsWithin, number_at}
+use Rattle.integer_tableau.specs.Positions.{coefficient, coefficients, numerator}
+use Rattle.integer_tableau.specs.declared.position.Position.{Position}
+use Rattle.integer_tableau.specs.declared.position.Position.TheVariants.{InBasis, InColumn}
+
+greater : (n a b : ℕ) (x : ℚ) → a ≤ b → Within n a x → Within n b x
+greater n a b x l h = record { divides = h.divides; size = more (nat_abs x.num * n) a b x.den l h.size }
+  where
+    more : (m a b d : ℕ) → a ≤ b → m ≤ a * d → m ≤ b * d
+    more m a b d l h = omega (arith, h, mul-le-mul_right d l)
+
+over : (z : ℤ) (d : ℕ) → 0 < d → nat_abs z ≤ 2 ^ 62 → Within d (2 ^ 62) (frac z d)
+over z d o l = greater d (nat_abs z) (2 ^ 62) (frac z d) l
+    (subst (λ m. Within m (nat_abs z) (frac z d)) (mul-one d) (subst (λ m. Within (d * 1) m (frac z d)) (mul-one (nat_abs z)) (Within-frac z d 1 o)))
+
+whole_over : (z : ℤ) (d : ℕ) → nat_abs z * d ≤ 2 ^ 62 → Within d (2 ^ 62) (whole z)
+whole_over z d l = greater d (nat_abs z * d) (2 ^ 62) (whole z) l (subst (λ m. Within m (nat_abs z * d) (whole z)) (one_times d) (Within-frac z 1 d (omega arith)))
+  where
+    one_times : (d : ℕ) → 1 * d ≡ d
+    one_times d = omega arith
+
+value_within : (d : ℕ) (dd : ℤ) (s : Position) (x v : ℤ) → 0 < d → nat_abs dd ≡ d → nat_abs (value_numerator dd s x v) ≤ 2 ^ 62 → Within d (2 ^ 62) (value d s x v)
+value_within d dd InBasis x v o e l = over v d o l
+value_within d dd (InColumn k) x v o e l = whole_over x d (subst (λ n. n ≤ 2 ^ 62) (unsigned_abs-mul x dd ∙ ap (λ n. nat_abs x * n) e) l)
+
+values_within : (d : ℕ) (dd : ℤ) (ss : List Position) (xs vs : List ℤ) → 0 < d → nat_abs dd ≡ d → length xs ≡ length ss → length vs ≡ length ss
+    → ((v : ℕ) → v < length ss → nat_abs (value_numerator dd (get_or ss v InBasis) (number_at xs v) (number_at vs v)) ≤ 2 ^ 62) → All (Within d (2 ^ 62)) (values_of d ss xs vs)
+values_within d dd [] xs vs o e f g h = All-nil (Within d (2 ^ 62))
+values_within d dd (s ∷ ss) [] vs o e f g h = absurd (omega arith)
+values_within d dd (s ∷ ss) (x ∷ xs) [] o e f g h = absurd (omega arith)
+values_within d dd (s ∷ ss) (x ∷ xs) (v ∷ vs) o e f g h =
+    All-cons (Within d (2 ^ 62)) (value d s x v) (values_of d ss xs vs) (value_within d dd s x v o e (h zero (omega arith)))
+    (values_within d dd ss xs vs o e (omega arith) (omega arith) (λ v l. h (suc v) (omega arith)))
+
+-- ---- rows
+coefficients_within : (d : ℕ) (row : List ℤ) (ss : List Position) → 0 < d → IsWithin (2 ^ 62 - 1) row → All (Within d (2 ^ 62)) (coefficients d ss row)
+coefficients_within d row [] o h = All-nil (Within d (2 ^ 62))
+coefficients_within d row (s ∷ ss) o h = All-cons (Within d (2 ^ 62)) (coefficient d row s) (coefficients d ss row)
+    (subst (Within d (2 ^ 62)) (sym (coefficient_is d row s o)) (over (numerator row s) d o (omega (arith, numerator_within (2 ^ 62 - 1) row s h))))
+    (coefficients_within d row ss o h)
+
+row_within : (d : ℕ) (all : List Position) (s : Position) (row : List ℤ) → 0 < d → IsWithin (2 ^ 62 - 1) row → All (Within d (2 ^ 62)) (row_of_position d all s row)
+row_within d all InBasis row o h = coefficients_within d row all o h
+row_within d all (InColumn k) row o h = All-nil (Within d (2 ^ 62))
+
+rows_within : (d : ℕ) (all ss : List Position) (rows : List (List ℤ)) → 0 < d → ((v : ℕ) → IsWithin (2 ^ 62 - 1) (get_or rows v []))
+    → All (All (Within d (2 ^ 62))) (rows_of (row_of_position d all) ss rows)
+rows_within d all [] rows o h = All-nil (All (Within d (2 ^ 62)))
+rows_within d all (s ∷ ss) [] o h = All-nil (All (Within d (2 ^ 62)))
+rows_within d all (s ∷ ss) (row ∷ rows) o h = All-cons (All (Within d (2 ^ 62))) (row_of_position d all s row) (rows_of (row_of_position d all) ss rows)
+    (row_within d all s row o (h zero)) (rows_within d all ss rows o (λ v. h (suc v)))
+
+-- ---- of the whole tableau
+pub has_denominator : (columns : ℕ) (numbers : List ℕ) (w : IntegerTableau) (dd : ℤ) → IsConsistent w → nat_abs dd ≡ w.denominator
+    → ((v : ℕ) → v < length w.positions → nat_abs (value_numerator dd (get_or w.positions v InBasis) (number_at w.nonbasic_values v) (number_at w.values v)) ≤ 2 ^ 62)
+    → HasDenominator w.denominator (tableau_of columns numbers w)
+has_denominator columns numbers w dd consistent e h = record {
+  positive = consistent.positive;
+  small = consistent.denominator_small;
+  values = values_within w.denominator dd w.positions w.nonbasic_values w.values consistent.positive e consistent.nonbasic_values consistent.values h;
+  reduced_costs = coefficients_within w.denominator w.reduced_costs w.positions consistent.positive consistent.costs_within;
+  rows = rows_within w.denominator w.positions w.positions w.rows consistent.positive consistent.rows_within;
+}

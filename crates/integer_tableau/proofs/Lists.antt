@@ -1,0 +1,143 @@
+-- Steps of the loops over all variables.
+use Rattle.std.proofs.Common.{◌≡◌, ◌≢◌, ℕ, zero, suc, ◌+◌, ◌<◌, ◌≤◌, arith, refl, ap, sym, ◌∙◌, subst, List, [], ◌∷◌, ◌++◌, length, get_or, set, take, below_more, get_or-set_other, get_or-set_same}
+use Rattle.std.specs.Prelude.{eqb}
+use Rattle.std.specs.Int.{w64}
+use Rattle.std.specs.Ordering.{is_eq}
+use Rattle.std.specs.Bool.{one_answer}
+use Rattle.std.proofs.Common.{to_z, of_z}
+use mir.Val.{SFits}
+use Rattle.std.proofs.lemmas.Bool.Decides.{Decides-like, Decides-eqb}
+use Rattle.std.proofs.lemmas.Int.{to_z-of_z}
+use Rattle.std.specs.Prelude.{ℤ, pos, nat_abs, int_lt, ◌<ℤ◌, ◌*ℤ◌, Option, Some, None, map, slice_get}
+use Rattle.std.specs.Option.{IfSome}
+use Rattle.std.specs.Prelude.{IfOk, Result}
+use Rattle.std.proofs.Common.{Ok, Err}
+use Rattle.std.proofs.lemmas.Int.{ints}
+use Rattle.std.proofs.lemmas.List.{length-set}
+use Rattle.fraction.specs.Checked.{compare}
+use Rattle.fraction.specs.Lemmas.Bounds.{whole_parts}
+use Rattle.fraction.specs.Lemmas.Order.{compare_equal}
+use Rattle.fraction.specs.Rational.{frac, whole, ℚ}
+use Rattle.integer_tableau.proofs.Comparing.{above_whole, below_whole}
+use Rattle.integer_tableau.specs.Numbers.{number_at, total_size}
+use Rattle.integer_tableau.specs.Pivot.{IsEliminated, IsSubstitutedValue}
+use Rattle.integer_tableau.specs.Substitution.{IsSolvedRow, IsSubstitutedIfFull, IsSubstitutedRow}
+use Rattle.tableau.specs.Leaving.{is_above, is_below}
+
+pub total_size-take : (xs : List ℤ) (i : ℕ) → i < length xs → total_size (take (suc i) xs) ≡ total_size (take i xs) + nat_abs (number_at xs i)
+total_size-take [] i l = absurd (omega arith)
+total_size-take (x ∷ xs) zero l = omega arith
+total_size-take (x ∷ xs) (suc i) l = omega (arith, total_size-take xs i (omega arith))
+
+pub total_size_more : (xs : List ℤ) (i total more x : ℕ) → i < length xs → total ≡ total_size (take i xs) → x ≡ nat_abs (number_at xs i) → more ≡ total + x → more ≡ total_size (take (i + 1) xs)
+total_size_more xs i total more x l t n m = let e : i + 1 ≡ suc i = omega arith in rw e (omega (arith, t, n, m, total_size-take xs i l))
+
+-- an element more
+pub next_mapped : {A B : Type 0} (f : A → B) (xs : List A) (i : ℕ) (x : A) → slice_get xs i ≡ Some x → map f (take (i + 1) xs) ≡ map f (take i xs) ++ (f x ∷ [])
+next_mapped f xs i x e = ap (λ n. map f (take n xs)) (let q : i + 1 ≡ suc i = omega arith in q) ∙ step f xs i x e
+  where
+    step : {A B : Type 0} (f : A → B) (xs : List A) (i : ℕ) (x : A) → slice_get xs i ≡ Some x → map f (take (suc i) xs) ≡ map f (take i xs) ++ (f x ∷ [])
+    step f [] i x e = cc
+    step f (y ∷ ys) zero x e = let q : y ≡ x = cc in ap (λ y. f y ∷ []) q
+    step f (y ∷ ys) (suc i) x e = ap (λ zs. f y ∷ zs) (step f ys i x e)
+
+pub next_mapped_at : {A B : Type 0} (f : A → B) (xs : List A) (i : ℕ) (d : A) → i < length xs → map f (take (i + 1) xs) ≡ map f (take i xs) ++ (f (get_or xs i d) ∷ [])
+next_mapped_at f xs i d l = ap (λ n. map f (take n xs)) (let q : i + 1 ≡ suc i = omega arith in q) ∙ step f xs i d l
+  where
+    step : {A B : Type 0} (f : A → B) (xs : List A) (i : ℕ) (d : A) → i < length xs → map f (take (suc i) xs) ≡ map f (take i xs) ++ (f (get_or xs i d) ∷ [])
+    step f [] i d l = absurd (omega arith)
+    step f (y ∷ ys) zero d l = refl
+    step f (y ∷ ys) (suc i) d l = ap (λ zs. f y ∷ zs) (step f ys i d (omega arith))
+
+-- an element is replaced
+module _ {X : Type 0} (R : ℕ → X → X → Type 0) (none : X) where
+  pub each_more : (first now : List X) (i : ℕ) (x : X) → i < length now → ((v : ℕ) → v < i → R v (get_or first v none) (get_or now v none))
+      → R i (get_or first i none) x → (v : ℕ) → v < i + 1 → R v (get_or first v none) (get_or (set now i x) v none)
+  each_more first now i x l h r = below_more (λ v. R v (get_or first v none) (get_or (set now i x) v none)) i
+      (λ v m. let ne : v ≢ i = omega arith in subst (R v (get_or first v none)) (sym (get_or-set_other now i v x none ne)) (h v m))
+      (subst (R i (get_or first i none)) (sym (get_or-set_same now i x none l)) r)
+
+pub others_more : {X : Type 0} (none : X) (first now : List X) (i : ℕ) (x : X) → ((v : ℕ) → i ≤ v → get_or now v none ≡ get_or first v none) → (v : ℕ) → i + 1 ≤ v → get_or (set now i x) v none ≡ get_or first v none
+others_more none first now i x h v m = let ne : v ≢ i = omega arith in get_or-set_other now i v x none ne ∙ h v (omega arith)
+
+-- another fact of what is there
+pub if_some : {A : Type 0} (P Q : A → Type 0) (o : Option A) → ((v : A) → P v → Q v) → IfSome o P → IfSome o Q
+if_some P Q None f h = h
+if_some P Q (Some v) f h = f v h
+
+pub if_ok : {A E : Type 0} (P Q : A → Type 0) (r : Result A E) → ((v : A) → P v → Q v) → IfOk r P → IfOk r Q
+if_ok P Q (Err e) f h = h
+if_ok P Q (Ok v) f h = f v h
+
+-- ---- outside a bound
+same_size : (d : ℤ) → pos 0 <ℤ d → 0 < nat_abs d
+same_size d o = omega (arith, ints)
+
+positive_is : (d : ℤ) → pos 0 <ℤ d → pos (nat_abs d) ≡ d
+positive_is d o = omega (arith, ints)
+
+pub above_is : (v u d y : ℤ) → pos 0 <ℤ d → y ≡ u *ℤ d → int_lt y v ≡ is_above (frac v (nat_abs d)) (Some (whole u))
+above_is v u d y o e = rw e (ap (λ z. int_lt (u *ℤ z) v) (sym (positive_is d o)) ∙ sym (above_whole v u (nat_abs d) (same_size d o)))
+
+pub below_is : (v l d y : ℤ) → pos 0 <ℤ d → y ≡ l *ℤ d → int_lt v y ≡ is_below (frac v (nat_abs d)) (Some (whole l))
+below_is v l d y o e = rw e (ap (λ z. int_lt v (l *ℤ z)) (sym (positive_is d o)) ∙ sym (below_whole v l (nat_abs d) (same_size d o)))
+
+-- ---- a pivot's rows
+module _ (r c k d : ℕ) (dd ee : ℤ) (first one two : List (List ℤ)) (row new reduced_costs costs' : List ℤ)
+    (put : one ≡ set first r []) (row_is : row ≡ get_or first r []) (turn : IsSolvedRow k d row new) (dd_is : dd ≡ pos d) (ee_is : ee ≡ pos (nat_abs (number_at row k)))
+    (steps : (v : ℕ) → v < length one → IsSubstitutedIfFull dd ee k new (get_or one v []) (get_or two v [])) (cost : IsSubstitutedRow dd ee k new reduced_costs costs')
+    (many : length two ≡ length one) (apart : r ≢ c) (r_there : r < length first) (c_there : c < length first) (c_empty : get_or first c [] ≡ [])
+    (r_long : length (get_or first r []) ≡ length reduced_costs) (column : k < length reduced_costs) where
+  one_long : length one ≡ length first
+  one_long = ap length put ∙ length-set first r []
+
+  new_long : length new ≡ length reduced_costs
+  new_long = turn.width ∙ ap length row_is ∙ r_long
+
+  -- a row without numbers stays one
+  empty_stays : (v : ℕ) → v < length first → get_or one v [] ≡ [] → get_or two v [] ≡ []
+  empty_stays v l e = (steps v (omega (arith, l, one_long))).other (λ f. omega (arith, f, ap length e, new_long, column)) ∙ e
+
+  one_r : get_or one r [] ≡ []
+  one_r = ap (λ ls. get_or ls r []) put ∙ get_or-set_same first r [] [] r_there
+
+  one_v : (v : ℕ) → v ≢ r → get_or one v [] ≡ get_or first v []
+  one_v v n = ap (λ ls. get_or ls v []) put ∙ get_or-set_other first r v [] [] n
+
+  pub spare_empty : get_or two c [] ≡ []
+  spare_empty = empty_stays c c_there (one_v c (λ e. apart (sym e)) ∙ c_empty)
+
+  at_c : get_or (set two c new) c [] ≡ new
+  at_c = get_or-set_same two c new [] (omega (arith, many, one_long, c_there))
+
+  pub exchange_is : IsEliminated r c k d first (set two c new) reduced_costs costs'
+  exchange_is = record {
+    solved = subst (IsSolvedRow k d (get_or first r [])) (sym at_c) (subst (λ l. IsSolvedRow k d l new) row_is turn);
+    emptied = get_or-set_other two c r new [] apart ∙ empty_stays r r_there one_r;
+    others = λ v l m n.
+        subst (λ s. IsSubstitutedIfFull (pos d) (pos (nat_abs (number_at (get_or first r []) k))) k s (get_or first v []) (get_or (set two c new) v [])) (sym at_c)
+        (subst (λ x. IsSubstitutedIfFull (pos d) (pos (nat_abs (number_at (get_or first r []) k))) k new (get_or first v []) x) (sym (get_or-set_other two c v new [] n))
+        (subst (λ x. IsSubstitutedIfFull (pos d) (pos (nat_abs (number_at (get_or first r []) k))) k new x (get_or two v [])) (one_v v m)
+        (subst (λ z. IsSubstitutedIfFull z (pos (nat_abs (number_at (get_or first r []) k))) k new (get_or one v []) (get_or two v [])) dd_is
+        (subst (λ z. IsSubstitutedIfFull dd z k new (get_or one v []) (get_or two v [])) (ee_is ∙ ap (λ l. pos (nat_abs (number_at l k))) row_is) (steps v (omega (arith, l, one_long)))))));
+    costs =
+        subst (λ s. IsSubstitutedRow (pos d) (pos (nat_abs (number_at (get_or first r []) k))) k s reduced_costs costs') (sym at_c)
+        (subst (λ z. IsSubstitutedRow z (pos (nat_abs (number_at (get_or first r []) k))) k new reduced_costs costs') dd_is
+        (subst (λ z. IsSubstitutedRow dd z k new reduced_costs costs') (ee_is ∙ ap (λ l. pos (nat_abs (number_at l k))) row_is) cost));
+    as_many = length-set two c new ∙ many ∙ one_long;
+  }
+
+pub size_is : (d : ℤ) → pos 0 <ℤ d → d ≡ pos (nat_abs d)
+size_is d o = omega (arith, ints)
+
+pub value_at : (width k : ℕ) (x e t d : ℤ) (l l' : List ℤ) (v v' w w' : ℤ) → l ≡ l' → v ≡ v' → w ≡ w' → IsSubstitutedValue width k x e t d l v w → IsSubstitutedValue width k x e t d l' v' w'
+value_at width k x e t d l l' v v' w w' p q r h = subst (λ l. IsSubstitutedValue width k x e t d l v' w') p (subst (λ v. IsSubstitutedValue width k x e t d l v w') q (subst (IsSubstitutedValue width k x e t d l v) r h))
+
+-- ---- bounds that differ
+pub tie_is : (l u : ℤ) → SFits w64 l → SFits w64 u → eqb (of_z w64 l) (of_z w64 u) ≡ is_eq (compare (whole l) (whole u))
+tie_is l u f g = one_answer (eqb (of_z w64 l) (of_z w64 u)) (is_eq (compare (whole l) (whole u)))
+    (Decides-like (eqb (of_z w64 l) (of_z w64 u))
+    (λ e. ap whole (sym (to_z-of_z w64 l f) ∙ ap (to_z w64) e ∙ to_z-of_z w64 u g))
+    (λ e. ap (of_z w64) (sym (whole_parts l).0 ∙ ap (λ (x : ℚ). x.num) e ∙ (whole_parts u).0))
+    (Decides-eqb (of_z w64 l) (of_z w64 u)))
+    (compare_equal (whole l) (whole u))

@@ -1,0 +1,95 @@
+-- The steps of the inner loop.
+use Rattle.std.proofs.Common.{◌≡◌, ◌≢◌, ℕ, ◌+◌, ◌-◌, ◌*◌, ◌^◌, ◌<◌, ◌≤◌, ℤ, pos, to_z, of_z, List, length, set, arith, ap, ◌∙◌, get_or-set_other, get_or-set_same, below_more, sym, inl, inr}
+use Rattle.std.specs.Prelude.{nat_abs, neg_ℤ, ◌+ℤ◌, ◌-ℤ◌, ◌*ℤ◌}
+use Rattle.std.specs.Int.{w64, w128}
+use Rattle.std.proofs.lemmas.Int.{ints, to_z-of_z, fits_signed_from_abs}
+use Rattle.std.proofs.lemmas.List.{get_or_past}
+use Rattle.std.proofs.lemmas.Bool.{cases_lt}
+use Rattle.std.proofs.lemmas.Nat.{le_or_l, le_or_r}
+use Rattle.std.specs.Int.Bits.{bit_or}
+use Rattle.std.proofs.Math.Nat.{mul-le-mul_right}
+use lib.IntN.{*ℤ_comm}
+use Rattle.fraction.specs.Lemmas.Integers.{neg-mul_ℤ}
+use Rattle.integer_tableau.specs.Numbers.{number_at}
+use Rattle.integer_tableau.specs.Substitution.{IsDifference, IsSubstituted}
+
+pub back64 : (z : ℤ) → nat_abs z < 2 ^ 63 → to_z w64 (of_z w64 z) ≡ z
+back64 z h = to_z-of_z w64 z (fits_signed_from_abs w64 z h)
+
+pub back64_within : (z : ℤ) → nat_abs z ≤ 2 ^ 62 - 1 → to_z w64 (of_z w64 z) ≡ z
+back64_within z h = back64 z (omega arith)
+
+pub back128 : (z : ℤ) → nat_abs z < 2 ^ 127 → to_z w128 (of_z w128 z) ≡ z
+back128 z h = to_z-of_z w128 z (fits_signed_from_abs w128 z h)
+
+pub difference_is : (x y p q : ℤ) → nat_abs x ≤ 2 ^ 125 → nat_abs y ≤ 2 ^ 125 → x ≡ p → y ≡ q
+    → to_z w128 (of_z w128 (to_z w128 (of_z w128 x) -ℤ to_z w128 (of_z w128 y))) ≡ p -ℤ q
+difference_is x y p q h k e f = omega (arith, ints)
+
+abbrev IsDifferenceAt : ℤ → ℤ → ℤ → List ℤ → List ℤ → List ℤ → ℕ → Type 0
+IsDifferenceAt d m q row source new k = number_at new k *ℤ d ≡ number_at source k *ℤ q -ℤ number_at row k *ℤ m
+
+or_zero : (a b : ℕ) → bit_or a b ≡ 0 → (a ≡ 0) × (b ≡ 0)
+or_zero a b e = (omega (arith, le_or_l a b, e), omega (arith, le_or_r a b, e))
+
+pub done_more : (new row source : List ℤ) (i : ℕ) (t d e q : ℤ) (off more : ℕ) → i < length new
+    → (off ≡ 0 → (k : ℕ) → k < i → IsDifferenceAt d e q row source new k)
+    → (more ≡ 0 → t *ℤ d ≡ number_at source i *ℤ q -ℤ number_at row i *ℤ e)
+    → bit_or off more ≡ 0 → (k : ℕ) → k < i + 1 → IsDifferenceAt d e q row source (set new i t) k
+done_more new row source i t d e q off more l h o a =
+    let z = or_zero off more a in
+    below_more (IsDifferenceAt d e q row source (set new i t)) i
+    (λ k m. let ne : k ≢ i = omega arith in ap (λ z. z *ℤ d) (get_or-set_other new i k t (pos 0) ne) ∙ h z.0 k m)
+    (ap (λ z. z *ℤ d) (get_or-set_same new i t (pos 0) l) ∙ o z.1)
+
+pub left_more : (new row : List ℤ) (i : ℕ) (t : ℤ) → ((k : ℕ) → i ≤ k → number_at new k ≡ number_at row k) → (k : ℕ) → i + 1 ≤ k → number_at (set new i t) k ≡ number_at row k
+left_more new row i t h k m = let ne : k ≢ i = omega arith in get_or-set_other new i k t (pos 0) ne ∙ h k (omega arith)
+
+pub all_done : (new row source : List ℤ) (d e q : ℤ) → length new ≡ length row → length row ≡ length source
+    → ((k : ℕ) → k < length row → IsDifferenceAt d e q row source new k) → (k : ℕ) → IsDifferenceAt d e q row source new k
+all_done new row source d e q l m h k = elim (cases_lt k (length row)) [
+  | inl p ↦ h k p
+  | inr p ↦ past k p
+]
+  where
+    past : (k : ℕ) → length row ≤ k → IsDifferenceAt d e q row source new k
+    past k p =
+        ap (λ z. z *ℤ d) (get_or_past new k (pos 0) (omega arith)) ∙ zeros d e q
+        ∙ sym (λ i. get_or_past source k (pos 0) (omega arith) i *ℤ q -ℤ get_or_past row k (pos 0) p i *ℤ e)
+      where
+        zeros : (d e q : ℤ) → pos 0 *ℤ d ≡ pos 0 *ℤ q -ℤ pos 0 *ℤ e
+        zeros d e q = omega (arith, ints)
+
+-- where m is -e
+pub substituted_from : (d d' e m q q' : ℤ) (row source new : List ℤ) → d' ≡ d → m ≡ neg_ℤ e → q' ≡ q → IsDifference d' m q' row source new → IsSubstituted d e q row source new
+substituted_from d d' e m q q' row source new p h r t k =
+    ap (λ z. number_at new k *ℤ z) (sym p) ∙ t k ∙ (λ i. number_at source k *ℤ r i -ℤ number_at row k *ℤ h i)
+    ∙ ap (λ z. number_at source k *ℤ q -ℤ z) (*ℤ_comm (number_at row k) (neg_ℤ e) ∙ neg-mul_ℤ e (number_at row k) ∙ ap neg_ℤ (*ℤ_comm e (number_at row k)))
+    ∙ turn (number_at source k *ℤ q) (number_at row k *ℤ e)
+  where
+    turn : (a b : ℤ) → a -ℤ neg_ℤ b ≡ b +ℤ a
+    turn a b = omega (arith, ints)
+
+pub difference_small : (x y : ℤ) → nat_abs x ≤ 2 ^ 125 → nat_abs y ≤ 2 ^ 125
+    → nat_abs (to_z w128 (of_z w128 (to_z w128 (of_z w128 x) -ℤ to_z w128 (of_z w128 y)))) ≤ 2 ^ 126
+difference_small x y h k = omega (arith, ints)
+
+pub back_neg : (e : ℤ) → nat_abs e < 2 ^ 62 → to_z w64 (of_z w64 (pos 0 -ℤ to_z w64 (of_z w64 e))) ≡ neg_ℤ e
+back_neg e h = omega (arith, ints)
+
+-- ---- with numbers of 64 bits
+pub narrow_more : (new row source : List ℤ) (i : ℕ) (t d m q : ℤ) (off more high far limit : ℕ) → i < length new
+    → (off ≡ 0 → high < limit → (k : ℕ) → k < i → IsDifferenceAt d m q row source new k)
+    → (more ≡ 0 → far < limit → t *ℤ d ≡ number_at source i *ℤ q -ℤ number_at row i *ℤ m)
+    → bit_or off more ≡ 0 → bit_or high far < limit → (k : ℕ) → k < i + 1 → IsDifferenceAt d m q row source (set new i t) k
+narrow_more new row source i t d m q off more high far limit l h o a b =
+    let z = or_zero off more a in
+    below_more (IsDifferenceAt d m q row source (set new i t)) i
+    (λ k n. let ne : k ≢ i = omega arith in ap (λ z. z *ℤ d) (get_or-set_other new i k t (pos 0) ne) ∙ h z.0 (omega (arith, b, le_or_l high far)) k n)
+    (ap (λ z. z *ℤ d) (get_or-set_same new i t (pos 0) l) ∙ o z.1 (omega (arith, b, le_or_r high far)))
+
+pub fits_at : (s q x m : ℤ) (most top : ℕ) → nat_abs s ≤ most → nat_abs x ≤ top → most * nat_abs q + top * nat_abs m < 2 ^ 63 → nat_abs s * nat_abs q + nat_abs x * nat_abs m < 2 ^ 63
+fits_at s q x m most top h k l = omega (arith, l, mul-le-mul_right (nat_abs q) h, mul-le-mul_right (nat_abs m) k)
+
+pub within_half : (t half d : ℕ) → t ≤ half → half * d < 2 ^ 63 → t * d < 2 ^ 63
+within_half t half d h k = omega (arith, k, mul-le-mul_right d h)

@@ -1,0 +1,6 @@
+use Rattle.std.proofs.Common.{ℕ, ◌<◌, ◌≤◌, nat_abs}
+use Rattle.integer_tableau.specs.Numbers.{number_at}
+use Rattle.integer_tableau.proofs.integer_row.greatest_size.Given as goal
+
+abbrev pub invariant-loop-number : goal.invariant-loop-number
+invariant-loop-number l = (k : ℕ) → k < l.number-index → nat_abs (number_at l.row k) ≤ l.size

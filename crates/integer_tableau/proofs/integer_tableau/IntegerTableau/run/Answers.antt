@@ -1,0 +1,32 @@
+use Rattle.std.proofs.Common.{arith, ◌≡◌, ◌+◌, ◌-◌, suc, ℕ, ap, sym, subst, ◌∙◌, ◌⊎◌, inl, inr, refl}
+use Rattle.integer_tableau.specs.Run.{IsEndOf}
+use Rattle.tableau.specs.Place.{place}
+use Rattle.tableau.specs.Run.{EndsAs, RunEnd, continued, run_from}
+use Rattle.tableau.specs.Tableau.{Tableau}
+use Rattle.tableau.specs.declared.place.Place.{Place}
+use Rattle.integer_tableau.proofs.integer_tableau.IntegerTableau.run.Goals as goal
+
+ends : (f : Tableau → RunEnd) (m : RunEnd ⊎ Tableau) (p : Place) (u : Tableau) → IsEndOf m p u → EndsAs (continued f m) p u
+ends f (inl e) p u h = h
+ends f (inr t) p u h = absurd h
+
+at_cap : (n : ℕ) (t s : Tableau) (p : Place) (e : RunEnd) → n ≡ 0 → run_from n t ≡ e → p ≡ place t → EndsAs e p t
+at_cap n t s p e z h q = subst (λ e. EndsAs e p t) (sym (ap (λ n. run_from n t) z) ∙ h) record { place = q; pivots = refl; tableau = refl }
+
+pub returns-in-Err-clause-value : goal.returns-in-Err-clause-value
+returns-in-Err-clause-value c =
+    let e : c.args.cap - c.loop-i._i ≡ suc (c.args.cap - (c.loop-i._i + 1)) = omega arith in
+    rw (← c.loop-i.invariant.same, e) (ends _ _ _ _ (rw c.in-Err.is at c.in_ok-next.ensures.value))
+
+pub loop-i-preserved : goal.loop-i-preserved
+loop-i-preserved c =
+    let e : c.args.cap - c.loop-i._i ≡ suc (c.args.cap - (c.loop-i._i + 1)) = omega arith in
+    let v = rw c.in-Ok.is at c.in_ok-next.ensures.value in
+    let n = rw c.in-Ok.is at c.in_ok-next.ensures.counted in
+    record {
+      same = rw (← c.loop-i.invariant.same, e) (sym (ap (continued (run_from (c.args.cap - (c.loop-i._i + 1)))) v));
+      counted = omega (arith, n, c.loop-i.invariant.counted);
+    }
+
+pub returns-clause-value : goal.returns-clause-value
+returns-clause-value c = at_cap _ c.loop-i.tableau c.loop-i.tableau c.in_ok-place.place _ (omega arith) c.loop-i.invariant.same c.in_ok-place.ensures.value

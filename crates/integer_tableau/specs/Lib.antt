@@ -1,0 +1,14 @@
+pub mod Numbers
+pub mod Substitution
+pub mod Positions
+pub mod IntegerTableau
+pub mod Consistent
+pub mod Denominator
+pub mod Leaving
+pub mod Entering
+pub mod Place
+pub mod Pivot
+pub mod Run
+pub mod IntegerProgram
+pub mod Start
+pub mod Laws

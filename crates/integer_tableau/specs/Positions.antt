@@ -1,0 +1,44 @@
+-- Where the numerators of a variable are: rows have one number for each nonbasic variable, by column.
+use Rattle.std.specs.Prelude.{◌≡◌, ℕ, ℤ, pos, ◌+ℤ◌, ◌*ℤ◌, List, [], ◌∷◌, map, slice_index_or, slice_set}
+use Rattle.fraction.specs.Rational.{ℚ, frac, whole}
+use Rattle.integer_tableau.specs.Numbers.{number_at}
+use Rattle.integer_tableau.specs.declared.position.Position.{Position}
+use Rattle.integer_tableau.specs.declared.position.Position.TheVariants.{InBasis, InColumn}
+
+-- ---- rows by variable
+-- what a row says of a variable: its numerator, 0 for a basic one
+abbrev pub numerator : List ℤ → Position → ℤ
+numerator row InBasis = pos 0
+numerator row (InColumn k) = number_at row k
+
+-- over the denominator d
+abbrev pub coefficient : ℕ → List ℤ → Position → ℚ
+coefficient d row InBasis = whole (pos 0)
+coefficient d row (InColumn k) = frac (number_at row k) d
+
+-- the coefficients of all variables
+abbrev pub coefficients : ℕ → List Position → List ℤ → List ℚ
+coefficients d positions row = map (coefficient d row) positions
+
+-- ---- sums over the variables
+abbrev pub products : List ℤ → List ℤ → ℤ
+products [] xs = pos 0
+products (z ∷ zs) [] = pos 0
+products (z ∷ zs) (x ∷ xs) = z *ℤ x +ℤ products zs xs
+
+-- of numerator times value
+abbrev pub sum_over : List Position → List ℤ → List ℤ → ℤ
+sum_over positions row xs = products (map (numerator row) positions) xs
+
+-- ---- a pivot
+-- column k is that of variable c alone
+abbrev pub IsColumnOf : List Position → ℕ → ℕ → Type 0
+IsColumnOf positions c k = (v : ℕ) → slice_index_or positions v InBasis ≡ InColumn k → v ≡ c
+
+-- variable r takes the column of variable c, which comes into the basis
+abbrev pub positions_exchanged : ℕ → ℕ → ℕ → List Position → List Position
+positions_exchanged r c k positions = slice_set (slice_set positions r (InColumn k)) c InBasis
+
+-- r goes to the bound b, and c, which is basic then, has 0
+abbrev pub nonbasic_values_exchanged : ℕ → ℕ → ℤ → List ℤ → List ℤ
+nonbasic_values_exchanged r c b xs = slice_set (slice_set xs r b) c (pos 0)

@@ -1,0 +1,236 @@
+// Linear programs of whole numbers.
+
+ghost use Rattle.std.specs.Prelude.{◌≡◌, ℕ, ◌<◌, ◌≤◌, ◌-◌, ◌^◌, ◌++◌, [], length, map, drop, IfOk, IfSome, IsTrue, slice_index_or};
+ghost use Rattle.fraction.specs.Rational.{whole};
+ghost use Rattle.std.specs.Option.{option_map};
+ghost use Rattle.tableau.specs.WellFormed.{IsIntegral};
+ghost use Rattle.integer_tableau.specs.Numbers.{IsWithin};
+ghost use Rattle.integer_tableau.specs.IntegerTableau.{fraction_bounds};
+ghost use Rattle.integer_tableau.specs.IntegerProgram.{column_bounds};
+
+use crate::integer_bounds::IntegerBounds;
+use crate::integer_row::IntegerRow;
+use fraction::Frac;
+use problem_box::{IntBox, Span};
+use std::alloc::{AllocError, Global};
+use std::marker::Model;
+use tableau::{Bounds, LinearProgram};
+
+/// A linear program of whole numbers, made ready for tableaus over many boxes. Contracts see the linear program itself.
+#[derive(Drop)]
+pub struct IntegerProgram {
+    pub(crate) rows: Vec<IntegerRow>,
+    pub(crate) costs: IntegerRow,
+    pub(crate) bounds: Vec<IntegerBounds>,
+    pub(crate) numbers: Vec<u32>,
+}
+
+impl Model for IntegerProgram {
+    ghost use Rattle.tableau.specs.LinearProgram.{LinearProgram as Described};
+    ghost use Rattle.integer_tableau.specs.IntegerProgram.{fraction_program, IsReady};
+
+    ghost Value = { Described };
+
+    ghost view = { λ p. fraction_program p.rows.items p.costs p.bounds.items p.numbers.items };
+
+    ghost invariant = { λ p. IsReady p.rows.items p.costs p.bounds.items };
+}
+
+/// The whole number of a fraction; none where it isn't whole, or has more than 64 bits.
+fn integer(fraction: Frac) -> Option<i64>
+    ensures { IfSome result (λ z. whole z ≡ fraction) }
+{
+    if !fraction.is_whole() {
+        return None;
+    }
+    match i64::try_from(fraction.numer()) {
+        Ok(number) => Some(number),
+        Err(_) => None,
+    }
+}
+
+/// The whole numbers of fractions; none where one isn't whole, or is too large. The one error is want of memory.
+fn integers(alloc: Global, fractions: &[Frac]) -> Result<Option<Vec<i64>>, AllocError>
+    ensures { IfOk result (λ o. IfSome o (λ v. map whole v.items ≡ fractions.now)) }
+{
+    let mut numbers = Vec::with_capacity(alloc, fractions.len())?;
+    for fraction in fractions {
+        match integer(*fraction) {
+            Some(number) => numbers.push(number)?,
+            None => return Ok(None),
+        }
+    }
+    Ok(Some(numbers))
+}
+
+/// A bound as a whole number, which may not be there; none where it isn't whole, or is too large.
+fn integer_bound(bound: &Option<Frac>) -> Option<Option<i64>>
+    ensures { IfSome result (λ b. option_map whole b ≡ bound.now) }
+{
+    match *bound {
+        Some(fraction) => match integer(fraction) {
+            Some(number) => Some(Some(number)),
+            None => None,
+        },
+        None => Some(None),
+    }
+}
+
+/// The bounds of a variable as whole numbers; none where one isn't whole, or is too large.
+fn integer_bounds(bounds: &Bounds) -> Option<IntegerBounds>
+    ensures { IfSome result (λ b. fraction_bounds b ≡ bounds.now) }
+{
+    let lower = integer_bound(&bounds.lower)?;
+    let upper = integer_bound(&bounds.upper)?;
+    Some(IntegerBounds { lower, upper })
+}
+
+/// The same for all variables. The one error is want of memory.
+fn all_bounds(alloc: Global, all: &[Bounds]) -> Result<Option<Vec<IntegerBounds>>, AllocError>
+    ensures { IfOk result (λ o. IfSome o (λ v. map fraction_bounds v.items ≡ all.now)) }
+{
+    let mut integers = Vec::with_capacity(alloc, all.len())?;
+    for bounds in all {
+        match integer_bounds(bounds) {
+            Some(bounds) => integers.push(bounds)?,
+            None => return Ok(None),
+        }
+    }
+    Ok(Some(integers))
+}
+
+/// The objective of a linear program in whole numbers; none where one isn't whole, or is too large. The one error is want of memory.
+fn integer_costs(alloc: Global, program: &LinearProgram) -> Result<Option<IntegerRow>, AllocError>
+    ensures { IfOk result (λ o. IfSome o (λ r. map whole r ≡ program.now.costs)) }
+{
+    let costs = program.costs(alloc)?;
+    match integers(alloc, &costs)? {
+        Some(numbers) => Ok(Some(IntegerRow::make(numbers))),
+        None => Ok(None),
+    }
+}
+
+/// A row of a linear program in whole numbers; none where one isn't whole, or is too large. The one error is want of memory.
+fn integer_row(
+    alloc: Global,
+    program: &LinearProgram,
+    row: usize,
+) -> Result<Option<IntegerRow>, AllocError>
+    requires { row < length program.now.rows }
+    ensures value { IfOk result (λ o. IfSome o (λ r. map whole r ≡ slice_index_or program.now.rows row [])) }
+    ensures width { IfOk result (λ o. IfSome o (λ r. length r ≡ length program.now.costs)) }
+{
+    let coefficients = program.row(alloc, row)?;
+    match integers(alloc, &coefficients)? {
+        Some(numbers) => Ok(Some(IntegerRow::make(numbers))),
+        None => Ok(None),
+    }
+}
+
+/// The rows of a linear program in whole numbers; none where one isn't whole, or is too large. The one error is want of memory.
+fn integer_rows(
+    alloc: Global,
+    program: &LinearProgram,
+) -> Result<Option<Vec<IntegerRow>>, AllocError>
+    ensures value { IfOk result (λ o. IfSome o (λ v. map (map whole) v.items ≡ program.now.rows)) }
+    ensures width { IfOk result (λ o. IfSome o (λ v. (i : ℕ) → i < length v.items → length (slice_index_or v.items i []) ≡ length program.now.costs)) }
+{
+    let mut rows = Vec::with_capacity(alloc, program.rows())?;
+    for i in 0..program.rows() {
+        match integer_row(alloc, program, i)? {
+            Some(row) => rows.push(row)?,
+            None => return Ok(None),
+        }
+    }
+    Ok(Some(rows))
+}
+
+/// Whether the numbers of each row are below 2^62 in size.
+fn are_within(rows: &[IntegerRow]) -> bool
+    ensures { IsTrue result → (v : ℕ) → v < length rows.now → IsWithin (2 ^ 62 - 1) (slice_index_or rows.now v []) }
+{
+    for row in rows {
+        if !row.is_within() {
+            return false;
+        }
+    }
+    true
+}
+
+/// The bounds of a column.
+fn column_bounds(span: Span) -> IntegerBounds
+    ensures { result ≡ column_bounds span }
+{
+    IntegerBounds {
+        lower: Some(span.lo),
+        upper: Some(span.hi),
+    }
+}
+
+/// The bounds of the columns of a box. The one error is want of memory.
+fn box_bounds(alloc: Global, area: &IntBox) -> Result<Vec<IntegerBounds>, AllocError>
+    ensures { IfOk result (λ v. v.items ≡ map column_bounds area.now) }
+{
+    let mut bounds = Vec::with_capacity(alloc, area.len())?;
+    for column in 0..area.len() {
+        bounds.push(column_bounds(area.span(column)))?;
+    }
+    Ok(bounds)
+}
+
+/// The bounds of the columns of a box, and behind them those of the rows. The one error is want of memory.
+pub(crate) fn bounds_over(
+    alloc: Global,
+    area: &IntBox,
+    columns: usize,
+    bounds: &[IntegerBounds],
+) -> Result<Vec<IntegerBounds>, AllocError>
+    requires { columns ≤ length bounds.now }
+    ensures { IfOk result (λ v. v.items ≡ map column_bounds area.now ++ drop columns bounds.now) }
+{
+    let mut all = box_bounds(alloc, area)?;
+    all.extend_from_slice(&bounds[columns..])?;
+    Ok(all)
+}
+
+impl IntegerProgram {
+    /// The same linear program. None where a number isn't whole, or is too large. The one error is want of memory.
+    pub fn of(alloc: Global, program: &LinearProgram) -> Result<Option<IntegerProgram>, AllocError>
+        ensures value { IfOk result (λ o. IfSome o (λ p. p ≡ program.now)) }
+        ensures integral { IfOk result (λ o. IfSome o (λ p. IsIntegral p)) }
+    {
+        let Some(costs) = integer_costs(alloc, program)? else {
+            return Ok(None);
+        };
+        let Some(rows) = integer_rows(alloc, program)? else {
+            return Ok(None);
+        };
+        let Some(bounds) = all_bounds(alloc, program.bounds())? else {
+            return Ok(None);
+        };
+        if !costs.is_within() || !are_within(&rows) {
+            return Ok(None);
+        }
+        let numbers = Vec::from_slice(alloc, program.numbers())?;
+        Ok(Some(IntegerProgram {
+            rows,
+            costs,
+            bounds,
+            numbers,
+        }))
+    }
+
+    /// How many columns there are.
+    pub fn columns(&self) -> usize
+        ensures { result ≡ length self.now.costs }
+    {
+        self.costs.width()
+    }
+
+    /// Its numbers are whole.
+    pub fn numbers_are_whole(&self)
+        ensures { IsIntegral self.now }
+    {
+        let _costs = &self.costs;
+    }
+}

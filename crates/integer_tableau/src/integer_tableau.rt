@@ -1,0 +1,88 @@
+// Tableaus on whole numbers.
+
+ghost use Rattle.std.specs.Prelude.{◌≡◌, ◌≢◌, length, IfSome};
+ghost use Rattle.tableau.specs.Place.{place, PlaceIsWithin};
+
+use crate::integer_bounds::IntegerBounds;
+use crate::integer_row::IntegerRow;
+use crate::leaving::leaving;
+use crate::place::place_where_leaving;
+use crate::position::Position;
+use std::marker::Model;
+use tableau::Place;
+
+/// What pivots leave as it is.
+#[derive(Drop)]
+pub(crate) struct Fixed {
+    /// How many columns there are.
+    pub(crate) columns: usize,
+    /// The numbers by which multipliers name the rows.
+    pub(crate) numbers: Vec<u32>,
+    pub(crate) bounds: Vec<IntegerBounds>,
+}
+
+/// A tableau of a linear program on whole numbers over one denominator. Contracts see the tableau of fractions that it stands for.
+///
+/// Variables are numbered from 0: first the columns, then the values of the rows. This is integer pivoting (Edmonds 1967), with the exact
+/// divisions of Bareiss (1968). That a division is exact is tested. A call that would make numbers too large gives up.
+#[derive(Drop)]
+pub struct IntegerTableau {
+    pub(crate) fixed: Fixed,
+    pub(crate) positions: Vec<Position>,
+    pub(crate) at_upper: Vec<bool>,
+    pub(crate) nonbasic_values: Vec<i64>,
+    pub(crate) rows: Vec<IntegerRow>,
+    pub(crate) spare: IntegerRow,
+    pub(crate) reduced_costs: IntegerRow,
+    pub(crate) values: Vec<i128>,
+    pub(crate) denominator: i64,
+    pub(crate) pivots: u64,
+}
+
+impl Model for IntegerTableau {
+    ghost use Rattle.std.specs.Prelude.{◌≡◌, ◌≤◌, [], pos, ◌<ℤ◌, length};
+    ghost use Rattle.tableau.specs.Tableau.{Tableau as Described};
+    ghost use Rattle.integer_tableau.specs.IntegerTableau.{tableau_of, of_parts};
+    ghost use Rattle.integer_tableau.specs.Consistent.{IsConsistent};
+
+    ghost Value = { Described };
+
+    ghost view = { λ t. tableau_of t.fixed.columns t.fixed.numbers.items (of_parts t.fixed.bounds.items t.positions.items t.at_upper.items t.nonbasic_values.items t.rows.items t.reduced_costs t.values.items t.denominator t.pivots) };
+
+    ghost invariant = { λ t. IsConsistent (of_parts t.fixed.bounds.items t.positions.items t.at_upper.items t.nonbasic_values.items t.rows.items t.reduced_costs t.values.items t.denominator t.pivots) × (t.spare ≡ []) × (pos 0 <ℤ t.denominator) × (t.fixed.columns ≤ length t.positions.items) };
+}
+
+impl IntegerTableau {
+    /// How many pivots led here.
+    pub fn pivots(&self) -> u64
+        ensures { result ≡ self.now.pivots }
+    {
+        self.pivots
+    }
+
+    /// What the tableau asks for next; none where the numbers are too large.
+    pub fn next_place(&self) -> Option<Place>
+        ensures value { IfSome result (λ p. p ≡ place self.now) }
+        ensures within { IfSome result (λ p. PlaceIsWithin (length self.now.statuses) p) }
+        ensures exact { IfSome result (λ p. p ≢ Place.Cramped) }
+    {
+        match leaving(
+            &self.positions,
+            &self.fixed.bounds,
+            &self.values,
+            self.denominator,
+        ) {
+            None => Some(Place::Done),
+            Some((row, direction)) => place_where_leaving(
+                row,
+                direction,
+                &self.positions,
+                &self.at_upper,
+                &self.fixed.bounds,
+                &self.rows,
+                &self.reduced_costs,
+                self.denominator,
+            ),
+        }
+    }
+}

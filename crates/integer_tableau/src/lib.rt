@@ -1,0 +1,29 @@
+//! Exact tableaus of a linear program on whole numbers over one denominator: the form of small numbers, beside that of fractions.
+#![tactic(auto)]
+
+mod answers;
+mod denominator;
+mod divisor;
+mod elimination;
+mod entering;
+mod integer_bounds;
+mod integer_program;
+mod integer_row;
+mod integer_tableau;
+pub mod laws;
+mod leaving;
+mod narrow;
+mod pivot;
+mod place;
+mod position;
+mod run;
+mod start;
+mod start_values;
+mod substitution;
+mod values;
+mod wide;
+mod wide_numbers;
+
+pub use integer_program::IntegerProgram;
+pub use integer_tableau::IntegerTableau;
+pub use run::IntegerRunEnd;

@@ -1,0 +1,203 @@
+// The tableau at the start.
+
+ghost use Rattle.std.specs.Prelude.{◌≡◌, ◌+◌, ◌≤◌, ◌++◌, [], pos, length, map, replicate, IfOk, IfSome, OnOk, false, Some};
+ghost use Rattle.tableau.specs.LinearProgram.{variables, over};
+ghost use Rattle.tableau.specs.Start.{started};
+ghost use Rattle.integer_tableau.specs.IntegerProgram.{fraction_program, IsReady};
+ghost use Rattle.integer_tableau.specs.Start.{columns_from, is_negative, start_number, start_numbers};
+
+use crate::integer_bounds::IntegerBounds;
+use crate::integer_program::{IntegerProgram, bounds_over};
+use crate::integer_row::IntegerRow;
+use crate::integer_tableau::{Fixed, IntegerTableau};
+use crate::position::Position;
+use crate::start_values::{nonzero_columns, start_values};
+use crate::values::is_total_small;
+use problem_box::IntBox;
+use std::alloc::{AllocError, Global};
+
+/// The columns' positions. The one error is want of memory.
+fn column_positions(alloc: Global, columns: usize) -> Result<Vec<Position>, AllocError>
+    ensures { IfOk result (λ v. v.items ≡ columns_from 0 columns) }
+{
+    let mut positions = Vec::new(alloc);
+    for column in 0..columns {
+        positions.push(Position::InColumn(column))?;
+    }
+    Ok(positions)
+}
+
+/// The position of each variable, so many rows being basic. The one error is want of memory.
+fn start_positions(alloc: Global, columns: usize, rows: usize) -> Result<Vec<Position>, AllocError>
+    ensures { IfOk result (λ v. v.items ≡ columns_from 0 columns ++ replicate rows Position.InBasis) }
+{
+    let mut positions = column_positions(alloc, columns)?;
+    for _i in 0..rows {
+        positions.push(Position::InBasis)?;
+    }
+    Ok(positions)
+}
+
+/// Whether each column is at its upper bound. The one error is want of memory.
+fn columns_at_upper(alloc: Global, costs: &[i64]) -> Result<Vec<bool>, AllocError>
+    ensures { IfOk result (λ v. v.items ≡ map is_negative costs.now) }
+{
+    let mut at_upper = Vec::new(alloc);
+    for cost in costs {
+        at_upper.push(*cost < 0)?;
+    }
+    Ok(at_upper)
+}
+
+/// Whether each variable is at its upper bound. The one error is want of memory.
+fn start_at_upper(alloc: Global, costs: &[i64], rows: usize) -> Result<Vec<bool>, AllocError>
+    ensures { IfOk result (λ v. v.items ≡ map is_negative costs.now ++ replicate rows false) }
+{
+    let mut at_upper = columns_at_upper(alloc, costs)?;
+    for _i in 0..rows {
+        at_upper.push(false)?;
+    }
+    Ok(at_upper)
+}
+
+/// The value of a column of this cost.
+fn start_number(cost: i64, bounds: &IntegerBounds) -> i64
+    ensures { result ≡ start_number cost bounds.now }
+{
+    if cost < 0 {
+        bounds.upper.unwrap_or(0)
+    } else {
+        bounds.lower.unwrap_or(0)
+    }
+}
+
+/// The value of each column. The one error is want of memory.
+fn column_numbers(
+    alloc: Global,
+    costs: &[i64],
+    bounds: &[IntegerBounds],
+) -> Result<Vec<i64>, AllocError>
+    requires { length costs.now ≤ length bounds.now }
+    ensures { IfOk result (λ v. v.items ≡ start_numbers costs.now bounds.now) }
+{
+    let mut numbers = Vec::new(alloc);
+    for (column, cost) in costs.iter().enumerate() {
+        numbers.push(start_number(*cost, &bounds[column]))?;
+    }
+    Ok(numbers)
+}
+
+/// The bound at which each variable is; 0 for each row. The one error is want of memory.
+fn start_numbers(
+    alloc: Global,
+    costs: &[i64],
+    bounds: &[IntegerBounds],
+    rows: usize,
+) -> Result<Vec<i64>, AllocError>
+    requires { length costs.now ≤ length bounds.now }
+    ensures { IfOk result (λ v. v.items ≡ start_numbers costs.now bounds.now ++ replicate rows (pos 0)) }
+{
+    let mut numbers = column_numbers(alloc, costs, bounds)?;
+    for _i in 0..rows {
+        numbers.push(0)?;
+    }
+    Ok(numbers)
+}
+
+/// So many rows without numerators. The one error is want of memory.
+fn empty_rows(alloc: Global, count: usize) -> Result<Vec<IntegerRow>, AllocError>
+    ensures { IfOk result (λ v. v.items ≡ replicate count []) }
+{
+    let mut rows = Vec::new(alloc);
+    for _i in 0..count {
+        rows.push(IntegerRow::empty(alloc))?;
+    }
+    Ok(rows)
+}
+
+/// Copies of rows behind others. The one error is want of memory.
+fn append_copies(
+    alloc: Global,
+    all: &mut Vec<IntegerRow>,
+    rows: &[IntegerRow],
+) -> Result<(), AllocError>
+    ensures { OnOk result (all.new.items ≡ all.old.items ++ rows.now) }
+{
+    for row in rows {
+        all.push(row.copy(alloc)?)?;
+    }
+    Ok(())
+}
+
+/// The row of each variable: none for the columns. The one error is want of memory.
+fn start_rows(
+    alloc: Global,
+    columns: usize,
+    rows: &[IntegerRow],
+) -> Result<Vec<IntegerRow>, AllocError>
+    ensures { IfOk result (λ v. v.items ≡ replicate columns [] ++ rows.now) }
+{
+    let mut all = empty_rows(alloc, columns)?;
+    append_copies(alloc, &mut all, rows)?;
+    Ok(all)
+}
+
+impl IntegerTableau {
+    /// The tableau of a linear program over a box at the start, where the rows' values are basic and each column is at the bound that its cost
+    /// asks for. None where the numbers are too large. The one error is want of memory.
+    pub fn start(
+        alloc: Global,
+        program: &IntegerProgram,
+        area: &IntBox,
+    ) -> Result<Option<IntegerTableau>, AllocError>
+        requires { length area.now ≡ length program.now.costs }
+        ensures value { IfOk result (λ o. IfSome o (λ t. started (over program.now area.now) ≡ Some t)) }
+        ensures size { IfOk result (λ o. IfSome o (λ t. length t.statuses ≡ variables program.now)) }
+        ensures pivots { IfOk result (λ o. IfSome o (λ t. t.pivots ≡ 0)) }
+    {
+        let bounds = bounds_over(alloc, area, program.costs.width(), &program.bounds)?;
+        let numbers = Vec::from_slice(alloc, &program.numbers)?;
+        IntegerTableau::start_from(alloc, &program.rows, &program.costs, bounds, numbers)
+    }
+
+    /// The same from its parts.
+    fn start_from(
+        alloc: Global,
+        rows: &[IntegerRow],
+        costs: &IntegerRow,
+        bounds: Vec<IntegerBounds>,
+        numbers: Vec<u32>,
+    ) -> Result<Option<IntegerTableau>, AllocError>
+        requires { IsReady rows.now costs.now bounds.items }
+        ensures value { IfOk result (λ o. IfSome o (λ t. started (fraction_program rows.now costs.now bounds.items numbers.items) ≡ Some t)) }
+        ensures size { IfOk result (λ o. IfSome o (λ t. length t.statuses ≡ length costs.now + length rows.now)) }
+        ensures pivots { IfOk result (λ o. IfSome o (λ t. t.pivots ≡ 0)) }
+    {
+        let columns = costs.width();
+        let count = rows.len();
+        let positions = start_positions(alloc, columns, count)?;
+        let at_upper = start_at_upper(alloc, costs.numerators(), count)?;
+        let nonbasic_values = start_numbers(alloc, costs.numerators(), &bounds, count)?;
+        if !is_total_small(&nonbasic_values) {
+            return Ok(None);
+        }
+        let nonzero = nonzero_columns(alloc, &nonbasic_values)?;
+        let values = start_values(alloc, columns, &nonzero, rows)?;
+        Ok(Some(IntegerTableau {
+            fixed: Fixed {
+                columns,
+                numbers,
+                bounds,
+            },
+            positions,
+            at_upper,
+            nonbasic_values,
+            rows: start_rows(alloc, columns, rows)?,
+            spare: IntegerRow::empty(alloc),
+            reduced_costs: costs.copy(alloc)?,
+            values,
+            denominator: 1,
+            pivots: 0,
+        }))
+    }
+}

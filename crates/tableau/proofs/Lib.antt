@@ -1,0 +1,10 @@
+mod Zeros
+mod View
+mod Merging
+mod Substituting
+mod Summing
+mod Pushing
+mod Solving
+mod Eliminating
+mod Programming
+mod Worked

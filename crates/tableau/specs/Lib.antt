@@ -1,0 +1,16 @@
+pub mod Elimination
+pub mod Leaving
+pub mod Entering
+pub mod Tableau
+pub mod Place
+pub mod Pivot
+pub mod Run
+pub mod LinearProgram
+pub mod Sparse
+pub mod SparseSteps
+pub mod Start
+pub mod WellFormed
+pub mod Invariants
+pub mod Multipliers
+pub mod Laws
+pub mod Lemmas
