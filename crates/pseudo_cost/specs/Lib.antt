@@ -1,0 +1,5 @@
+pub mod Gains
+pub mod SideGains
+pub mod ColumnGains
+pub mod Notes
+pub mod Laws

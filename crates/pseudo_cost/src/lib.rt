@@ -1,0 +1,12 @@
+//! Pseudo-costs: by how much a split of each column raised the objective so far, and the column to split by them.
+#![tactic(auto)]
+
+mod column_gains;
+mod costs;
+mod gains;
+pub mod laws;
+mod side;
+
+pub use costs::Costs;
+pub use gains::{GREATEST_GAIN, gain};
+pub use side::Side;
