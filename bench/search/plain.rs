@@ -180,24 +180,38 @@ impl Numbers {
     }
 }
 
-/// Basic variables have a place among the rows, the others one among the columns.
-struct Tableau {
+/// Where a variable stands: basic, or in a column of the tableau.
+#[derive(Clone, Copy, PartialEq)]
+enum Place {
+    Basic,
+    Column(usize),
+}
+
+/// Rows and values are kept of the problem's columns alone: those of a row's variable are a combination of them.
+struct Tableau<'a> {
+    program: &'a Program<'a>,
     bounds: Vec<Bounds>,
-    basic: Vec<usize>,
+    places: Vec<Place>,
     nonbasic: Vec<usize>,
     at_upper: Vec<bool>,
     bound: Vec<i64>,
     rows: Vec<Numbers>,
     costs: Numbers,
-    values: Vec<i128>,
+    values: Vec<i64>,
     denominator: i64,
     pivots: u64,
 }
 
 enum End {
     Done,
-    NoColumn { row: usize, rises: bool },
+    NoColumn { variable: usize, row: Numbers, rises: bool },
     Stalled,
+}
+
+/// A problem with the sum of the sizes in each row.
+struct Program<'a> {
+    problem: &'a Problem,
+    weights: Vec<i64>,
 }
 
 fn row_bounds(row: &Row) -> Bounds {
@@ -207,52 +221,99 @@ fn row_bounds(row: &Row) -> Bounds {
     }
 }
 
-impl Tableau {
-    fn start(problem: &Problem, dense: &[Vec<i64>], area: &[Span]) -> Tableau {
+impl Bounds {
+    /// Whether a value over the denominator has to rise, or has to fall; none where it is within the bounds.
+    fn violation(self, value: i128, denominator: i64) -> Option<bool> {
+        let d = i128::from(denominator);
+        if self.lower.is_some_and(|lower| value < i128::from(lower) * d) {
+            Some(true)
+        } else if self.upper.is_some_and(|upper| value > i128::from(upper) * d) {
+            Some(false)
+        } else {
+            None
+        }
+    }
+}
+
+impl<'a> Tableau<'a> {
+    fn start(program: &'a Program<'a>, area: &[Span]) -> Tableau<'a> {
+        let problem = program.problem;
         let columns = problem.costs.len();
         let at_upper: Vec<bool> = problem.costs.iter().map(|&cost| cost < 0).collect();
         let bound: Vec<i64> = area.iter().zip(&at_upper).map(|(span, &upper)| if upper { span.hi } else { span.lo }).collect();
-        let values = problem.rows.iter().map(|row| row.terms.iter().map(|&(j, a)| i128::from(a) * i128::from(bound[j])).sum()).collect();
         Tableau {
+            program,
             bounds: area
                 .iter()
                 .map(|span| Bounds { lower: Some(span.lo), upper: Some(span.hi) })
                 .chain(problem.rows.iter().map(row_bounds))
                 .collect(),
-            basic: (columns..columns + problem.rows.len()).collect(),
+            places: (0..columns).map(Place::Column).chain(problem.rows.iter().map(|_| Place::Basic)).collect(),
             nonbasic: (0..columns).collect(),
             at_upper,
+            values: bound.clone(),
             bound,
-            rows: dense.iter().map(|row| Numbers::new(row.clone())).collect(),
+            rows: (0..columns).map(|_| Numbers { items: Vec::new(), size: 0 }).collect(),
             costs: Numbers::new(problem.costs.clone()),
-            values,
             denominator: 1,
             pivots: 0,
         }
     }
 
-    /// The place of the basic variable of least number that is outside its bounds, and whether it is to rise.
-    fn leaving(&self) -> Option<(usize, bool)> {
-        let mut best: Option<(usize, bool)> = None;
-        let d = i128::from(self.denominator);
-        for (i, &variable) in self.basic.iter().enumerate() {
-            if best.is_some_and(|(b, _)| self.basic[b] < variable) {
-                continue;
-            }
-            let (bounds, value) = (self.bounds[variable], self.values[i]);
-            if bounds.lower.is_some_and(|lower| value < i128::from(lower) * d) {
-                best = Some((i, true));
-            } else if bounds.upper.is_some_and(|upper| value > i128::from(upper) * d) {
-                best = Some((i, false));
+    /// The numerator of a variable's value.
+    fn value(&self, variable: usize) -> i128 {
+        match variable.checked_sub(self.rows.len()) {
+            None => self.values[variable].into(),
+            Some(row) => self.program.problem.rows[row].terms.iter().map(|&(j, a)| i128::from(a) * i128::from(self.values[j])).sum(),
+        }
+    }
+
+    /// The basic variable of least number that is outside its bounds, its value, and whether it is to rise.
+    fn leaving(&self) -> Option<(usize, i128, bool)> {
+        (0..self.places.len()).filter(|&variable| self.places[variable] == Place::Basic).find_map(|variable| {
+            let value = self.value(variable);
+            let rises = self.bounds[variable].violation(value, self.denominator)?;
+            Some((variable, value, rises))
+        })
+    }
+
+    /// The row of a basic variable; that of a column is taken out. None where a number is too large.
+    fn take_row(&mut self, variable: usize) -> Option<Numbers> {
+        let Some(row) = variable.checked_sub(self.rows.len()) else {
+            return Some(std::mem::replace(&mut self.rows[variable], Numbers { items: Vec::new(), size: 0 }));
+        };
+        let most = self.rows.iter().fold(self.denominator, |most, row| most.max(row.size));
+        if i128::from(self.program.weights[row]) * i128::from(most) >= LIMIT {
+            return self.take_wide_row(row);
+        }
+        let mut items = vec![0; self.nonbasic.len()];
+        for &(j, a) in &self.program.problem.rows[row].terms {
+            match self.places[j] {
+                Place::Column(k) => items[k] += a * self.denominator,
+                Place::Basic => items.iter_mut().zip(&self.rows[j].items).for_each(|(t, s)| *t += a * s),
             }
         }
-        best
+        Some(Numbers::new(items))
+    }
+
+    /// The same where the sizes alone don't show that the numbers are small.
+    fn take_wide_row(&self, row: usize) -> Option<Numbers> {
+        let mut items = vec![0i128; self.nonbasic.len()];
+        for &(j, a) in &self.program.problem.rows[row].terms {
+            let a = i128::from(a);
+            match self.places[j] {
+                Place::Column(k) => items[k] += a * i128::from(self.denominator),
+                Place::Basic => items.iter_mut().zip(&self.rows[j].items).for_each(|(t, &s)| *t += a * i128::from(s)),
+            }
+        }
+        let items: Option<Vec<i64>> = items.into_iter().map(|t| i64::try_from(t).ok().filter(|&t| i128::from(t).abs() < LIMIT)).collect();
+        items.map(Numbers::new)
     }
 
     /// The column of least ratio, and on a tie of the variable of least number.
-    fn entering(&self, row: usize, rises: bool) -> Option<usize> {
+    fn entering(&self, row: &Numbers, rises: bool) -> Option<usize> {
         let mut best: Option<(usize, u64, u64)> = None;
-        for (k, (&t, &d)) in self.rows[row].items.iter().zip(&self.costs.items).enumerate() {
+        for (k, (&t, &d)) in row.items.iter().zip(&self.costs.items).enumerate() {
             let bounds = self.bounds[self.nonbasic[k]];
             if t == 0 || (t > 0) != (rises != self.at_upper[k]) || (bounds.lower.is_some() && bounds.lower == bounds.upper) {
                 continue;
@@ -272,54 +333,71 @@ impl Tableau {
         best.map(|(k, _, _)| k)
     }
 
-    /// None where a number is too large.
-    fn pivot(&mut self, r: usize, k: usize, rises: bool) -> Option<()> {
+    /// Exchanges a basic variable, whose row and value these are, with the one of column k. None where a number is too large.
+    fn pivot(&mut self, variable: usize, mut row: Numbers, value: i128, k: usize, rises: bool) -> Option<()> {
         let old = self.denominator;
         let divisor = Divisor::new(old);
-        let leaving = self.bounds[self.basic[r]];
+        let leaving = self.bounds[variable];
         let bound = if rises { leaving.lower } else { leaving.upper }?;
-        let mut solved = std::mem::replace(&mut self.rows[r], Numbers { items: Vec::new(), size: 0 });
-        let p = solved.items[k];
-        solved.items[k] = -old;
-        let value = self.values[r] - i128::from(p) * i128::from(self.bound[k]) - i128::from(old) * i128::from(bound);
+        let p = row.items[k];
+        row.items[k] = -old;
+        let value = value - i128::from(p) * i128::from(self.bound[k]) - i128::from(old) * i128::from(bound);
         let value = if p > 0 { -value } else { value };
         if p > 0 {
-            solved.items.iter_mut().for_each(|t| *t = -*t);
+            row.items.iter_mut().for_each(|t| *t = -*t);
         }
-        solved.size = solved.size.max(old);
+        row.size = row.size.max(old);
         let e = p.abs();
-        for (i, row) in self.rows.iter_mut().enumerate() {
-            if i == r {
+        for (other, own) in self.rows.iter_mut().zip(&mut self.values) {
+            if other.items.is_empty() {
                 continue;
             }
-            let q = i128::from(row.items[k]);
-            let new = (self.values[i] - q * i128::from(self.bound[k])).checked_mul(e.into())?.checked_add(q.checked_mul(value)?)?;
-            self.values[i] = if old == 1 { new } else { new / i128::from(old) };
-            row.substitute(k, &solved, e, old, divisor)?;
+            let q = i128::from(other.items[k]);
+            let new = (i128::from(*own) - q * i128::from(self.bound[k])).checked_mul(e.into())?.checked_add(q.checked_mul(value)?)?;
+            *own = i64::try_from(if old == 1 { new } else { new / i128::from(old) }).ok()?;
+            other.substitute(k, &row, e, old, divisor)?;
         }
-        self.costs.substitute(k, &solved, e, old, divisor)?;
-        self.rows[r] = solved;
-        self.values[r] = value;
-        std::mem::swap(&mut self.basic[r], &mut self.nonbasic[k]);
-        self.at_upper[k] = !rises;
-        self.bound[k] = bound;
+        self.costs.substitute(k, &row, e, old, divisor)?;
+        self.exchange(variable, k, row, value, bound, rises)?;
         self.denominator = e;
         self.pivots += 1;
+        for (&variable, &bound) in self.nonbasic.iter().zip(&self.bound) {
+            if variable < self.rows.len() {
+                self.values[variable] = bound.checked_mul(e)?;
+            }
+        }
+        Some(())
+    }
+
+    /// Puts the leaving variable into column k, at its bound, and the row and value of the entering one into their place.
+    fn exchange(&mut self, variable: usize, k: usize, row: Numbers, value: i128, bound: i64, rises: bool) -> Option<()> {
+        let entering = self.nonbasic[k];
+        if entering < self.rows.len() {
+            self.rows[entering] = row;
+            self.values[entering] = i64::try_from(value).ok()?;
+        }
+        self.places[entering] = Place::Basic;
+        self.places[variable] = Place::Column(k);
+        self.nonbasic[k] = variable;
+        self.at_upper[k] = !rises;
+        self.bound[k] = bound;
         Some(())
     }
 
     fn run(&mut self) -> Option<End> {
         let cap = 20 * self.bounds.len() as u64 + 100;
         while self.pivots < cap {
-            let Some((r, rises)) = self.leaving() else { return Some(End::Done) };
-            let Some(k) = self.entering(r, rises) else { return Some(End::NoColumn { row: r, rises }) };
-            self.pivot(r, k, rises)?;
+            let Some((variable, value, rises)) = self.leaving() else { return Some(End::Done) };
+            let row = self.take_row(variable)?;
+            let Some(k) = self.entering(&row, rises) else { return Some(End::NoColumn { variable, row, rises }) };
+            self.pivot(variable, row, value, k, rises)?;
         }
         Some(End::Stalled)
     }
 
     /// The multipliers of the rows by the numbers of a list over the columns.
-    fn multipliers(&self, columns: usize, numbers: &[i64]) -> Vec<(u32, Frac)> {
+    fn multipliers(&self, numbers: &[i64]) -> Vec<(u32, Frac)> {
+        let columns = self.rows.len();
         let mut named: Vec<(u32, i64)> = self
             .nonbasic
             .iter()
@@ -331,19 +409,8 @@ impl Tableau {
         named.into_iter().map(|(row, number)| (row, reduced(number.into(), self.denominator))).collect()
     }
 
-    fn point(&self, columns: usize) -> Vec<Frac> {
-        let mut point = vec![Frac { num: 0, den: 1 }; columns];
-        for (&variable, &bound) in self.nonbasic.iter().zip(&self.bound) {
-            if variable < columns {
-                point[variable].num = bound.into();
-            }
-        }
-        for (&variable, &value) in self.basic.iter().zip(&self.values) {
-            if variable < columns {
-                point[variable] = reduced(value, self.denominator);
-            }
-        }
-        point
+    fn point(&self) -> Vec<Frac> {
+        self.values.iter().map(|&value| reduced(value.into(), self.denominator)).collect()
     }
 }
 
@@ -354,35 +421,22 @@ enum Answer {
 }
 
 /// What the dual simplex answers, and the pivots that it took; none where a number is too large.
-fn solve(problem: &Problem, dense: &[Vec<i64>], area: &[Span]) -> Option<(Answer, u64)> {
-    let columns = problem.costs.len();
-    let mut tableau = Tableau::start(problem, dense, area);
+fn solve(program: &Program, area: &[Span]) -> Option<(Answer, u64)> {
+    let columns = program.problem.costs.len();
+    let mut tableau = Tableau::start(program, area);
     let answer = match tableau.run()? {
         End::Done => {
-            let point = tableau.point(columns);
-            let mult = tableau.multipliers(columns, &tableau.costs.items);
-            let d = i128::from(tableau.denominator);
-            let at_bounds: i128 = tableau
-                .nonbasic
-                .iter()
-                .zip(&tableau.bound)
-                .filter(|&(&variable, _)| variable < columns)
-                .map(|(&variable, &bound)| i128::from(problem.costs[variable]) * i128::from(bound) * d)
-                .sum();
-            let basic: i128 = tableau
-                .basic
-                .iter()
-                .zip(&tableau.values)
-                .filter(|&(&variable, _)| variable < columns)
-                .map(|(&variable, &value)| i128::from(problem.costs[variable]) * value)
-                .sum();
-            let value = reduced(at_bounds + basic, tableau.denominator);
-            Answer::Optimal { point, mult, value }
+            let value = program.problem.costs.iter().zip(&tableau.values).map(|(&cost, &value)| i128::from(cost) * i128::from(value)).sum();
+            Answer::Optimal {
+                point: tableau.point(),
+                mult: tableau.multipliers(&tableau.costs.items),
+                value: reduced(value, tableau.denominator),
+            }
         }
-        End::NoColumn { row, rises } => {
-            let signed: Vec<i64> = tableau.rows[row].items.iter().map(|&t| if rises { -t } else { t }).collect();
-            let mut mult = tableau.multipliers(columns, &signed);
-            if let Some(own) = tableau.basic[row].checked_sub(columns) {
+        End::NoColumn { variable, row, rises } => {
+            let signed: Vec<i64> = row.items.iter().map(|&t| if rises { -t } else { t }).collect();
+            let mut mult = tableau.multipliers(&signed);
+            if let Some(own) = variable.checked_sub(columns) {
                 let place = mult.partition_point(|&(row, _)| (row as usize) < own);
                 mult.insert(place, (own as u32, Frac { num: if rises { 1 } else { -1 }, den: 1 }));
             }
@@ -447,8 +501,7 @@ fn least(terms: &[(usize, i64)], area: &[Span], sign: i64) -> i128 {
 }
 
 struct Run<'a> {
-    problem: &'a Problem,
-    dense: Vec<Vec<i64>>,
+    program: &'a Program<'a>,
     objective: Vec<(usize, i64)>,
     nodes: Vec<Node>,
     open: Vec<Open>,
@@ -457,20 +510,15 @@ struct Run<'a> {
     pivots: u64,
 }
 
-fn dense(problem: &Problem) -> Vec<Vec<i64>> {
-    let full = |row: &Row| {
-        let mut numbers = vec![0; problem.costs.len()];
-        row.terms.iter().for_each(|&(column, number)| numbers[column] = number);
-        numbers
-    };
-    problem.rows.iter().map(full).collect()
+fn weights(problem: &Problem) -> Vec<i64> {
+    problem.rows.iter().map(|row| row.terms.iter().map(|&(_, number)| number.abs()).sum()).collect()
 }
 
-impl Run<'_> {
-    fn new(problem: &Problem) -> Run<'_> {
+impl<'a> Run<'a> {
+    fn new(program: &'a Program<'a>) -> Run<'a> {
+        let problem = program.problem;
         Run {
-            problem,
-            dense: dense(problem),
+            program,
             objective: problem.costs.iter().copied().enumerate().filter(|&(_, cost)| cost != 0).collect(),
             nodes: vec![Node { branch: None, ending: None }],
             open: vec![Open { number: 0, area: problem.root.clone() }],
@@ -484,7 +532,7 @@ impl Run<'_> {
         if let Some(column) = area.iter().position(|span| span.hi < span.lo) {
             return Verdict::Empty(column as u32);
         }
-        for (index, row) in self.problem.rows.iter().enumerate() {
+        for (index, row) in self.program.problem.rows.iter().enumerate() {
             if row.sense != Sense::AtLeast && least(&row.terms, area, 1) > row.rhs.into() {
                 return Verdict::Refuted(index as u32, -1);
             }
@@ -520,7 +568,7 @@ impl Run<'_> {
 
     /// How a node ends by its linear program; the node comes back where the budget is spent.
     fn relax(&mut self, node: Open, budget: usize) -> Option<Option<Open>> {
-        let (answer, pivots) = solve(self.problem, &self.dense, &node.area)?;
+        let (answer, pivots) = solve(self.program, &node.area)?;
         self.pivots += pivots;
         let ending = match answer {
             Answer::Infeasible(mult) => Ending::Refute { mult },
@@ -593,7 +641,8 @@ fn main() -> Result<(), Box<dyn Error>> {
     let problem = read(&fs::read_to_string(model)?).ok_or("a model that can't be read")?;
     let budget: usize = budget.parse()?;
     let start = Instant::now();
-    let mut run = Run::new(&problem);
+    let program = Program { problem: &problem, weights: weights(&problem) };
+    let mut run = Run::new(&program);
     while run.step(budget).ok_or("a number is too large")? {}
     let time = start.elapsed().as_nanos();
     let ending = if run.open.is_empty() { "finished" } else { "spent" };

@@ -3,14 +3,14 @@
 #![tactic(auto)]
 
 mod claims;
-mod generator;
 mod models;
 mod searches;
 
 use anyhow::{Result, bail};
+use case_tools::problem_of;
 use claims::claim_often;
 use event_core::State;
-use models::{problem_of, small_knapsack};
+use models::small_knapsack;
 use searches::{show_search, time_search};
 use std::alloc::Global;
 use std::rt::Clock;

@@ -1,20 +1,9 @@
-// Problems, as the reader of models makes them.
+// Models of knapsacks.
 
-use crate::generator::Generator;
-use anyhow::{Result, bail};
-use mps_reader::read_mps;
+use anyhow::Result;
+use case_tools::{Generator, problem_of};
 use problem::Problem;
 use std::alloc::Global;
-use std::hash::{BuildHasherDefault, DefaultHasher};
-
-/// The problem of a text in free MPS. A text that is refused is an error.
-pub(crate) fn problem_of(alloc: Global, text: &[u8]) -> Result<Problem> {
-    let keys: BuildHasherDefault<DefaultHasher> = BuildHasherDefault::new();
-    match read_mps(alloc, keys, text, None) {
-        Ok(problem) => Ok(problem),
-        Err(fault) => bail!("a model that is refused: {fault:?}"),
-    }
-}
 
 /// A knapsack over columns of 0 and 1: weights and values from 1 to 200, and room for about half the weights.
 pub(crate) fn small_knapsack(alloc: Global, columns: u16, seed: u32) -> Result<Problem> {
@@ -22,8 +11,8 @@ pub(crate) fn small_knapsack(alloc: Global, columns: u16, seed: u32) -> Result<P
     let mut text = String::new(alloc);
     text.push_str("NAME knapsack\nROWS\n N cost\n L weight\nCOLUMNS\n m 'MARKER' 'INTORG'\n")?;
     for column in 0..columns {
-        let cost = generator.between(-200, -1);
-        let weight = generator.between(1, 200);
+        let cost = i64::from(generator.below(200)) - 200;
+        let weight = generator.below(200) + 1;
         write!(text, " x{column} cost {cost} weight {weight}\n")?;
     }
     let room = u32::from(columns) * 50;

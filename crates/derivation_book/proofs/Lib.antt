@@ -1,2 +1,4 @@
+mod ByColumns
 mod Leaving
 mod Worked
+mod WholeSums

@@ -173,8 +173,8 @@ impl Book {
         }
     }
 
-    /// The combination of known rows; none exactly where a product or a sum is cramped. The one error is want of memory.
-    pub(crate) fn combine(
+    /// The combination of known rows by sums of fractions; none exactly where a product or a sum is cramped. The one error is want of memory.
+    pub(crate) fn combine_by_fractions(
         &self,
         alloc: Global,
         problem: &Problem,

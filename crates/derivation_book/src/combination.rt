@@ -40,7 +40,7 @@ pub(crate) fn with_product(total: Frac, factor: Frac, number: Frac) -> Option<Fr
 }
 
 /// So many zeros.
-fn zeros(alloc: Global, count: usize) -> Result<Vec<Frac>, AllocError>
+pub(crate) fn zeros(alloc: Global, count: usize) -> Result<Vec<Frac>, AllocError>
     ensures { IfOk result (λ v. v.items ≡ replicate count (whole (pos 0))) }
 {
     let mut items = Vec::with_capacity(alloc, count)?;
@@ -51,7 +51,7 @@ fn zeros(alloc: Global, count: usize) -> Result<Vec<Frac>, AllocError>
 }
 
 /// Adds a multiple of one term, if its column is there. Where that is cramped the answer is false.
-fn add_term(sums: &mut [Frac], factor: Frac, column: u32, coefficient: Frac) -> bool
+pub(crate) fn add_term(sums: &mut [Frac], factor: Frac, column: u32, coefficient: Frac) -> bool
     requires { All FitsFraction sums.old }
     ensures sums { let added = columns_added sums.old 0 factor ((column, coefficient) ∷ []) in MatchBool result (added ≡ Some sums.new) (added ≡ None) }
     ensures held { All FitsFraction sums.new }
@@ -70,7 +70,7 @@ fn add_term(sums: &mut [Frac], factor: Frac, column: u32, coefficient: Frac) -> 
 }
 
 /// Adds a multiple of terms whose columns rise. Where that is cramped the answer is false.
-fn add_terms(sums: &mut [Frac], factor: Frac, terms: &[Term]) -> bool
+pub(crate) fn add_terms(sums: &mut [Frac], factor: Frac, terms: &[Term]) -> bool
     requires held { All FitsFraction sums.old }
     requires rising { AreRising terms.now }
     ensures sums { let added = columns_added sums.old 0 factor terms.now in MatchBool result (added ≡ Some sums.new) (added ≡ None) }

@@ -6,6 +6,7 @@
 #![tactic(auto)]
 
 mod book;
+mod columns;
 mod combination;
 mod cut;
 mod cut_rows;
@@ -13,6 +14,8 @@ pub mod laws;
 mod legal;
 mod place;
 mod price;
+mod whole_combination;
+mod whole_sums;
 
 pub use book::Book;
 pub use cut::Cut;

@@ -21,8 +21,8 @@ use problem_box::IntBox;
 use std::alloc::{AllocError, Global};
 use tableau::Place;
 
-/// Infeasible by the multipliers of a row that no column can help; none exactly where their price is cramped. That it isn't may be known before. The
-/// one error is want of memory.
+/// Infeasible by the multipliers of a row that no column can help; none exactly where their price is cramped. Where `is_there` says that it isn't, it
+/// isn't computed. The one error is want of memory.
 fn infeasible_answer(
     alloc: Global,
     problem: &Problem,
@@ -48,7 +48,7 @@ fn infeasible_answer(
     }
 }
 
-/// Whether the sums of the objective, of each row and of the first cuts at a point are there. That they are may be known before.
+/// Whether the sums of the objective, of each row and of the first cuts at a point are there. Where `is_there` says so, they aren't computed.
 fn are_sums_there(
     problem: &Problem,
     book: &Book,
@@ -63,8 +63,8 @@ fn are_sums_there(
     is_there || sums_fit(problem, book, cuts, point)
 }
 
-/// The price of the objective by these multipliers; none exactly where it is cramped. Where it is known to be the objective at the point, it is that
-/// sum. The one error is want of memory.
+/// The price of the objective by these multipliers; none exactly where it is cramped. Where `is_there` says that it is the objective at the point, it is
+/// computed as that. The one error is want of memory.
 fn objective_price(
     alloc: Global,
     problem: &Problem,
@@ -88,8 +88,8 @@ fn objective_price(
     }
 }
 
-/// Optimal at the point of a tableau that is done; none exactly where the price of its multipliers or a sum at the point is cramped. That none is may be
-/// known before. The one error is want of memory.
+/// Optimal at the point of a tableau that is done; none exactly where the price of its multipliers or a sum at the point is cramped. `is_there` says
+/// that none is. The one error is want of memory.
 fn optimal_answer(
     alloc: Global,
     problem: &Problem,
@@ -127,8 +127,8 @@ fn answer_or_cramped(pivots: u32, answer: Option<Answer>) -> Answer
     }
 }
 
-/// The answer of a run that ended at this place with this tableau. That its sums and prices are there may be known before. The one error is want of
-/// memory.
+/// The answer of a run that ended at this place with this tableau. `is_there` says that none of its sums is cramped, so that they need no test; where
+/// it is false, they are tested. The one error is want of memory.
 pub(crate) fn answer_at(
     alloc: Global,
     problem: &Problem,

@@ -13,12 +13,12 @@ use tableau::Tableau;
 /// The tableau that a run left, in the form in which the run made it. Contracts see the tableau of fractions.
 #[derive(Drop)]
 pub struct FinalTableau {
-    form: Form,
+    pub(crate) form: Form,
 }
 
 /// How the numbers are kept.
 #[derive(Drop)]
-enum Form {
+pub(crate) enum Form {
     /// Whole numbers over one denominator.
     Integers(IntegerTableau),
     /// A fraction each.

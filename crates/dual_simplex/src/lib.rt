@@ -9,6 +9,7 @@ mod integer_run;
 pub mod laws;
 mod point_sums;
 mod program;
+mod reading;
 mod relaxation;
 mod sizes;
 mod solution;

@@ -32,7 +32,7 @@ pub(crate) fn pivot_limit(problem: &Problem, cuts: usize) -> u64
     20 * (problem.columns() + (problem.rows() + cuts)) as u64 + 100
 }
 
-/// The answer of a run that ended at this place with this tableau, and the tableau. The one error is want of memory.
+/// The answer of a run that ended at this place with this tableau, as `answer_at` gives it, and the tableau. The one error is want of memory.
 pub(crate) fn solution_at(
     alloc: Global,
     problem: &Problem,

@@ -9,7 +9,8 @@ use Rattle.fraction.specs.Rational.{ℚ}
 use Rattle.integer_tableau.proofs.RowsByVariable.{row_solved, row_substituted}
 use Rattle.integer_tableau.specs.IntegerTableau.{row_of_position, rows_of}
 use Rattle.integer_tableau.specs.Numbers.{IsWithin, number_at}
-use Rattle.integer_tableau.specs.Positions.{IsColumnOf, coefficients, positions_exchanged}
+use Rattle.integer_tableau.specs.Positions.{IsColumnOf, coefficients}
+use Rattle.integer_tableau.proofs.Exchanges.{positions_exchanged}
 use Rattle.integer_tableau.specs.Substitution.{IsSolved, IsSubstituted}
 use Rattle.integer_tableau.specs.declared.position.Position.{Position}
 use Rattle.integer_tableau.specs.declared.position.Position.TheVariants.{InBasis, InColumn}

@@ -1,15 +1,18 @@
 -- One denominator for all numbers of a tableau.
-use Rattle.std.proofs.Common.{◌≡◌, ℕ, zero, suc, ◌-◌, ◌*◌, ◌^◌, ◌≤◌, ◌<◌, arith, ap, sym, ◌∙◌, subst, List, [], ◌∷◌, length, get_or}
-use Rattle.std.specs.Prelude.{ℤ, nat_abs, All}
+use Rattle.std.proofs.Common.{◌≡◌, ℕ, zero, suc, ◌+◌, ◌-◌, ◌*◌, ◌^◌, ◌≤◌, ◌<◌, arith, ap, sym, ◌∙◌, subst, List, [], ◌∷◌, length, get_or, inl, inr}
+use Rattle.std.specs.Prelude.{ℤ, pos, ◌<ℤ◌, nat_abs, All}
 use Rattle.std.proofs.Math.Nat.{mul-one, mul-le-mul_right}
 use Rattle.std.proofs.lemmas.Int.{unsigned_abs-mul}
 use Rattle.std.proofs.lemmas.List.Elements.{All-nil, All-cons}
 use Rattle.fraction.specs.Bounds.{Within}
 use Rattle.fraction.specs.Rational.{ℚ, frac, whole}
+use Rattle.integer_tableau.proofs.Expanded.{value_of_column, value_of_row, which}
 use Rattle.integer_tableau.proofs.Fractions.{Within-frac}
+use Rattle.integer_tableau.proofs.Lists.{size_is}
 use Rattle.integer_tableau.proofs.Sums.{coefficient_is, numerator_within}
 use Rattle.integer_tableau.specs.Consistent.{IsConsistent}
-use Rattle.integer_tableau.specs.Denominator.{HasDenominator, value_numerator}
+use Rattle.integer_tableau.specs.Combined.{IsCompact, combined_value, expanded, value_numerator}
+use Rattle.integer_tableau.specs.Denominator.{HasDenominator}
 use Rattle.integer_tableau.specs.IntegerTableau.{IntegerTableau, row_of_position, rows_of, tableau_of, value, values_of}
 use Rattle.integer_tableau.specs.Numbers.{IsWithin, number_at}
 use Rattle.integer_tableau.specs.Positions.{coefficient, coefficients, numerator}
@@ -64,13 +67,30 @@ rows_within d all (s ∷ ss) (row ∷ rows) o h = All-cons (All (Within d (2 ^ 6
     (row_within d all s row o (h zero)) (rows_within d all ss rows o (λ v. h (suc v)))
 
 -- ---- of the whole tableau
-pub has_denominator : (columns : ℕ) (numbers : List ℕ) (w : IntegerTableau) (dd : ℤ) → IsConsistent w → nat_abs dd ≡ w.denominator
-    → ((v : ℕ) → v < length w.positions → nat_abs (value_numerator dd (get_or w.positions v InBasis) (number_at w.nonbasic_values v) (number_at w.values v)) ≤ 2 ^ 62)
-    → HasDenominator w.denominator (tableau_of columns numbers w)
-has_denominator columns numbers w dd consistent e h = record {
+pub has_denominator : (columns : ℕ) (numbers : List ℕ) (ps : List (List ℤ)) (weight reach : ℕ) (w : IntegerTableau) (d : ℤ) → IsCompact ps weight reach w → pos 0 <ℤ d → nat_abs d ≡ w.denominator
+    → ((j : ℕ) → j < length w.values → nat_abs (value_numerator d (get_or w.positions j InBasis) (number_at w.nonbasic_values j) (number_at w.values j)) ≤ 2 ^ 62)
+    → ((i : ℕ) → i < length ps → nat_abs (value_numerator d (get_or w.positions (length w.values + i) InBasis) (number_at w.nonbasic_values (length w.values + i))
+    (combined_value d (get_or ps i []) w.positions w.nonbasic_values w.values)) ≤ 2 ^ 62)
+    → HasDenominator w.denominator (tableau_of columns numbers (expanded ps w))
+has_denominator columns numbers ps weight reach w d compact positive e columns_small rows_small = record {
   positive = consistent.positive;
   small = consistent.denominator_small;
-  values = values_within w.denominator dd w.positions w.nonbasic_values w.values consistent.positive e consistent.nonbasic_values consistent.values h;
+  values = values_within w.denominator d w.positions w.nonbasic_values (expanded ps w).values consistent.positive e consistent.nonbasic_values consistent.values each;
   reduced_costs = coefficients_within w.denominator w.reduced_costs w.positions consistent.positive consistent.costs_within;
-  rows = rows_within w.denominator w.positions w.positions w.rows consistent.positive consistent.rows_within;
+  rows = rows_within w.denominator w.positions w.positions (expanded ps w).rows consistent.positive consistent.rows_within;
 }
+  where
+    consistent : IsConsistent (expanded ps w)
+    consistent = compact.consistent
+
+    d_is : d ≡ pos w.denominator
+    d_is = size_is d positive ∙ ap pos e
+
+    each : (v : ℕ) → v < length w.positions → nat_abs (value_numerator d (get_or w.positions v InBasis) (number_at w.nonbasic_values v) (number_at (expanded ps w).values v)) ≤ 2 ^ 62
+    each v l = elim (which (length w.values) (length ps) v (omega (arith, l, compact.variables, compact.values))) [
+      | inl h ↦ subst (λ z. nat_abs (value_numerator d (get_or w.positions v InBasis) (number_at w.nonbasic_values v) z) ≤ 2 ^ 62)
+          (sym (value_of_column w.denominator ps w.positions w.nonbasic_values w.values v h)) (columns_small v h)
+      | inr z ↦ subst (λ v. nat_abs (value_numerator d (get_or w.positions v InBasis) (number_at w.nonbasic_values v) (number_at (expanded ps w).values v)) ≤ 2 ^ 62) (sym z.2)
+          (subst (λ y. nat_abs (value_numerator d (get_or w.positions (length w.values + z.0) InBasis) (number_at w.nonbasic_values (length w.values + z.0)) y) ≤ 2 ^ 62)
+          (ap (λ d. combined_value d (get_or ps z.0 []) w.positions w.nonbasic_values w.values) d_is ∙ sym (value_of_row w.denominator ps w.positions w.nonbasic_values w.values z.0 z.1)) (rows_small z.0 z.1))
+    ]

@@ -13,7 +13,8 @@ use Rattle.integer_tableau.proofs.Sums.{value_is}
 use Rattle.integer_tableau.specs.IntegerTableau.{IntegerTableau, bound_status, fraction_bounds, row_of_position, rows_of, status, statuses_of, tableau_of, value, values_of}
 use Rattle.integer_tableau.specs.Numbers.{IsWithin, number_at, total_size}
 use Rattle.integer_tableau.specs.Pivot.{is_upper}
-use Rattle.integer_tableau.specs.Positions.{IsColumnOf, coefficients, nonbasic_values_exchanged, positions_exchanged, sum_over}
+use Rattle.integer_tableau.specs.Positions.{IsColumnOf, coefficients, sum_over}
+use Rattle.integer_tableau.proofs.Exchanges.{nonbasic_values_exchanged, positions_exchanged}
 use Rattle.integer_tableau.specs.Substitution.{IsSolved, IsSubstituted}
 use Rattle.integer_tableau.specs.declared.position.Position.{Position}
 use Rattle.integer_tableau.specs.declared.position.Position.TheVariants.{InBasis, InColumn}

@@ -1,24 +1,24 @@
 -- From what the code's parts say to what the pivot is.
-use Rattle.std.proofs.Common.{◌≡◌, ℕ, ◌+◌, ◌-◌, ◌^◌, ◌<◌, arith, ap, sym, ◌∙◌, subst, Bool, false, Option, Some, None, List, [], length, get_or, set, get_or-set_other, get_or-set_same}
-use Rattle.std.specs.Prelude.{ℤ, pos, nat_abs, ◌+ℤ◌, ◌-ℤ◌, ◌*ℤ◌, ◌<ℤ◌}
+use Rattle.std.proofs.Common.{◌≡◌, ℕ, ◌+◌, ◌-◌, ◌*◌, ◌^◌, ◌<◌, arith, ap, sym, ◌∙◌, subst, Bool, false, Option, Some, None, List, [], length, get_or, set, get_or-set_other, get_or-set_same}
+use Rattle.std.specs.Prelude.{ℤ, pos, nat_abs, ◌-ℤ◌, ◌*ℤ◌, ◌<ℤ◌}
 use Rattle.std.proofs.lemmas.Int.{ints}
 use Rattle.std.proofs.lemmas.List.{length-set}
-use Rattle.std.proofs.lemmas.List.{get_or_default}
 use Rattle.fraction.specs.Rational.{frac}
-use Rattle.integer_tableau.proofs.Keeping.{pivot_consistent, pivot_is}
+use Rattle.integer_tableau.proofs.CompactPivot.{is_pivoted}
+use Rattle.integer_tableau.proofs.Expanded.{near_values}
 use Rattle.integer_tableau.proofs.Lists.{size_is}
-use Rattle.integer_tableau.proofs.Places.{place_by_leaving, place_is, place_of_candidate, place_where_leaving_is}
+use Rattle.integer_tableau.proofs.Violations.{leaving_there}
+use Rattle.integer_tableau.proofs.Places.{place_by_leaving, place_is, place_where_leaving_is}
 use Rattle.integer_tableau.proofs.Starting.{statuses_long}
-use Rattle.integer_tableau.specs.Consistent.{IsConsistent}
+use Rattle.integer_tableau.specs.Combined.{IsCompact, combined_row, expanded, expanded_rows, expanded_values}
 use Rattle.integer_tableau.specs.Entering.{entering_by_numerators}
 use Rattle.integer_tableau.specs.IntegerTableau.{IntegerTableau, fraction_bounds, of_parts, tableau_of}
 use Rattle.integer_tableau.specs.Leaving.{leaving_by_numerators}
-use Rattle.integer_tableau.specs.Numbers.{IsWithin, number_at, total_size}
+use Rattle.integer_tableau.specs.Numbers.{IsWithin, number_at}
 use Rattle.integer_tableau.specs.Pivot.{AreSubstitutedValues, IsEliminated, IsPivotOf, IsPivoted, IsSubstitutedValue, is_upper}
-use Rattle.integer_tableau.specs.Place.{place_where_leaving}
-use Rattle.integer_tableau.specs.Positions.{nonbasic_values_exchanged, positions_exchanged}
+use Rattle.integer_tableau.specs.Place.{place_of_candidate}
+use Rattle.integer_tableau.proofs.Exchanges.{nonbasic_values_exchanged, positions_exchanged}
 use Rattle.integer_tableau.specs.Substitution.{quotient_numerator}
-use Rattle.integer_tableau.specs.declared.entering.Candidate.{Candidate}
 use Rattle.integer_tableau.specs.declared.integer_bounds.IntegerBounds.{IntegerBounds}
 use Rattle.integer_tableau.specs.declared.position.Position.{Position}
 use Rattle.integer_tableau.specs.declared.position.Position.TheVariants.{InBasis}
@@ -28,50 +28,51 @@ use Rattle.tableau.specs.Place.{place}
 use Rattle.tableau.specs.Tableau.{Tableau}
 use Rattle.tableau.specs.declared.bounds.Direction.{Direction}
 
-pub values_from : (r c k width : ℕ) (d rest bound size p : ℤ) (rows : List (List ℤ)) (values new : List ℤ) (entering : ℤ) → pos 0 <ℤ d → p ≡ number_at (get_or rows r []) k
-    → entering ≡ quotient_numerator p (number_at values r -ℤ p *ℤ rest -ℤ d *ℤ bound)
-    → ((v : ℕ) → v < length values → IsSubstitutedValue width k rest size entering d (get_or rows v []) (number_at values v) (number_at new v))
-    → size ≡ pos (nat_abs (number_at (get_or rows r []) k)) → length new ≡ length values → c < length values → length rows ≡ length values
-    → AreSubstitutedValues r c k (nat_abs d) rest bound width rows values (set new c entering)
-values_from r c k width d rest bound size p rows values new entering o q e steps s many there as_many = record {
-  entering = here ∙ e ∙ (λ i. quotient_numerator (q i) (number_at values r -ℤ q i *ℤ rest -ℤ size_is d o i *ℤ bound));
-  others = λ v l n long.
-      ap (λ z. number_at (set new c entering) v *ℤ z) (sym (size_is d o)) ∙ ap (λ z. z *ℤ d) (get_or-set_other new c v entering (pos 0) n)
-      ∙ steps v (omega (arith, l, as_many)) long
-      ∙ (λ i. (number_at values v -ℤ number_at (get_or rows v []) k *ℤ rest) *ℤ s i +ℤ sym here i *ℤ number_at (get_or rows v []) k);
+pub values_put : (c k width : ℕ) (d e x entering : ℤ) (rows : List (List ℤ)) (values new : List ℤ)
+    → ((v : ℕ) → v < length values → IsSubstitutedValue width k x e entering d (get_or rows v []) (number_at values v) (number_at new v)) → length new ≡ length values
+    → AreSubstitutedValues c k d e x entering width rows values (set new c entering)
+values_put c k width d e x entering rows values new steps many = record {
+  put = λ l. get_or-set_same new c entering (pos 0) (omega (arith, l, many));
+  others = λ v l n. subst (IsSubstitutedValue width k x e entering d (get_or rows v []) (number_at values v)) (sym (get_or-set_other new c v entering (pos 0) n)) (steps v l);
   as_many = length-set new c entering ∙ many;
 }
-  where
-    here : number_at (set new c entering) c ≡ entering
-    here = get_or-set_same new c entering (pos 0) (omega (arith, there, many))
 
-pub pivoted_from : (bounds : List IntegerBounds) (positions : List Position) (at_upper : List Bool) (nonbasic_values : List ℤ) (rows : List (List ℤ))
-    (reduced_costs values : List ℤ) (d : ℤ) (pivots r c k : ℕ) (direction : Direction) (b : ℤ) (u : Bool) (e : ℤ) (xs : List ℤ) (after : List (List ℤ))
-    (new_costs new_values : List ℤ)
-    → IsConsistent (of_parts bounds positions at_upper nonbasic_values rows reduced_costs values d pivots)
-    → c < length positions → r < length positions → IsPivotOf bounds positions rows values (nat_abs d) r c k direction b
-    → IsEliminated r c k (nat_abs d) rows after reduced_costs new_costs
-    → AreSubstitutedValues r c k (nat_abs d) (number_at nonbasic_values c) b (length reduced_costs) rows values new_values
-    → xs ≡ nonbasic_values_exchanged r c b nonbasic_values → total_size xs < 2 ^ 62
-    → u ≡ is_upper direction → e ≡ pos (nat_abs (number_at (get_or rows r []) k))
-    → IsPivoted r c (of_parts bounds positions at_upper nonbasic_values rows reduced_costs values d pivots)
+pub pivoted_from : (ps : List (List ℤ)) (weight reach : ℕ) (bounds : List IntegerBounds) (positions : List Position) (at_upper : List Bool) (nonbasic_values : List ℤ) (rows : List (List ℤ))
+    (reduced_costs values : List ℤ) (d : ℤ) (pivots r c k : ℕ) (direction : Direction) (b pivot value : ℤ) (u : Bool) (e : ℤ) (row : List ℤ) (taken after : List (List ℤ)) (xs new_costs new_values : List ℤ)
+    → IsCompact ps weight reach (of_parts bounds positions at_upper nonbasic_values rows reduced_costs values d pivots) → pos 0 <ℤ d → r < length positions → c < length positions
+    → row ≡ get_or (expanded_rows (nat_abs d) ps positions rows) r [] → value ≡ number_at (expanded_values (nat_abs d) ps positions nonbasic_values values) r → taken ≡ set rows r []
+    → IsPivotOf bounds positions row value (nat_abs d) r c k direction b → pivot ≡ number_at row k → e ≡ pos (nat_abs (number_at row k))
+    → (solved : List ℤ) × IsEliminated c k (nat_abs d) (nat_abs e) row solved taken after reduced_costs new_costs
+    → AreSubstitutedValues c k d e (number_at nonbasic_values c) (quotient_numerator pivot (value -ℤ pivot *ℤ number_at nonbasic_values c -ℤ d *ℤ b)) (length reduced_costs) taken values new_values
+    → xs ≡ nonbasic_values_exchanged r c b nonbasic_values → u ≡ is_upper direction → reach * nat_abs e < 2 ^ 63
+    → ((i : ℕ) → i < length ps → get_or (positions_exchanged r c k positions) (length after + i) InBasis ≡ InBasis
+    → IsWithin (2 ^ 62 - 1) (combined_row (nat_abs e) (positions_exchanged r c k positions) after (get_or ps i [])))
+    → IsPivoted ps weight reach r c (of_parts bounds positions at_upper nonbasic_values rows reduced_costs values d pivots)
     (of_parts bounds (positions_exchanged r c k positions) (set (set at_upper r u) c false) xs after new_costs new_values e (pivots + 1))
-pivoted_from bounds positions at_upper nonbasic_values rows reduced_costs values d pivots r c k direction b u e xs after new_costs new_values consistent
-    c_there r_there p ex vs xs_are small u_is e_is =
-    subst (IsPivoted r c w) (λ i. of_parts bounds (positions_exchanged r c k positions) (set (set at_upper r (sym u_is i)) c false) (sym xs_are i) after
+pivoted_from ps weight reach bounds positions at_upper nonbasic_values rows reduced_costs values d pivots r c k direction b pivot value u e row taken after xs new_costs new_values
+    compact positive r_there c_there row_is value_is taken_is p pivot_is e_is (solved, ex) vs xs_are u_is near small =
+    subst (IsPivoted ps weight reach r c w) (λ i. of_parts bounds (positions_exchanged r c k positions) (set (set at_upper r (sym u_is i)) c false) (sym xs_are i) after
     new_costs new_values (sym e_is i) (pivots + 1))
-    record {
-      pivoted = λ columns numbers. pivot_is w consistent r c k direction b after new_costs new_values p.entering p.leaving c_there r_there p.small p.coefficient ex vs
-          p.direction p.bound total_small columns numbers;
-      consistent = pivot_consistent w consistent r c k direction b after new_costs new_values p.entering p.leaving c_there r_there p.small p.coefficient ex vs
-          p.direction p.bound total_small;
-    }
+    (is_pivoted ps weight reach w compact r c k direction b row solved value taken after new_costs new_values r_there c_there row_is value_is taken_is p
+    (subst (λ m. IsEliminated c k (nat_abs d) m row solved taken after reduced_costs new_costs) size ex)
+    (values_are d (pos (nat_abs d)) e (pos (nat_abs (number_at row k))) pivot (number_at row k) (size_is d positive) e_is pivot_is vs)
+    (subst (λ m. reach * m < 2 ^ 63) size near)
+    (subst (λ m. (i : ℕ) → i < length ps → get_or (positions_exchanged r c k positions) (length after + i) InBasis ≡ InBasis
+    → IsWithin (2 ^ 62 - 1) (combined_row m (positions_exchanged r c k positions) after (get_or ps i []))) size small))
   where
     w : IntegerTableau
     w = of_parts bounds positions at_upper nonbasic_values rows reduced_costs values d pivots
 
-    total_small : total_size (nonbasic_values_exchanged r c b nonbasic_values) < 2 ^ 62
-    total_small = subst (λ xs. total_size xs < 2 ^ 62) xs_are small
+    size : nat_abs e ≡ nat_abs (number_at row k)
+    size = ap nat_abs e_is
+
+    values_are : (d d' e e' p p' : ℤ) → d ≡ d' → e ≡ e' → p ≡ p'
+        → AreSubstitutedValues c k d e (number_at nonbasic_values c) (quotient_numerator p (value -ℤ p *ℤ number_at nonbasic_values c -ℤ d *ℤ b)) (length reduced_costs) taken values new_values
+        → AreSubstitutedValues c k d' e' (number_at nonbasic_values c) (quotient_numerator p' (value -ℤ p' *ℤ number_at nonbasic_values c -ℤ d' *ℤ b)) (length reduced_costs) taken values new_values
+    values_are d d' e e' p p' f g h v =
+        subst (λ d. AreSubstitutedValues c k d e' (number_at nonbasic_values c) (quotient_numerator p' (value -ℤ p' *ℤ number_at nonbasic_values c -ℤ d *ℤ b)) (length reduced_costs) taken values new_values) f
+        (subst (λ e. AreSubstitutedValues c k d e (number_at nonbasic_values c) (quotient_numerator p' (value -ℤ p' *ℤ number_at nonbasic_values c -ℤ d *ℤ b)) (length reduced_costs) taken values new_values) g
+        (subst (λ p. AreSubstitutedValues c k d e (number_at nonbasic_values c) (quotient_numerator p (value -ℤ p *ℤ number_at nonbasic_values c -ℤ d *ℤ b)) (length reduced_costs) taken values new_values) h v))
 
 pub positive_from : (e : ℤ) (n : ℕ) → e ≡ pos n → 0 < n → pos 0 <ℤ e
 positive_from e n h o = omega (arith, ints, h)
@@ -80,26 +81,47 @@ pub violation_back : (l : IntegerBounds) (v v' d d' : ℤ) (o : Option Direction
 violation_back l v v' d d' o direction p q e w = sym (e ∙ (λ i. violation (fraction_bounds l) (frac (p i) (nat_abs (q i))))) ∙ w
 
 -- ---- of the whole tableau
-pub is_there : (columns : ℕ) (numbers : List ℕ) (w : IntegerTableau) (t : Tableau) (positions : List Position) (v : ℕ) → IsConsistent w → tableau_of columns numbers w ≡ t → positions ≡ w.positions → v < length t.statuses → v < length positions
-is_there columns numbers w t positions v consistent e s l = omega (arith, l, ap (λ (t : Tableau). length t.statuses) e, statuses_long w.positions w.at_upper consistent.at_upper, ap length s)
+module _ (columns : ℕ) (numbers : List ℕ) (ps : List (List ℤ)) (weight reach : ℕ) (w : IntegerTableau) (t : Tableau) (compact : IsCompact ps weight reach w)
+    (view : tableau_of columns numbers (expanded ps w) ≡ t) where
+  pub statuses_as_many : length w.positions ≡ length t.statuses
+  statuses_as_many = sym (statuses_long w.positions w.at_upper compact.consistent.at_upper) ∙ ap (λ (t : Tableau). length t.statuses) view
 
-pub carried : (columns : ℕ) (numbers : List ℕ) (r c : ℕ) (w w' v v' : IntegerTableau) (t : Tableau) → w ≡ w' → v ≡ v' → tableau_of columns numbers w' ≡ t → IsPivoted r c w v → (pivoted r c t ≡ Some (tableau_of columns numbers v')) × IsConsistent v'
-carried columns numbers r c w w' v v' t p q e h = (ap (pivoted r c) (sym (ap (tableau_of columns numbers) p ∙ e)) ∙ h.pivoted columns numbers ∙ ap (λ v. Some (tableau_of columns numbers v)) q, subst IsConsistent q h.consistent)
+  pub is_there : (positions : List Position) (v : ℕ) → positions ≡ w.positions → v < length t.statuses → v < length positions
+  is_there positions v s l = omega (arith, l, statuses_as_many, ap length s)
 
--- ---- places
-pub entering_from_code : (r : ℕ) (direction : Direction) (d d' : ℤ) (ss : List Position) (us : List Bool) (ls : List IntegerBounds) (rows : List (List ℤ)) (reduced_costs row row' : List ℤ) (best : Option Candidate)
-    → length us ≡ length ss → length ls ≡ length ss → length rows ≡ length ss → r < length ss → get_or ss r InBasis ≡ InBasis → pos 0 <ℤ d → d' ≡ d → nat_abs d' < 2 ^ 62
-    → IsWithin (2 ^ 62 - 1) reduced_costs → IsWithin (2 ^ 62 - 1) (get_or rows r row) → best ≡ entering_by_numerators 0 direction None ss us ls reduced_costs (get_or rows r row')
-    → place_of_candidate r best ≡ place_where_leaving r direction (nat_abs d) ss us ls rows reduced_costs
-entering_from_code r direction d d' ss us ls rows reduced_costs row row' best e f g l at_r o same small hc hr is =
-    ap (place_of_candidate r) (is ∙ ap (entering_by_numerators 0 direction None ss us ls reduced_costs) (get_or_default rows r row' [] (omega (arith, l, g))))
-    ∙ sym (place_where_leaving_is r direction (nat_abs d) ss us ls rows reduced_costs e f g l at_r (positive_size d o) (subst (λ z. nat_abs z < 2 ^ 62) same small) hc (subst (IsWithin (2 ^ 62 - 1)) (get_or_default rows r row [] (omega (arith, l, g))) hr))
-  where
-    positive_size : (d : ℤ) → pos 0 <ℤ d → 0 < nat_abs d
-    positive_size d o = omega (arith, ints)
+  -- ---- places
+  pub place_from_code : (found : Option (ℕ × Direction)) → found ≡ leaving_by_numerators w.denominator 0 w.positions w.bounds (expanded_values w.denominator ps w.positions w.nonbasic_values w.values)
+      → place_by_leaving (expanded ps w) found ≡ place t
+  place_from_code found is =
+      ap (place_by_leaving (expanded ps w)) is
+      ∙ sym (place_is columns numbers (expanded ps w) compact.consistent.at_upper compact.consistent.bounds compact.consistent.nonbasic_values compact.consistent.values) ∙ ap place view
 
-pub place_from_code : (columns : ℕ) (numbers : List ℕ) (w : IntegerTableau) (t : Tableau) (found : Option (ℕ × Direction)) → IsConsistent w → tableau_of columns numbers w ≡ t → found ≡ leaving_by_numerators w.denominator 0 w.positions w.bounds w.values → place_by_leaving w found ≡ place t
-place_from_code columns numbers w t found consistent e is = ap (place_by_leaving w) is ∙ sym (place_is columns numbers w consistent.at_upper consistent.bounds consistent.nonbasic_values consistent.values) ∙ ap place e
+  pub leaving_from_code : (r : ℕ) (direction : Direction) → r < length w.positions → get_or w.positions r InBasis ≡ InBasis
+      → place_of_candidate r (entering_by_numerators 0 direction None w.positions w.at_upper w.bounds w.reduced_costs (get_or (expanded_rows w.denominator ps w.positions w.rows) r []))
+      ≡ place_by_leaving (expanded ps w) (Some (r, direction))
+  leaving_from_code r direction l at_r = sym (place_where_leaving_is r direction w.denominator w.positions w.at_upper w.bounds (expanded_rows w.denominator ps w.positions w.rows) w.reduced_costs
+      compact.consistent.at_upper compact.consistent.bounds compact.consistent.rows l at_r compact.consistent.positive compact.consistent.denominator_small compact.consistent.costs_within (compact.consistent.rows_within r))
 
-pub statuses_as_many : (columns : ℕ) (numbers : List ℕ) (w : IntegerTableau) (t : Tableau) → IsConsistent w → tableau_of columns numbers w ≡ t → length w.positions ≡ length t.statuses
-statuses_as_many columns numbers w t consistent e = sym (statuses_long w.positions w.at_upper consistent.at_upper) ∙ ap (λ (t : Tableau). length t.statuses) e
+  pub chosen_from_code : (found : ℕ × Direction) → Some found ≡ leaving_by_numerators w.denominator 0 w.positions w.bounds (expanded_values w.denominator ps w.positions w.nonbasic_values w.values)
+      → place_of_candidate found.0 (entering_by_numerators 0 found.1 None w.positions w.at_upper w.bounds w.reduced_costs (get_or (expanded_rows w.denominator ps w.positions w.rows) found.0 [])) ≡ place t
+  chosen_from_code found is =
+      let h = leaving_there w.denominator 0 w.positions w.bounds (expanded_values w.denominator ps w.positions w.nonbasic_values w.values) found (sym is) in
+      let r : found.0 ≡ h.0 = omega (arith, h.1) in
+      leaving_from_code found.0 found.1 (omega (arith, r, h.2)) (ap (λ v. get_or w.positions v InBasis) r ∙ h.3) ∙ place_from_code (Some found) is
+
+-- no nonbasic value is cramped
+pub near_from_code : (ps : List (List ℤ)) (weight reach : ℕ) (w : IntegerTableau) → IsCompact ps weight reach w → (xs vs : List ℤ) (d : ℕ) → xs ≡ w.nonbasic_values → vs ≡ w.values → d ≡ w.denominator
+    → (j : ℕ) → j < length vs → nat_abs (number_at xs j) * d < 2 ^ 63
+near_from_code ps weight reach w compact xs vs d xs_are vs_are d_is j l =
+    rw (xs_are, d_is) (near_values ps weight reach w compact j (omega (arith, l, ap length vs_are, compact.values)))
+
+pub carried : (numbers : List ℕ) (ps ps' : List (List ℤ)) (weight reach r c : ℕ) (w w' v v' : IntegerTableau) (t : Tableau) → ps ≡ ps' → w ≡ w' → v ≡ v'
+    → tableau_of (length w'.rows) numbers (expanded ps' w') ≡ t → IsPivoted ps weight reach r c w v
+    → (pivoted r c t ≡ Some (tableau_of (length v'.rows) numbers (expanded ps' v'))) × IsCompact ps' weight reach v'
+carried numbers ps ps' weight reach r c w w' v v' t o p q e h = (
+  ap (pivoted r c) (sym ((λ i. tableau_of (length (p i).rows) numbers (expanded (o i) (p i))) ∙ e))
+      ∙ h.pivoted numbers
+      ∙ ap (λ n. Some (tableau_of n numbers (expanded ps v))) (sym h.columns)
+      ∙ (λ i. Some (tableau_of (length (q i).rows) numbers (expanded (o i) (q i)))),
+  subst (λ ps. IsCompact ps weight reach v') o (subst (IsCompact ps weight reach) q h.compact),
+)

@@ -13,9 +13,10 @@ use Rattle.integer_tableau.proofs.Sums.{value_fits, sum_exchanged, sum_solved, s
 use Rattle.integer_tableau.specs.Consistent.{IsConsistent, row_width}
 use Rattle.integer_tableau.specs.IntegerTableau.{IntegerTableau, fraction_bounds, tableau_of}
 use Rattle.integer_tableau.specs.Numbers.{IsWithin, number_at, total_size}
-use Rattle.integer_tableau.specs.Pivot.{AreSubstitutedValues, IsEliminated, is_upper}
-use Rattle.integer_tableau.specs.Positions.{IsColumnOf, nonbasic_values_exchanged, positions_exchanged, sum_over}
-use Rattle.integer_tableau.specs.Substitution.{IsSolved, IsSubstitutedRow, quotient_numerator}
+use Rattle.integer_tableau.specs.Pivot.{is_upper}
+use Rattle.integer_tableau.specs.Positions.{IsColumnOf, sum_over}
+use Rattle.integer_tableau.proofs.Exchanges.{nonbasic_values_exchanged, positions_exchanged}
+use Rattle.integer_tableau.specs.Substitution.{IsSolved, IsSolvedRow, IsSubstitutedIfFull, IsSubstitutedRow, quotient_numerator}
 use Rattle.integer_tableau.specs.declared.position.Position.{Position}
 use Rattle.integer_tableau.specs.declared.position.Position.TheVariants.{InBasis, InColumn}
 use Rattle.tableau.specs.Leaving.{unbounded, violated_bound, violation}
@@ -64,14 +65,20 @@ swap_back {X = X} xs i j d h k n =
 none_within : (n : ℕ) (l : List ℤ) → length l ≡ 0 → IsWithin n l
 none_within n l e k = rw (get_or_past l k (pos 0) (omega (arith, e))) (omega arith)
 
-module _ (w : IntegerTableau) (consistent : IsConsistent w) (r c k : ℕ) (direction : Direction) (b : ℤ) (after : List (List ℤ)) (reduced_costs values : List ℤ)
+-- of all variables: row r, solved for c, is the row of c; r has none then; c is substituted in the other rows and in the reduced costs
+pub record AreEliminated (r c k d : ℕ) (rows new : List (List ℤ)) (reduced_costs new_costs : List ℤ) : Type 0 where
+  pub solved : IsSolvedRow k d (get_or rows r []) (get_or new c [])
+  pub emptied : get_or new r [] ≡ []
+  pub others : (v : ℕ) → v < length rows → v ≢ r → v ≢ c → IsSubstitutedIfFull (pos d)
+      (pos (nat_abs (number_at (get_or rows r []) k))) k (get_or new c []) (get_or rows v []) (get_or new v [])
+  pub costs : IsSubstitutedRow (pos d) (pos (nat_abs (number_at (get_or rows r []) k))) k (get_or new c []) reduced_costs new_costs
+  pub as_many : length new ≡ length rows
+
+module _ (w : IntegerTableau) (consistent : IsConsistent w) (r c k : ℕ) (b : ℤ) (after : List (List ℤ)) (reduced_costs : List ℤ)
     (at_c : get_or w.positions c InBasis ≡ InColumn k) (at_r : get_or w.positions r InBasis ≡ InBasis) (c_there : c < length w.positions) (r_there : r < length w.positions)
-    (denominator_small : w.denominator < 2 ^ 62) (pivot : 0 < nat_abs (number_at (get_or w.rows r []) k))
-    (ex : IsEliminated r c k w.denominator w.rows after w.reduced_costs reduced_costs) (vs : AreSubstitutedValues r c k w.denominator (number_at w.nonbasic_values c) b (length w.reduced_costs) w.rows w.values values)
-    (violated : violation (get_or (map fraction_bounds w.bounds) r unbounded) (frac (number_at w.values r) w.denominator) ≡ Some direction)
-    (bound : violated_bound direction (get_or (map fraction_bounds w.bounds) r unbounded) ≡ whole b)
-    (total_small : total_size (nonbasic_values_exchanged r c b w.nonbasic_values) < 2 ^ 62) where
-  apart : c ≢ r
+    (pivot : 0 < nat_abs (number_at (get_or w.rows r []) k))
+    (ex : AreEliminated r c k w.denominator w.rows after w.reduced_costs reduced_costs) where
+  pub apart : c ≢ r
   apart e = let f : InBasis ≡ InColumn k = sym at_r ∙ ap (λ v. get_or w.positions v InBasis) (sym e) ∙ at_c in cc
 
   abbrev news : List (List ℤ)
@@ -92,19 +99,19 @@ module _ (w : IntegerTableau) (consistent : IsConsistent w) (r c k : ℕ) (direc
   news_v : (v : ℕ) → v ≢ r → v ≢ c → get_or news v [] ≡ get_or after v []
   news_v v m n = ap (λ ys. get_or ys v []) (sym news_is) ∙ get_or-set_other _ c v _ [] n ∙ get_or-set_other after r v _ [] m
 
-  width : k < length w.reduced_costs
+  pub width : k < length w.reduced_costs
   width = consistent.within c k at_c
 
-  long_at : (v : ℕ) → v < length w.positions → get_or w.positions v InBasis ≡ InBasis → length (get_or w.rows v []) ≡ length w.reduced_costs
+  pub long_at : (v : ℕ) → v < length w.positions → get_or w.positions v InBasis ≡ InBasis → length (get_or w.rows v []) ≡ length w.reduced_costs
   long_at v l q = consistent.widths v l ∙ ap (row_width (length w.reduced_costs)) q
 
-  source_long : length (get_or after c []) ≡ length w.reduced_costs
+  pub source_long : length (get_or after c []) ≡ length w.reduced_costs
   source_long = ex.solved.width ∙ long_at r r_there at_r
 
-  not_c : (v : ℕ) → get_or w.positions v InBasis ≡ InBasis → v ≢ c
+  pub not_c : (v : ℕ) → get_or w.positions v InBasis ≡ InBasis → v ≢ c
   not_c v q e = let f : InBasis ≡ InColumn k = sym q ∙ ap (λ v. get_or w.positions v InBasis) e ∙ at_c in cc
 
-  step_v : (v : ℕ) → v < length w.positions → v ≢ r → get_or w.positions v InBasis ≡ InBasis
+  pub step_v : (v : ℕ) → v < length w.positions → v ≢ r → get_or w.positions v InBasis ≡ InBasis
       → IsSubstitutedRow (pos w.denominator) (pos (nat_abs (number_at (get_or w.rows r []) k))) k (get_or after c []) (get_or w.rows v []) (get_or after v [])
   step_v v l m q = (ex.others v (omega (arith, l, consistent.rows)) m (not_c v q)).full (long_at v l q ∙ sym source_long)
 
@@ -122,7 +129,7 @@ module _ (w : IntegerTableau) (consistent : IsConsistent w) (r c k : ℕ) (direc
   ]
   small_at v l (InColumn j) q = none_within _ _ (none_at v j l q)
 
-  all_small : (v : ℕ) → IsWithin (2 ^ 62 - 1) (get_or w.rows v [])
+  pub all_small : (v : ℕ) → IsWithin (2 ^ 62 - 1) (get_or w.rows v [])
   all_small v = elim (cases_lt v (length w.positions)) [
     | inl l ↦ small_at v l (get_or w.positions v InBasis) refl
     | inr l ↦ none_within _ _ (ap length (get_or_past w.rows v [] (omega (arith, l, consistent.rows))))
@@ -132,7 +139,7 @@ module _ (w : IntegerTableau) (consistent : IsConsistent w) (r c k : ℕ) (direc
   after_at v l m n InBasis q = (step_v v l m q).after
   after_at v l m n (InColumn j) q = none_within _ _ (ap length (stays_at v j l m n q) ∙ none_at v j l q)
 
-  after_small : (v : ℕ) → IsWithin (2 ^ 62 - 1) (get_or after v [])
+  pub after_small : (v : ℕ) → IsWithin (2 ^ 62 - 1) (get_or after v [])
   after_small v = elim (cases_lt v (length w.positions)) [
     | inl l ↦ elim (cases_eq v r) [
       | inl p ↦ none_within _ _ (ap (λ u. length (get_or after u [])) p ∙ ap length ex.emptied)
@@ -145,18 +152,19 @@ module _ (w : IntegerTableau) (consistent : IsConsistent w) (r c k : ℕ) (direc
   ]
 
   -- ---- the values
-  abbrev positions' : List Position
+  abbrev pub positions' : List Position
   positions' = positions_exchanged r c k w.positions
 
-  abbrev nonbasic_values' : List ℤ
+  abbrev pub nonbasic_values' : List ℤ
   nonbasic_values' = nonbasic_values_exchanged r c b w.nonbasic_values
 
-  abbrev p : ℤ
+  abbrev pub p : ℤ
   p = number_at (get_or w.rows r []) k
 
-  entering_is : number_at values c ≡ sum_over positions' (get_or after c []) nonbasic_values'
-  entering_is =
-      vs.entering
+  pub entering_exact : (z : ℤ) → z ≡ quotient_numerator p (number_at w.values r -ℤ p *ℤ number_at w.nonbasic_values c -ℤ pos w.denominator *ℤ b)
+      → z ≡ sum_over positions' (get_or after c []) nonbasic_values'
+  entering_exact z is =
+      is
       ∙ ap (quotient_numerator p) (ap (λ v. v -ℤ p *ℤ number_at w.nonbasic_values c -ℤ pos w.denominator *ℤ b) (consistent.exact r r_there at_r)
       ∙ left (sum_over positions' (set (get_or w.rows r []) k (neg_ℤ (pos w.denominator))) nonbasic_values') (p *ℤ number_at w.nonbasic_values c) (sum_over w.positions (get_or w.rows r []) w.nonbasic_values) (pos w.denominator *ℤ b) (sum_exchanged w.positions r c k (consistent.alone c k at_c) at_c at_r c_there r_there w.nonbasic_values consistent.nonbasic_values b (get_or w.rows r []) (neg_ℤ (pos w.denominator)) (omega (arith, long_at r r_there at_r, width)) ∙ ap (λ z. sum_over w.positions (get_or w.rows r []) w.nonbasic_values +ℤ z) (neg-mul_ℤ (pos w.denominator) b)))
       ∙ sym (sum_solved p (set (get_or w.rows r []) k (neg_ℤ (pos w.denominator))) (get_or after c []) ex.solved.numbers positions' nonbasic_values')
@@ -164,10 +172,12 @@ module _ (w : IntegerTableau) (consistent : IsConsistent w) (r c k : ℕ) (direc
       left : (a x v y : ℤ) → a +ℤ x ≡ v +ℤ neg_ℤ y → v -ℤ x -ℤ y ≡ a
       left a x v y h = omega (arith, ints, h)
 
-  other_is : (v : ℕ) → v < length w.positions → v ≢ r → get_or w.positions v InBasis ≡ InBasis → number_at values v ≡ sum_over positions' (get_or after v []) nonbasic_values'
-  other_is v l m q =
+  pub other_exact : (v : ℕ) (z entering : ℤ) → v < length w.positions → v ≢ r → get_or w.positions v InBasis ≡ InBasis → entering ≡ sum_over positions' (get_or after c []) nonbasic_values'
+      → z *ℤ pos w.denominator ≡ (number_at w.values v -ℤ number_at (get_or w.rows v []) k *ℤ number_at w.nonbasic_values c) *ℤ pos (nat_abs p) +ℤ entering *ℤ number_at (get_or w.rows v []) k
+      → z ≡ sum_over positions' (get_or after v []) nonbasic_values'
+  other_exact v z entering l m q entering_is is =
       cancel_ℤ _ _ w.denominator consistent.positive
-      (vs.others v (omega (arith, l, consistent.rows)) (not_c v q) (long_at v l q)
+      (is
       ∙ (λ i. (ap (λ y. y -ℤ number_at (get_or w.rows v []) k *ℤ number_at w.nonbasic_values c) (consistent.exact v l q)
       ∙ left _ _ _ b (sum_exchanged w.positions r c k (consistent.alone c k at_c) at_c at_r c_there r_there w.nonbasic_values consistent.nonbasic_values b (get_or w.rows v []) (pos 0) (omega (arith, long_at v l q, width)))) i
       *ℤ pos (nat_abs p) +ℤ entering_is i *ℤ number_at (get_or w.rows v []) k)
@@ -177,70 +187,14 @@ module _ (w : IntegerTableau) (consistent : IsConsistent w) (r c k : ℕ) (direc
       left a x v b h = omega (arith, ints, h)
 
   -- where a variable is after the pivot
-  still : (v : ℕ) → v ≢ r → v ≢ c → get_or positions' v InBasis ≡ get_or w.positions v InBasis
+  pub still : (v : ℕ) → v ≢ r → v ≢ c → get_or positions' v InBasis ≡ get_or w.positions v InBasis
   still v m n = get_or-set_other (set w.positions r (InColumn k)) c v InBasis InBasis n ∙ get_or-set_other w.positions r v (InColumn k) InBasis m
 
-  now_c : get_or positions' c InBasis ≡ InBasis
+  pub now_c : get_or positions' c InBasis ≡ InBasis
   now_c = get_or-set_same (set w.positions r (InColumn k)) c InBasis InBasis (omega (arith, c_there, length-set w.positions r (InColumn k)))
 
-  now_r : get_or positions' r InBasis ≡ InColumn k
+  pub now_r : get_or positions' r InBasis ≡ InColumn k
   now_r = get_or-set_other (set w.positions r (InColumn k)) c r InBasis InBasis (λ e. apart (sym e)) ∙ get_or-set_same w.positions r (InColumn k) InBasis r_there
-
-  exact_after : (v : ℕ) → v < length w.positions → get_or positions' v InBasis ≡ InBasis → number_at values v ≡ sum_over positions' (get_or after v []) nonbasic_values'
-  exact_after v l q = elim (cases_eq v c) [
-    | inl e ↦ subst (λ u. number_at values u ≡ sum_over positions' (get_or after u []) nonbasic_values') (sym e) entering_is
-    | inr n ↦ elim (cases_eq v r) [
-      | inl e ↦ absurd (let f : InColumn k ≡ InBasis = sym now_r ∙ ap (λ u. get_or positions' u InBasis) (sym e) ∙ q in cc)
-      | inr m ↦ other_is v l m (sym (still v m n) ∙ q)
-    ]
-  ]
-
-  is_pivot : IsExactPivot w r c k direction b news reduced_costs values
-  is_pivot = record {
-    alone = consistent.alone c k at_c;
-    at_c = at_c;
-    at_r = at_r;
-    c_there = c_there;
-    r_there = r_there;
-    positive = consistent.positive;
-    denominator_small = denominator_small;
-    as_many_rows = consistent.rows;
-    as_many_news = news_long;
-    as_many_at_upper = consistent.at_upper;
-    as_many_nonbasic_values = consistent.nonbasic_values;
-    as_many_values = consistent.values;
-    as_many_after = vs.as_many ∙ consistent.values;
-    long = λ v l q. omega (arith, width, long_at v l q);
-    small = all_small;
-    new_small = λ v. subst (λ ys. IsWithin (2 ^ 62 - 1) (get_or ys v [])) (sym back) (after_small v);
-    source_small = subst (IsWithin (2 ^ 62 - 1)) (sym news_r) ex.solved.after;
-    pivot = pivot;
-    turn = subst (IsSolved p k w.denominator (get_or w.rows r [])) (sym news_r) ex.solved.numbers;
-    steps = λ v l m q. let h = (step_v v l m q).numbers in rw (news_r, news_v v m (not_c v q)) h;
-    cost_long = width;
-    cost_small = ex.costs.before;
-    cost_step = rw news_r ex.costs.numbers;
-    violated = violated;
-    bound = bound;
-    total_small = total_small;
-    exact = λ v l q. exact_after v l q ∙ ap (λ ys. sum_over positions' (get_or ys v []) nonbasic_values') (sym back);
-  }
-
-  -- the tableau that the pivot makes
-  abbrev pub made : List (List ℤ) → IntegerTableau
-  made ls = record w {
-    positions = positions';
-    at_upper = set (set w.at_upper r (is_upper direction)) c false;
-    nonbasic_values = nonbasic_values';
-    rows = ls;
-    reduced_costs = reduced_costs;
-    values = values;
-    denominator = nat_abs p;
-    pivots = w.pivots + 1;
-  }
-
-  pub pivot_is : (columns : ℕ) (numbers : List ℕ) → pivoted r c (tableau_of columns numbers w) ≡ Some (tableau_of columns numbers (made after))
-  pivot_is columns numbers = pivoted_is columns numbers w r c k direction b news reduced_costs values is_pivot ∙ ap (λ ls. Some (tableau_of columns numbers (made ls))) back
 
   -- ---- it is consistent
   position_case : (v j : ℕ) → get_or positions' v InBasis ≡ InColumn j → ((v ≡ r) × (j ≡ k)) ⊎ ((v ≢ r) × (v ≢ c) × (get_or w.positions v InBasis ≡ InColumn j))
@@ -252,7 +206,7 @@ module _ (w : IntegerTableau) (consistent : IsConsistent w) (r c k : ℕ) (direc
     ]
   ]
 
-  alone_after : (v j : ℕ) → get_or positions' v InBasis ≡ InColumn j → IsColumnOf positions' v j
+  pub alone_after : (v j : ℕ) → get_or positions' v InBasis ≡ InColumn j → IsColumnOf positions' v j
   alone_after v j q u h = elim (position_case v j q) [
     | inl a ↦ elim (position_case u j h) [
       | inl e ↦ e.0 ∙ sym a.0
@@ -264,7 +218,7 @@ module _ (w : IntegerTableau) (consistent : IsConsistent w) (r c k : ℕ) (direc
     ]
   ]
 
-  within_after : (v j : ℕ) → get_or positions' v InBasis ≡ InColumn j → j < length reduced_costs
+  pub within_after : (v j : ℕ) → get_or positions' v InBasis ≡ InColumn j → j < length reduced_costs
   within_after v j q = elim (position_case v j q) [
     | inl a ↦ omega (arith, a.1, width, ex.costs.width)
     | inr a ↦ omega (arith, consistent.within v j a.2, ex.costs.width)
@@ -283,24 +237,77 @@ module _ (w : IntegerTableau) (consistent : IsConsistent w) (r c k : ℕ) (direc
     ]
   ]
 
-  positions_long : length positions' ≡ length w.positions
+  pub positions_long : length positions' ≡ length w.positions
   positions_long = length-set (set w.positions r (InColumn k)) c InBasis ∙ length-set w.positions r (InColumn k)
 
-  pub pivot_consistent : IsConsistent (made after)
-  pivot_consistent = record {
-    positive = pivot;
-    bounds = consistent.bounds ∙ sym positions_long;
-    at_upper = length-set (set w.at_upper r (is_upper direction)) c false ∙ length-set w.at_upper r (is_upper direction) ∙ consistent.at_upper ∙ sym positions_long;
-    nonbasic_values = length-set (set w.nonbasic_values r b) c (pos 0) ∙ length-set w.nonbasic_values r b ∙ consistent.nonbasic_values ∙ sym positions_long;
-    rows = ex.as_many ∙ consistent.rows ∙ sym positions_long;
-    values = vs.as_many ∙ consistent.values ∙ sym positions_long;
-    alone = alone_after;
-    within = within_after;
-    widths = λ v l. lengths_after v (omega (arith, l, positions_long));
-    exact = λ v l q. exact_after v (omega (arith, l, positions_long)) q;
-    fits = λ v l q. value_fits (get_or after v []) positions' nonbasic_values' (number_at values v) (after_small v) total_small (exact_after v (omega (arith, l, positions_long)) q);
-    small = total_small;
-    denominator_small = omega (arith, all_small r k);
-    rows_within = after_small;
-    costs_within = ex.costs.after;
-  }
+  -- ---- with the values
+  module _ (direction : Direction) (values : List ℤ) (values_many : length values ≡ length w.values)
+      (exact_after : (v : ℕ) → v < length w.positions → get_or positions' v InBasis ≡ InBasis → number_at values v ≡ sum_over positions' (get_or after v []) nonbasic_values')
+      (violated : violation (get_or (map fraction_bounds w.bounds) r unbounded) (frac (number_at w.values r) w.denominator) ≡ Some direction)
+      (bound : violated_bound direction (get_or (map fraction_bounds w.bounds) r unbounded) ≡ whole b)
+      (total_small : total_size nonbasic_values' < 2 ^ 62) where
+    is_pivot : IsExactPivot w r c k direction b news reduced_costs values
+    is_pivot = record {
+      alone = consistent.alone c k at_c;
+      at_c = at_c;
+      at_r = at_r;
+      c_there = c_there;
+      r_there = r_there;
+      positive = consistent.positive;
+      denominator_small = consistent.denominator_small;
+      as_many_rows = consistent.rows;
+      as_many_news = news_long;
+      as_many_at_upper = consistent.at_upper;
+      as_many_nonbasic_values = consistent.nonbasic_values;
+      as_many_values = consistent.values;
+      as_many_after = values_many ∙ consistent.values;
+      long = λ v l q. omega (arith, width, long_at v l q);
+      small = all_small;
+      new_small = λ v. subst (λ ys. IsWithin (2 ^ 62 - 1) (get_or ys v [])) (sym back) (after_small v);
+      source_small = subst (IsWithin (2 ^ 62 - 1)) (sym news_r) ex.solved.after;
+      pivot = pivot;
+      turn = subst (IsSolved p k w.denominator (get_or w.rows r [])) (sym news_r) ex.solved.numbers;
+      steps = λ v l m q. let h = (step_v v l m q).numbers in rw (news_r, news_v v m (not_c v q)) h;
+      cost_long = width;
+      cost_small = ex.costs.before;
+      cost_step = rw news_r ex.costs.numbers;
+      violated = violated;
+      bound = bound;
+      total_small = total_small;
+      exact = λ v l q. exact_after v l q ∙ ap (λ ys. sum_over positions' (get_or ys v []) nonbasic_values') (sym back);
+    }
+
+    -- the tableau that the pivot makes
+    abbrev pub made : List (List ℤ) → IntegerTableau
+    made ls = record w {
+      positions = positions';
+      at_upper = set (set w.at_upper r (is_upper direction)) c false;
+      nonbasic_values = nonbasic_values';
+      rows = ls;
+      reduced_costs = reduced_costs;
+      values = values;
+      denominator = nat_abs p;
+      pivots = w.pivots + 1;
+    }
+
+    pub pivot_is : (columns : ℕ) (numbers : List ℕ) → pivoted r c (tableau_of columns numbers w) ≡ Some (tableau_of columns numbers (made after))
+    pivot_is columns numbers = pivoted_is columns numbers w r c k direction b news reduced_costs values is_pivot ∙ ap (λ ls. Some (tableau_of columns numbers (made ls))) back
+
+    pub pivot_consistent : IsConsistent (made after)
+    pivot_consistent = record {
+      positive = pivot;
+      bounds = consistent.bounds ∙ sym positions_long;
+      at_upper = length-set (set w.at_upper r (is_upper direction)) c false ∙ length-set w.at_upper r (is_upper direction) ∙ consistent.at_upper ∙ sym positions_long;
+      nonbasic_values = length-set (set w.nonbasic_values r b) c (pos 0) ∙ length-set w.nonbasic_values r b ∙ consistent.nonbasic_values ∙ sym positions_long;
+      rows = ex.as_many ∙ consistent.rows ∙ sym positions_long;
+      values = values_many ∙ consistent.values ∙ sym positions_long;
+      alone = alone_after;
+      within = within_after;
+      widths = λ v l. lengths_after v (omega (arith, l, positions_long));
+      exact = λ v l q. exact_after v (omega (arith, l, positions_long)) q;
+      fits = λ v l q. value_fits (get_or after v []) positions' nonbasic_values' (number_at values v) (after_small v) total_small (exact_after v (omega (arith, l, positions_long)) q);
+      small = total_small;
+      denominator_small = omega (arith, all_small r k);
+      rows_within = after_small;
+      costs_within = ex.costs.after;
+    }

@@ -1,3 +1,4 @@
+mod Exchanges
 mod Fractions
 mod Comparing
 mod RowsByVariable
@@ -8,12 +9,19 @@ mod Keeping
 mod RatioTest
 mod Violations
 mod Places
+mod Combining
+mod CombinedValues
+mod CombinedLoops
+mod Expanded
+mod CompactPivot
 mod Programs
 mod Starting
 mod Loops
 mod Sizes
 mod Lists
+mod NonzeroPlaces
 mod FromCode
 mod StartFromCode
 mod Answering
 mod Denominators
+mod Statuses

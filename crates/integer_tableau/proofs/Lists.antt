@@ -19,6 +19,8 @@ use Rattle.fraction.specs.Lemmas.Bounds.{whole_parts}
 use Rattle.fraction.specs.Lemmas.Order.{compare_equal}
 use Rattle.fraction.specs.Rational.{frac, whole, ℚ}
 use Rattle.integer_tableau.proofs.Comparing.{above_whole, below_whole}
+use Rattle.integer_tableau.specs.Combined.{bound_size, total_bound_size}
+use Rattle.integer_tableau.specs.declared.integer_bounds.IntegerBounds.{IntegerBounds}
 use Rattle.integer_tableau.specs.Numbers.{number_at, total_size}
 use Rattle.integer_tableau.specs.Pivot.{IsEliminated, IsSubstitutedValue}
 use Rattle.integer_tableau.specs.Substitution.{IsSolvedRow, IsSubstitutedIfFull, IsSubstitutedRow}
@@ -31,6 +33,15 @@ total_size-take (x ∷ xs) (suc i) l = omega (arith, total_size-take xs i (omega
 
 pub total_size_more : (xs : List ℤ) (i total more x : ℕ) → i < length xs → total ≡ total_size (take i xs) → x ≡ nat_abs (number_at xs i) → more ≡ total + x → more ≡ total_size (take (i + 1) xs)
 total_size_more xs i total more x l t n m = let e : i + 1 ≡ suc i = omega arith in rw e (omega (arith, t, n, m, total_size-take xs i l))
+
+pub total_bound_size_more : (bs : List IntegerBounds) (i total more x : ℕ) → i < length bs → total ≡ total_bound_size (take i bs) → x ≡ bound_size (get_or bs i (record { lower = None; upper = None }))
+    → more ≡ total + x → more ≡ total_bound_size (take (i + 1) bs)
+total_bound_size_more bs i total more x l t n m = let q : i + 1 ≡ suc i = omega arith in rw q (omega (arith, t, n, m, step bs i l))
+  where
+    step : (bs : List IntegerBounds) (i : ℕ) → i < length bs → total_bound_size (take (suc i) bs) ≡ total_bound_size (take i bs) + bound_size (get_or bs i (record { lower = None; upper = None }))
+    step [] i l = absurd (omega arith)
+    step (c ∷ bs) zero l = omega arith
+    step (c ∷ bs) (suc i) l = omega (arith, step bs i (omega arith))
 
 -- an element more
 pub next_mapped : {A B : Type 0} (f : A → B) (xs : List A) (i : ℕ) (x : A) → slice_get xs i ≡ Some x → map f (take (i + 1) xs) ≡ map f (take i xs) ++ (f x ∷ [])
@@ -83,49 +94,19 @@ pub below_is : (v l d y : ℤ) → pos 0 <ℤ d → y ≡ l *ℤ d → int_lt v 
 below_is v l d y o e = rw e (ap (λ z. int_lt v (l *ℤ z)) (sym (positive_is d o)) ∙ sym (below_whole v l (nat_abs d) (same_size d o)))
 
 -- ---- a pivot's rows
-module _ (r c k d : ℕ) (dd ee : ℤ) (first one two : List (List ℤ)) (row new reduced_costs costs' : List ℤ)
-    (put : one ≡ set first r []) (row_is : row ≡ get_or first r []) (turn : IsSolvedRow k d row new) (dd_is : dd ≡ pos d) (ee_is : ee ≡ pos (nat_abs (number_at row k)))
-    (steps : (v : ℕ) → v < length one → IsSubstitutedIfFull dd ee k new (get_or one v []) (get_or two v [])) (cost : IsSubstitutedRow dd ee k new reduced_costs costs')
-    (many : length two ≡ length one) (apart : r ≢ c) (r_there : r < length first) (c_there : c < length first) (c_empty : get_or first c [] ≡ [])
-    (r_long : length (get_or first r []) ≡ length reduced_costs) (column : k < length reduced_costs) where
-  one_long : length one ≡ length first
-  one_long = ap length put ∙ length-set first r []
-
-  new_long : length new ≡ length reduced_costs
-  new_long = turn.width ∙ ap length row_is ∙ r_long
-
-  -- a row without numbers stays one
-  empty_stays : (v : ℕ) → v < length first → get_or one v [] ≡ [] → get_or two v [] ≡ []
-  empty_stays v l e = (steps v (omega (arith, l, one_long))).other (λ f. omega (arith, f, ap length e, new_long, column)) ∙ e
-
-  one_r : get_or one r [] ≡ []
-  one_r = ap (λ ls. get_or ls r []) put ∙ get_or-set_same first r [] [] r_there
-
-  one_v : (v : ℕ) → v ≢ r → get_or one v [] ≡ get_or first v []
-  one_v v n = ap (λ ls. get_or ls v []) put ∙ get_or-set_other first r v [] [] n
-
-  pub spare_empty : get_or two c [] ≡ []
-  spare_empty = empty_stays c c_there (one_v c (λ e. apart (sym e)) ∙ c_empty)
-
-  at_c : get_or (set two c new) c [] ≡ new
-  at_c = get_or-set_same two c new [] (omega (arith, many, one_long, c_there))
-
-  pub exchange_is : IsEliminated r c k d first (set two c new) reduced_costs costs'
-  exchange_is = record {
-    solved = subst (IsSolvedRow k d (get_or first r [])) (sym at_c) (subst (λ l. IsSolvedRow k d l new) row_is turn);
-    emptied = get_or-set_other two c r new [] apart ∙ empty_stays r r_there one_r;
-    others = λ v l m n.
-        subst (λ s. IsSubstitutedIfFull (pos d) (pos (nat_abs (number_at (get_or first r []) k))) k s (get_or first v []) (get_or (set two c new) v [])) (sym at_c)
-        (subst (λ x. IsSubstitutedIfFull (pos d) (pos (nat_abs (number_at (get_or first r []) k))) k new (get_or first v []) x) (sym (get_or-set_other two c v new [] n))
-        (subst (λ x. IsSubstitutedIfFull (pos d) (pos (nat_abs (number_at (get_or first r []) k))) k new x (get_or two v [])) (one_v v m)
-        (subst (λ z. IsSubstitutedIfFull z (pos (nat_abs (number_at (get_or first r []) k))) k new (get_or one v []) (get_or two v [])) dd_is
-        (subst (λ z. IsSubstitutedIfFull dd z k new (get_or one v []) (get_or two v [])) (ee_is ∙ ap (λ l. pos (nat_abs (number_at l k))) row_is) (steps v (omega (arith, l, one_long)))))));
-    costs =
-        subst (λ s. IsSubstitutedRow (pos d) (pos (nat_abs (number_at (get_or first r []) k))) k s reduced_costs costs') (sym at_c)
-        (subst (λ z. IsSubstitutedRow z (pos (nat_abs (number_at (get_or first r []) k))) k new reduced_costs costs') dd_is
-        (subst (λ z. IsSubstitutedRow dd z k new reduced_costs costs') (ee_is ∙ ap (λ l. pos (nat_abs (number_at l k))) row_is) cost));
-    as_many = length-set two c new ∙ many ∙ one_long;
-  }
+pub eliminated_from : (c k d e : ℕ) (dd ee : ℤ) (row solved : List ℤ) (first two : List (List ℤ)) (reduced_costs costs' : List ℤ) → dd ≡ pos d → ee ≡ pos e → IsSolvedRow k d row solved
+    → ((v : ℕ) → v < length first → IsSubstitutedIfFull dd ee k solved (get_or first v []) (get_or two v [])) → IsSubstitutedRow dd ee k solved reduced_costs costs' → length two ≡ length first
+    → IsEliminated c k d e row solved first (set two c solved) reduced_costs costs'
+eliminated_from c k d e dd ee row solved first two reduced_costs costs' dd_is ee_is turn steps costs many = record {
+  is_solved = turn;
+  put = λ l. get_or-set_same two c solved [] (omega (arith, l, many));
+  others = λ v l n.
+      subst (λ x. IsSubstitutedIfFull (pos d) (pos e) k solved (get_or first v []) x) (sym (get_or-set_other two c v solved [] n))
+      (subst (λ z. IsSubstitutedIfFull z (pos e) k solved (get_or first v []) (get_or two v [])) dd_is
+      (subst (λ z. IsSubstitutedIfFull dd z k solved (get_or first v []) (get_or two v [])) ee_is (steps v l)));
+  costs = subst (λ z. IsSubstitutedRow z (pos e) k solved reduced_costs costs') dd_is (subst (λ z. IsSubstitutedRow dd z k solved reduced_costs costs') ee_is costs);
+  as_many = length-set two c solved ∙ many;
+}
 
 pub size_is : (d : ℤ) → pos 0 <ℤ d → d ≡ pos (nat_abs d)
 size_is d o = omega (arith, ints)

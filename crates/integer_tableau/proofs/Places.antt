@@ -11,7 +11,7 @@ use Rattle.integer_tableau.specs.Entering.{entering_by_numerators}
 use Rattle.integer_tableau.specs.IntegerTableau.{IntegerTableau, fraction_bounds, row_of_position, rows_of, statuses_of, tableau_of}
 use Rattle.integer_tableau.specs.Leaving.{leaving_by_numerators}
 use Rattle.integer_tableau.specs.Numbers.{IsWithin}
-use Rattle.integer_tableau.specs.Place.{place_where_leaving}
+use Rattle.integer_tableau.specs.Place.{place_of_candidate}
 use Rattle.integer_tableau.specs.Positions.{coefficient, coefficients}
 use Rattle.integer_tableau.specs.declared.entering.Candidate.{Candidate}
 use Rattle.integer_tableau.specs.declared.integer_bounds.IntegerBounds.{IntegerBounds}
@@ -21,12 +21,12 @@ use Rattle.tableau.specs.Entering.{entering_from}
 use Rattle.tableau.specs.Place.{place, place_entering, place_leaving}
 use Rattle.tableau.specs.declared.bounds.Direction.{Direction}
 use Rattle.tableau.specs.declared.place.Place.{Place}
-use Rattle.tableau.specs.declared.place.Place.TheVariants.{Cramped, Done, NoColumn, Pivot}
+use Rattle.tableau.specs.declared.place.Place.TheVariants.{Cramped, Done}
 
--- what the choice of the entering variable asks for
-abbrev pub place_of_candidate : ℕ → Option Candidate → Place
-place_of_candidate r None = NoColumn r
-place_of_candidate r (Some b) = Pivot r b.variable
+-- where variable r leaves in this direction: the place of the tableau of fractions
+abbrev pub place_where_leaving : ℕ → Direction → ℕ → List Position → List Bool → List IntegerBounds → List (List ℤ) → List ℤ → Place
+place_where_leaving r w d ss us bs rows costs = place_entering r
+    (entering_from 0 w None (statuses_of ss us) (map fraction_bounds bs) (coefficients d ss costs) (get_or (rows_of (row_of_position d ss) ss rows) r []))
 
 pub place_where_leaving_is : (r : ℕ) (w : Direction) (d : ℕ) (ss : List Position) (us : List Bool) (ls : List IntegerBounds) (rows : List (List ℤ)) (reduced_costs : List ℤ)
     → length us ≡ length ss → length ls ≡ length ss → length rows ≡ length ss → r < length ss → get_or ss r InBasis ≡ InBasis → 0 < d → d < 2 ^ 62
@@ -58,9 +58,8 @@ place_is columns numbers w e f g h =
     split (Some l) = refl
 
 -- ---- it is never cramped
-pub never_cramped : (columns : ℕ) (numbers : List ℕ) (w : IntegerTableau) → IsConsistent w → w.denominator < 2 ^ 62 → IsWithin (2 ^ 62 - 1) w.reduced_costs
-    → ((v : ℕ) → IsWithin (2 ^ 62 - 1) (get_or w.rows v [])) → place (tableau_of columns numbers w) ≢ Cramped
-never_cramped columns numbers w consistent small hc hr e =
+pub never_cramped : (columns : ℕ) (numbers : List ℕ) (w : IntegerTableau) → IsConsistent w → place (tableau_of columns numbers w) ≢ Cramped
+never_cramped columns numbers w consistent e =
     split (leaving_by_numerators w.denominator 0 w.positions w.bounds w.values) refl (sym (place_is columns numbers w consistent.at_upper consistent.bounds consistent.nonbasic_values consistent.values) ∙ e)
   where
     chosen : (r : ℕ) (best : Option Candidate) → place_of_candidate r best ≡ Cramped → ⊥
@@ -74,4 +73,4 @@ never_cramped columns numbers w consistent small hc hr e =
         let r : l.0 ≡ h.0 = omega (arith, h.1) in
         chosen l.0 (entering_by_numerators 0 l.1 None w.positions w.at_upper w.bounds w.reduced_costs (get_or w.rows l.0 []))
         (sym (place_where_leaving_is l.0 l.1 w.denominator w.positions w.at_upper w.bounds w.rows w.reduced_costs consistent.at_upper consistent.bounds consistent.rows (omega (arith, r, h.2))
-        (ap (λ v. get_or w.positions v InBasis) r ∙ h.3) consistent.positive small hc (hr l.0)) ∙ e)
+        (ap (λ v. get_or w.positions v InBasis) r ∙ h.3) consistent.positive consistent.denominator_small consistent.costs_within (consistent.rows_within l.0)) ∙ e)

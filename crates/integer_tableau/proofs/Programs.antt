@@ -56,11 +56,13 @@ program_over rows costs bounds numbers area = λ i. record {
         (λ i. sym (columns_are area) i ++ (ap (λ n. drop n (map fraction_bounds bounds)) (length-map costs whole) ∙ drop-map fraction_bounds (length costs) bounds) i)
         ∙ sym (map-append fraction_bounds (map column_bounds area) (drop (length costs) bounds))
 
-pub ready_over : (rows : List (List ℤ)) (costs : List ℤ) (bounds : List IntegerBounds) (area : List Span) → IsReady rows costs bounds → length area ≡ length costs
-    → IsReady rows costs (map column_bounds area ++ drop (length costs) bounds)
-ready_over rows costs bounds area ready e = record {
+pub ready_over : (rows : List (List ℤ)) (weight : ℕ) (costs : List ℤ) (bounds : List IntegerBounds) (area : List Span) → IsReady rows weight costs bounds → length area ≡ length costs
+    → IsReady rows weight costs (map column_bounds area ++ drop (length costs) bounds)
+ready_over rows weight costs bounds area ready e = record {
   rows_full = ready.rows_full;
   bounds_there = omega (arith, ready.bounds_there, length-append (map column_bounds area) (drop (length costs) bounds), length-map area column_bounds, length-drop (length costs) bounds);
   rows_within = ready.rows_within;
   costs_within = ready.costs_within;
+  weights = ready.weights;
+  light = ready.light;
 }

@@ -10,7 +10,8 @@ use Rattle.std.proofs.lemmas.List.{same_lists, get_or-map, map-set, length-map, 
 use Rattle.fraction.specs.Rational.{frac, whole, ℚ}
 use Rattle.integer_tableau.proofs.Fractions.{add_multiple_exact, frac-num_positive, less_over, negative_quotient_exact, zero_over}
 use Rattle.integer_tableau.specs.Numbers.{IsWithin, number_at}
-use Rattle.integer_tableau.specs.Positions.{IsColumnOf, coefficient, coefficients, positions_exchanged}
+use Rattle.integer_tableau.specs.Positions.{IsColumnOf, coefficient, coefficients}
+use Rattle.integer_tableau.proofs.Exchanges.{positions_exchanged}
 use Rattle.integer_tableau.specs.Substitution.{IsSolved, IsSubstituted, quotient_numerator}
 use Rattle.integer_tableau.specs.declared.position.Position.{Position}
 use Rattle.integer_tableau.specs.declared.position.Position.TheVariants.{InBasis, InColumn}

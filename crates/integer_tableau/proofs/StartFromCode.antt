@@ -1,24 +1,28 @@
 -- The start, from what the code's parts say.
-use Rattle.std.proofs.Common.{◌≡◌, ℕ, zero, suc, ◌+◌, ◌-◌, ◌*◌, ◌^◌, ◌<◌, ◌≤◌, arith, refl, ap, sym, ◌∙◌, subst, Bool, true, false, Some, List, [], ◌∷◌, ◌++◌, length, get_or, replicate, inl, inr, append_assoc, drop, drop-cons}
-use Rattle.std.specs.Prelude.{ℤ, pos, nat_abs, ◌+ℤ◌, ◌*ℤ◌, map, if◌then◌else◌}
-use Rattle.std.specs.Ordering.{int_eq}
-use Rattle.std.proofs.lemmas.Int.{ints, unsigned_abs-mul}
-use Rattle.std.proofs.Math.Nat.{mul-le-mul_right}
+use Rattle.std.proofs.Common.{◌≡◌, ℕ, zero, suc, ◌+◌, ◌-◌, ◌^◌, ◌<◌, ◌≤◌, arith, refl, ap, sym, ◌∙◌, subst, Bool, true, false, Option, Some, None, List, [], ◌∷◌, ◌++◌, length, get_or, drop, replicate, inl, inr}
+use Rattle.std.specs.Prelude.{ℤ, pos, nat_abs, nat_eq, int_lt, ◌+ℤ◌, ◌*ℤ◌, map, if◌then◌else◌}
+use Rattle.std.specs.Option.{unwrap_or}
+use Rattle.std.proofs.Math.Seq.{drop-append_seam}
+use Rattle.std.proofs.lemmas.Int.{ints}
 use Rattle.std.proofs.lemmas.Bool.{cases_lt}
-use Rattle.std.proofs.lemmas.Bool.Decides.{Decides-int_eq}
-use Rattle.std.proofs.lemmas.List.{get_or_past, length-append, length-map, length-replicate}
-use Rattle.tableau.specs.Start.{started}
-use Rattle.integer_tableau.proofs.Starting.{length_start_numbers, positions_many, start_consistent, start_tableau_is, statuses_many}
-use Rattle.integer_tableau.specs.Consistent.{IsConsistent}
+use Rattle.std.proofs.lemmas.Bool.Decides.{nat_tests}
+use Rattle.std.proofs.lemmas.List.{get_or_default, get_or_past, length-replicate, same_lists}
+use Rattle.integer_tableau.proofs.Combining.{length-numbers_from, number_at-numbers_from}
+use Rattle.integer_tableau.proofs.Expanded.{row_value, value_of_row, values_many, which}
+use Rattle.integer_tableau.proofs.Starting.{column_number, length_columns, nonbasic_values_many, position_of_column, positions_many, start_consistent, start_tableau_is, statuses_many}
+use Rattle.integer_tableau.specs.Combined.{IsCompact, bound_size, combined, combined_row, expanded, expanded_values, rows_behind, size_of, total_bound_size}
+use Rattle.integer_tableau.specs.Consistent.{IsConsistent, row_width}
 use Rattle.integer_tableau.specs.IntegerProgram.{fraction_program, IsReady}
 use Rattle.integer_tableau.specs.IntegerTableau.{IntegerTableau, of_parts, statuses_of, tableau_of}
 use Rattle.integer_tableau.specs.Numbers.{IsWithin, number_at, total_size}
-use Rattle.integer_tableau.specs.Positions.{numerator, sum_over}
-use Rattle.integer_tableau.specs.Start.{columns_from, is_negative, nonzero_columns, size_at, start_numbers, start_tableau, sum_at}
+use Rattle.integer_tableau.specs.Positions.{IsColumnOf, sum_over}
+use Rattle.integer_tableau.specs.Start.{columns_from, is_negative, start_number, start_numbers}
+use Rattle.integer_tableau.proofs.Starting.{start_tableau}
 use Rattle.integer_tableau.specs.declared.integer_bounds.IntegerBounds.{IntegerBounds}
 use Rattle.integer_tableau.specs.declared.position.Position.{Position}
 use Rattle.integer_tableau.specs.declared.position.Position.TheVariants.{InBasis, InColumn}
-use Rattle.integer_tableau.specs.declared.start_values.NonzeroColumn.{NonzeroColumn}
+use Rattle.integer_tableau.proofs.Expanded.{bounded_total}
+use Rattle.tableau.specs.Start.{started}
 
 pub columns_more : (j n : ℕ) → columns_from j (n + 1) ≡ columns_from j n ++ (InColumn (j + n) ∷ [])
 columns_more j n = let q : n + 1 ≡ suc n = omega arith in ap (columns_from j) q ∙ step j n
@@ -30,170 +34,208 @@ columns_more j n = let q : n + 1 ≡ suc n = omega arith in ap (columns_from j) 
 pub column_pushed : (n k : ℕ) (old new : List Position) → old ≡ columns_from 0 n → new ≡ old ++ (InColumn n ∷ []) → new ≡ columns_from 0 (n + 1)
 column_pushed n k old new e p = p ∙ ap (λ ss. ss ++ (InColumn n ∷ [])) e ∙ ap (λ k. columns_from 0 n ++ (InColumn k ∷ [])) (let q : n ≡ 0 + n = omega arith in q) ∙ sym (columns_more 0 n)
 
--- ---- values
--- a sum over a row without numbers
-empty_sum : (positions : List Position) (xs : List ℤ) → sum_over positions [] xs ≡ pos 0
-empty_sum [] xs = refl
-empty_sum (s ∷ positions) [] = refl
-empty_sum (s ∷ positions) (x ∷ xs) = (λ i. none s i *ℤ x +ℤ empty_sum positions xs i) ∙ plus_none x
+-- ---- the rows of rows' variables are those of the linear program
+abbrev no_rows : ℕ → List (List ℤ)
+no_rows n = replicate n []
+
+none_many : (n : ℕ) → length (no_rows n) ≡ n
+none_many n = length-replicate n []
+
+-- no column before the first one says anything
+combined_before : (a : List ℤ) (j k : ℕ) (ss : List Position) → k < j → combined 1 a (columns_from j (length a) ++ ss) (no_rows (length a)) k ≡ pos 0
+combined_before [] j k ss l = refl
+combined_before (x ∷ a) j k ss l = (λ i. x *ℤ (if other i then pos 1 else pos 0) +ℤ combined_before a (suc j) k ss (omega arith) i) ∙ none x
   where
-    none : (s : Position) → numerator [] s ≡ pos 0
-    none InBasis = refl
-    none (InColumn k) = refl
+    other : nat_eq k j ≡ false
+    other = let n : k ≡ j → ⊥ = omega arith in grind (arith, nat_tests)
 
-    plus_none : (x : ℤ) → pos 0 *ℤ x +ℤ pos 0 ≡ pos 0
-    plus_none x = omega (arith, ints)
+    none : (x : ℤ) → x *ℤ pos 0 +ℤ pos 0 ≡ pos 0
+    none x = omega (arith, ints)
 
--- over the columns from j on, by those whose value isn't 0
-pub sum_is : (row : List ℤ) (m j : ℕ) (xs : List ℤ)
-    → sum_over (columns_from j (length xs) ++ replicate m InBasis) row (xs ++ replicate m (pos 0)) ≡ sum_at (nonzero_columns j (xs ++ replicate m (pos 0))) row
-sum_is row zero j [] = refl
-sum_is row (suc m) j [] = plus_none _ ∙ sum_is row m (suc j) []
+combined_start : (a : List ℤ) (j i k : ℕ) (ss : List Position) → k ≡ j + i → combined 1 a (columns_from j (length a) ++ ss) (no_rows (length a)) k ≡ number_at a i
+combined_start [] j i k ss e = refl
+combined_start (x ∷ a) j zero k ss e = (λ t. x *ℤ (if same t then pos 1 else pos 0) +ℤ combined_before a (suc j) k ss (omega arith) t) ∙ one x
   where
-    plus_none : (x : ℤ) → pos 0 *ℤ pos 0 +ℤ x ≡ x
-    plus_none x = omega (arith, ints)
-sum_is row m j (x ∷ xs) = ap (λ z. number_at row j *ℤ x +ℤ z) (sum_is row m (suc j) xs) ∙ by_test (int_eq x (pos 0)) refl
+    same : nat_eq k j ≡ true
+    same = let n : k ≡ j = omega arith in grind (arith, nat_tests)
+
+    one : (x : ℤ) → x *ℤ pos 1 +ℤ pos 0 ≡ x
+    one x = omega (arith, ints)
+combined_start (x ∷ a) j (suc i) k ss e = (λ t. x *ℤ (if other t then pos 1 else pos 0) +ℤ combined_start a (suc j) i k ss (omega arith) t) ∙ none x (number_at a i)
   where
-    times_none : (y z : ℤ) → y *ℤ pos 0 +ℤ z ≡ z
-    times_none y z = omega (arith, ints)
+    other : nat_eq k j ≡ false
+    other = let n : k ≡ j → ⊥ = omega arith in grind (arith, nat_tests)
 
-    by_test : (b : Bool) → int_eq x (pos 0) ≡ b
-        → number_at row j *ℤ x +ℤ sum_at (nonzero_columns (suc j) (xs ++ replicate m (pos 0))) row
-        ≡ sum_at (if b then nonzero_columns (suc j) (xs ++ replicate m (pos 0)) else record { column = j; value = x } ∷ nonzero_columns (suc j) (xs ++ replicate m (pos 0))) row
-    by_test true e = ap (λ x. number_at row j *ℤ x +ℤ sum_at (nonzero_columns (suc j) (xs ++ replicate m (pos 0))) row) ((Decides-int_eq x (pos 0)).0 e)
-        ∙ times_none (number_at row j) (sum_at (nonzero_columns (suc j) (xs ++ replicate m (pos 0))) row)
-    by_test false e = refl
+    none : (x y : ℤ) → x *ℤ pos 0 +ℤ y ≡ y
+    none x y = omega (arith, ints)
 
-pub size_is_total : (j : ℕ) (xs : List ℤ) → size_at (nonzero_columns j xs) ≡ total_size xs
-size_is_total j [] = refl
-size_is_total j (x ∷ xs) = by_test (int_eq x (pos 0)) refl ∙ ap (λ n. nat_abs x + n) (size_is_total (suc j) xs)
+row_at_start : (a : List ℤ) (n : ℕ) (ss : List Position) → length a ≡ n → combined_row 1 (columns_from 0 n ++ ss) (no_rows n) a ≡ a
+row_at_start a n ss e = subst (λ n. combined_row 1 (columns_from 0 n ++ ss) (no_rows n) a ≡ a) e (same_lists _ _ long (λ j z m.
+    get_or_default (combined_row 1 (columns_from 0 (length a) ++ ss) (no_rows (length a)) a) j z (pos 0) m
+    ∙ number_at-numbers_from 0 (length (no_rows (length a))) (combined 1 a (columns_from 0 (length a) ++ ss) (no_rows (length a))) j (omega (arith, m, length-numbers_from 0 (length (no_rows (length a))) (combined 1 a (columns_from 0 (length a) ++ ss) (no_rows (length a)))))
+    ∙ combined_start a 0 j (0 + j) ss refl
+    ∙ sym (get_or_default a j z (pos 0) (omega (arith, m, long)))))
   where
-    by_test : (b : Bool) → int_eq x (pos 0) ≡ b
-        → size_at (if b then nonzero_columns (suc j) xs else record { column = j; value = x } ∷ nonzero_columns (suc j) xs) ≡ nat_abs x + size_at (nonzero_columns (suc j) xs)
-    by_test true e = omega (arith, ap nat_abs ((Decides-int_eq x (pos 0)).0 e))
-    by_test false e = refl
+    long : length (combined_row 1 (columns_from 0 (length a) ++ ss) (no_rows (length a)) a) ≡ length a
+    long = length-numbers_from 0 (length (no_rows (length a))) (combined 1 a (columns_from 0 (length a) ++ ss) (no_rows (length a))) ∙ none_many (length a)
 
--- one column more, in a loop over them
-pub columns_more_zero : (columns : List NonzeroColumn) (xs : List ℤ) (j : ℕ) (all : List NonzeroColumn) → j < length xs → columns ++ nonzero_columns j (drop j xs) ≡ all → number_at xs j ≡ pos 0
-    → columns ++ nonzero_columns (j + 1) (drop (j + 1) xs) ≡ all
-columns_more_zero columns xs j all l h z =
-    ap (λ n. columns ++ nonzero_columns n (drop n xs)) (let e : j + 1 ≡ suc j = omega arith in e)
-    ∙ sym (ap (λ ys. columns ++ nonzero_columns j ys) (drop-cons xs j (pos 0) l)
-    ∙ ap (λ b. columns ++ (if b then nonzero_columns (suc j) (drop (suc j) xs) else record { column = j; value = number_at xs j } ∷ nonzero_columns (suc j) (drop (suc j) xs)))
-    ((Decides-int_eq (number_at xs j) (pos 0)).1 z)) ∙ h
+rows_at_start : (f : List ℤ → List ℤ) (ps : List (List ℤ)) → ((i : ℕ) → i < length ps → f (get_or ps i []) ≡ get_or ps i []) → rows_behind f (replicate (length ps) InBasis) ps ≡ ps
+rows_at_start f [] h = refl
+rows_at_start f (a ∷ ps) h = λ i. h zero (omega arith) i ∷ rows_at_start f ps (λ j l. h (suc j) (omega arith)) i
 
-pub columns_more_nonzero : (columns : List NonzeroColumn) (xs : List ℤ) (j : ℕ) (x : ℤ) (all : List NonzeroColumn) → j < length xs → columns ++ nonzero_columns j (drop j xs) ≡ all
-    → x ≡ number_at xs j → (number_at xs j ≡ pos 0 → ⊥) → (columns ++ (record { column = j; value = x } ∷ [])) ++ nonzero_columns (j + 1) (drop (j + 1) xs) ≡ all
-columns_more_nonzero columns xs j x all l h r n =
-    append_assoc columns (record { column = j; value = x } ∷ []) (nonzero_columns (j + 1) (drop (j + 1) xs))
-    ∙ ap (λ n. columns ++ (record { column = j; value = x } ∷ nonzero_columns n (drop n xs))) (let e : j + 1 ≡ suc j = omega arith in e)
-    ∙ ap (λ x. columns ++ (record { column = j; value = x } ∷ nonzero_columns (suc j) (drop (suc j) xs))) r
-    ∙ sym (ap (λ ys. columns ++ nonzero_columns j ys) (drop-cons xs j (pos 0) l)
-    ∙ ap (λ b. columns ++ (if b then nonzero_columns (suc j) (drop (suc j) xs) else record { column = j; value = number_at xs j } ∷ nonzero_columns (suc j) (drop (suc j) xs)))
-    (not_equal (int_eq (number_at xs j) (pos 0)) refl)) ∙ h
+-- ---- sizes
+start_number_size : (c : ℤ) (b : IntegerBounds) → nat_abs (start_number c b) ≤ bound_size b
+start_number_size c b = by_test (int_lt c (pos 0))
   where
-    not_equal : (b : Bool) → int_eq (number_at xs j) (pos 0) ≡ b → int_eq (number_at xs j) (pos 0) ≡ false
-    not_equal true e = absurd (n ((Decides-int_eq (number_at xs j) (pos 0)).0 e))
-    not_equal false e = e
+    end : (o : Option ℤ) → nat_abs (unwrap_or o (pos 0)) ≤ size_of o
+    end None = omega arith
+    end (Some z) = omega arith
 
--- one product more in the sum of a row
-pub record IsNextSum (columns : List NonzeroColumn) (row : List ℤ) (i : ℕ) (total : ℤ) : Type 0 where
-  pub fits : nat_abs total < 2 ^ 127
-  pub sum : total +ℤ sum_at (drop (i + 1) columns) row ≡ sum_at columns row
-  pub size : nat_abs total + (2 ^ 62 - 1) * size_at (drop (i + 1) columns) ≤ (2 ^ 62 - 1) * size_at columns
+    by_test : (t : Bool) → nat_abs (if t then unwrap_or b.upper (pos 0) else unwrap_or b.lower (pos 0)) ≤ bound_size b
+    by_test true = omega (arith, end b.upper)
+    by_test false = omega (arith, end b.lower)
 
-pub next_sum : (columns : List NonzeroColumn) (row : List ℤ) (i : ℕ) (none : NonzeroColumn) (total p : ℤ) → i < length columns → IsWithin (2 ^ 62 - 1) row → size_at columns < 2 ^ 62
-    → total +ℤ sum_at (drop i columns) row ≡ sum_at columns row
-    → nat_abs total + (2 ^ 62 - 1) * size_at (drop i columns) ≤ (2 ^ 62 - 1) * size_at columns
-    → p ≡ number_at row (get_or columns i none).column *ℤ (get_or columns i none).value → IsNextSum columns row i (total +ℤ p)
-next_sum columns row i none total p l within small sum size is =
-    let next : drop i columns ≡ get_or columns i none ∷ drop (i + 1) columns = drop-cons columns i none l ∙ ap (λ n. get_or columns i none ∷ drop n columns) (let e : suc i ≡ i + 1 = omega arith in e) in
-    let sum' = subst (λ ts. total +ℤ sum_at ts row ≡ sum_at columns row) next sum in
-    let size' = subst (λ ts. nat_abs total + (2 ^ 62 - 1) * size_at ts ≤ (2 ^ 62 - 1) * size_at columns) next size in
-    let size'' = after total p (number_at row (get_or columns i none).column) (get_or columns i none).value (size_at (drop (i + 1) columns)) (size_at columns) is (within (get_or columns i none).column) size' in
-    record {
-      fits = omega (arith, size'', small);
-      sum = assoc total p (sum_at (drop (i + 1) columns) row) ∙ ap (λ q. total +ℤ (q +ℤ sum_at (drop (i + 1) columns) row)) is ∙ sum';
-      size = size'';
-    }
-  where
-    assoc : (a b c : ℤ) → (a +ℤ b) +ℤ c ≡ a +ℤ (b +ℤ c)
-    assoc a b c = omega (arith, ints)
+zeros_at : (m v : ℕ) → number_at (replicate m (pos 0)) v ≡ pos 0
+zeros_at zero v = refl
+zeros_at (suc m) zero = refl
+zeros_at (suc m) (suc v) = zeros_at m v
 
-    add_size : (a b : ℤ) → nat_abs (a +ℤ b) ≤ nat_abs a + nat_abs b
-    add_size a b = omega (arith, ints)
-
-    after : (total p z x : ℤ) (rest all : ℕ) → p ≡ z *ℤ x → nat_abs z ≤ 2 ^ 62 - 1 → nat_abs total + (2 ^ 62 - 1) * (nat_abs x + rest) ≤ (2 ^ 62 - 1) * all
-        → nat_abs (total +ℤ p) + (2 ^ 62 - 1) * rest ≤ (2 ^ 62 - 1) * all
-    after total p z x rest all e h k = omega (arith, k, add_size total p, ap nat_abs e ∙ unsigned_abs-mul z x, mul-le-mul_right (nat_abs x) h)
-
--- variable by variable
-values_at : (f g : List ℤ → ℤ) → ((row : List ℤ) → f row ≡ g row) → g [] ≡ pos 0 → (n : ℕ) (rows : List (List ℤ)) (v : ℕ)
-    → number_at (replicate n (pos 0) ++ map f rows) v ≡ g (get_or (replicate n [] ++ rows) v [])
-values_at f g h e zero [] v = sym e
-values_at f g h e zero (row ∷ rows) zero = h row
-values_at f g h e zero (row ∷ rows) (suc v) = values_at f g h e zero rows v
-values_at f g h e (suc n) rows zero = sym e
-values_at f g h e (suc n) rows (suc v) = values_at f g h e n rows v
+start_bounded : (cs : List ℤ) (bs : List IntegerBounds) (m v : ℕ) → nat_abs (number_at (start_numbers cs bs ++ replicate m (pos 0)) v) ≤ bound_size (get_or bs v (record { lower = None; upper = None }))
+start_bounded [] bs m v = omega (arith, ap nat_abs (zeros_at m v))
+start_bounded (c ∷ cs) [] m v = omega (arith, ap nat_abs (zeros_at m v))
+start_bounded (c ∷ cs) (b ∷ bs) m zero = start_number_size c b
+start_bounded (c ∷ cs) (b ∷ bs) m (suc v) = start_bounded cs bs m v
 
 -- ---- the whole start
-module _ (program_rows : List (List ℤ)) (reduced_costs : List ℤ) (bounds : List IntegerBounds) (ready : IsReady program_rows reduced_costs bounds)
-    (positions : List Position) (at_upper : List Bool) (nonbasic_values : List ℤ) (rows : List (List ℤ)) (costs values : List ℤ) (d : ℤ)
-    (positions_are : positions ≡ columns_from 0 (length reduced_costs) ++ replicate (length program_rows) InBasis)
-    (at_upper_are : at_upper ≡ map is_negative reduced_costs ++ replicate (length program_rows) false)
-    (nonbasic_values_are : nonbasic_values ≡ start_numbers reduced_costs bounds ++ replicate (length program_rows) (pos 0))
-    (rows_are_at : rows ≡ replicate (length reduced_costs) [] ++ program_rows)
-    (values_are : values ≡ replicate (length reduced_costs) (pos 0) ++ map (sum_at (nonzero_columns 0 nonbasic_values)) program_rows)
-    (costs_are : costs ≡ reduced_costs) (d_is : d ≡ pos 1) (total_small : total_size nonbasic_values < 2 ^ 62) where
-  abbrev at : IntegerTableau
-  at = start_tableau program_rows reduced_costs bounds values
+module _ (program_rows : List (List ℤ)) (weight reach : ℕ) (reduced_costs : List ℤ) (bounds : List IntegerBounds) (ready : IsReady program_rows weight reduced_costs bounds)
+    (reached : (j : ℕ) → j < length reduced_costs → bound_size (get_or bounds j (record { lower = None; upper = None })) ≤ reach) (near : reach < 2 ^ 63) (room : total_bound_size bounds < 2 ^ 62) where
+  abbrev n : ℕ
+  n = length reduced_costs
 
-  same : of_parts bounds positions at_upper nonbasic_values rows costs values d 0 ≡ at
-  same = λ i. of_parts bounds (positions_are i) (at_upper_are i) (nonbasic_values_are i) (rows_are_at i) (costs_are i) values (d_is i) 0
+  abbrev m : ℕ
+  m = length program_rows
 
-  many : length values ≡ length reduced_costs + length program_rows
-  many =
-      ap length values_are ∙ length-append (replicate (length reduced_costs) (pos 0)) (map (sum_at (nonzero_columns 0 nonbasic_values)) program_rows)
-      ∙ (λ i. length-replicate (length reduced_costs) (pos 0) i + length-map program_rows (sum_at (nonzero_columns 0 nonbasic_values)) i)
+  abbrev ss : List Position
+  ss = columns_from 0 n ++ replicate m InBasis
 
-  row_sum : (row : List ℤ) → sum_at (nonzero_columns 0 nonbasic_values) row ≡ sum_over at.positions row at.nonbasic_values
-  row_sum row =
-      ap (λ xs. sum_at (nonzero_columns 0 xs) row) nonbasic_values_are ∙ sym (sum_is row (length program_rows) 0 (start_numbers reduced_costs bounds))
-      ∙ ap (λ n. sum_over (columns_from 0 n ++ replicate (length program_rows) InBasis) row at.nonbasic_values)
-      (length_start_numbers reduced_costs bounds (omega (arith, ready.bounds_there)))
+  abbrev xs : List ℤ
+  xs = start_numbers reduced_costs bounds ++ replicate m (pos 0)
 
-  exact_at : (v : ℕ) → v < length at.positions → get_or at.positions v InBasis ≡ InBasis → number_at values v ≡ sum_over at.positions (get_or at.rows v []) at.nonbasic_values
-  exact_at v l q =
-      ap (λ vs. number_at vs v) values_are
-      ∙ values_at (sum_at (nonzero_columns 0 nonbasic_values)) (λ row. sum_over at.positions row at.nonbasic_values) row_sum (empty_sum at.positions at.nonbasic_values)
-      (length reduced_costs) program_rows v
+  -- what is kept
+  abbrev pub first : IntegerTableau
+  first = record {
+    bounds = bounds;
+    positions = ss;
+    at_upper = map is_negative reduced_costs ++ replicate m false;
+    nonbasic_values = xs;
+    rows = no_rows n;
+    reduced_costs = reduced_costs;
+    values = replicate n (pos 0);
+    denominator = 1;
+    pivots = 0;
+  }
 
-  none_within : (v : ℕ) (ls : List (List ℤ)) → ((i : ℕ) → i < length ls → IsWithin (2 ^ 62 - 1) (get_or ls i [])) → IsWithin (2 ^ 62 - 1) (get_or ls v [])
-  none_within v ls h = elim (cases_lt v (length ls)) [
+  abbrev all_values : List ℤ
+  all_values = expanded_values 1 program_rows ss xs (replicate n (pos 0))
+
+  lengths : length ss ≡ n + m
+  lengths = positions_many program_rows reduced_costs bounds [] ready.rows_full
+
+  nonbasic_lengths : length xs ≡ n + m
+  nonbasic_lengths = nonbasic_values_many program_rows reduced_costs bounds [] ready.rows_full ready.bounds_there
+
+  behind : drop (length (no_rows n)) ss ≡ replicate m InBasis
+  behind = ap (λ k. drop k ss) (none_many n ∙ sym (length_columns 0 n)) ∙ drop-append_seam (columns_from 0 n) (replicate m InBasis)
+
+  same : expanded program_rows first ≡ start_tableau program_rows reduced_costs bounds all_values
+  same = λ i. record first {
+    rows = no_rows n ++ (ap (λ ss'. rows_behind (combined_row 1 ss (no_rows n)) ss' program_rows) behind
+        ∙ rows_at_start (combined_row 1 ss (no_rows n)) program_rows (λ i l. row_at_start (get_or program_rows i []) n (replicate m InBasis) (ready.rows_full i l))) i;
+    values = all_values;
+  }
+
+  positions_alone : (v k : ℕ) → get_or ss v InBasis ≡ InColumn k → IsColumnOf ss v k
+  positions_alone v k h u g = omega (arith, (column_number 0 n m v k h).0, (column_number 0 n m u k g).0)
+
+  columns_within : (v k : ℕ) → get_or ss v InBasis ≡ InColumn k → k < length (no_rows n)
+  columns_within v k h = omega (arith, (column_number 0 n m v k h).0, (column_number 0 n m v k h).1, none_many n)
+
+  empty_at : (n v : ℕ) → get_or (no_rows n) v [] ≡ []
+  empty_at zero v = refl
+  empty_at (suc n) zero = refl
+  empty_at (suc n) (suc v) = empty_at n v
+
+  exact_row : (i : ℕ) → i < m → number_at all_values (n + i) ≡ sum_over ss (get_or program_rows i []) xs
+  exact_row i l =
+      ap (λ k. number_at all_values (k + i)) (sym (length-replicate n (pos 0)))
+      ∙ value_of_row 1 program_rows ss xs (replicate n (pos 0)) i l
+      ∙ row_value 1 ss (no_rows n) xs (replicate n (pos 0)) (omega (arith, lengths, none_many n)) (nonbasic_lengths ∙ sym lengths) (length-replicate n (pos 0) ∙ sym (none_many n))
+      positions_alone columns_within
+      (λ j h. ap length (empty_at n j) ∙ ap (row_width (length (no_rows n))) (sym (position_of_column 0 n j (replicate m InBasis) (omega (arith, h, none_many n)))))
+      (λ j h q. absurd (let f : InColumn (0 + j) ≡ InBasis = sym (position_of_column 0 n j (replicate m InBasis) (omega (arith, h, none_many n))) ∙ q in cc))
+      (get_or program_rows i []) (ready.rows_full i l ∙ sym (none_many n))
+      ∙ ap (λ row. sum_over ss row xs) (row_at_start (get_or program_rows i []) n (replicate m InBasis) (ready.rows_full i l))
+
+  row_behind : (n i : ℕ) → get_or (no_rows n ++ program_rows) (n + i) [] ≡ get_or program_rows i []
+  row_behind zero i = ap (λ k. get_or program_rows k []) (omega arith)
+  row_behind (suc n) i = ap (λ k. get_or (no_rows (suc n) ++ program_rows) k []) (let q : suc n + i ≡ suc (n + i) = omega arith in q) ∙ row_behind n i
+
+  exact_all : (v : ℕ) → v < length ss → get_or ss v InBasis ≡ InBasis → number_at all_values v ≡ sum_over ss (get_or (no_rows n ++ program_rows) v []) xs
+  exact_all v l q = elim (which n m v (omega (arith, l, lengths))) [
+    | inl h ↦ absurd (let f : InColumn (0 + v) ≡ InBasis = sym (position_of_column 0 n v (replicate m InBasis) h) ∙ q in cc)
+    | inr z ↦ ap (number_at all_values) z.2 ∙ exact_row z.0 z.1 ∙ ap (λ row. sum_over ss row xs) (sym (ap (λ v. get_or (no_rows n ++ program_rows) v []) z.2 ∙ row_behind n z.0))
+  ]
+
+  all_many : length all_values ≡ n + m
+  all_many = values_many 1 program_rows ss xs (replicate n (pos 0)) ∙ ap (λ k. k + m) (length-replicate n (pos 0))
+
+  small_from : (v : ℕ) (ls : List (List ℤ)) → ((i : ℕ) → i < length ls → IsWithin (2 ^ 62 - 1) (get_or ls i [])) → IsWithin (2 ^ 62 - 1) (get_or ls v [])
+  small_from v ls h = elim (cases_lt v (length ls)) [
     | inl l ↦ h v l
     | inr l ↦ subst (IsWithin (2 ^ 62 - 1)) (sym (get_or_past ls v [] l)) (λ k. omega arith)
   ]
 
-  small_at : (n v : ℕ) → IsWithin (2 ^ 62 - 1) (get_or (replicate n [] ++ program_rows) v [])
-  small_at zero v = none_within v program_rows ready.rows_within
+  small_at : (n v : ℕ) → IsWithin (2 ^ 62 - 1) (get_or (no_rows n ++ program_rows) v [])
+  small_at zero v = small_from v program_rows ready.rows_within
   small_at (suc n) zero = λ k. omega arith
   small_at (suc n) (suc v) = small_at n v
 
-  total_small_at : total_size at.nonbasic_values < 2 ^ 62
-  total_small_at = subst (λ xs. total_size xs < 2 ^ 62) nonbasic_values_are total_small
+  total_small : total_size xs < 2 ^ 62
+  total_small = omega (arith, room, bounded_total bounds xs (nonbasic_lengths ∙ sym ready.bounds_there) (λ v l. start_bounded reduced_costs bounds m v))
 
-  pub start_consistent_from : IsConsistent (of_parts bounds positions at_upper nonbasic_values rows costs values d 0)
-  start_consistent_from = subst IsConsistent (sym same)
-      (start_consistent program_rows reduced_costs bounds values ready.rows_full ready.bounds_there many exact_at (small_at (length reduced_costs)) ready.costs_within total_small_at)
+  first_compact : IsCompact program_rows weight reach first
+  first_compact = record {
+    consistent = subst IsConsistent (sym same) (start_consistent program_rows reduced_costs bounds all_values ready.rows_full ready.bounds_there all_many exact_all (small_at n) ready.costs_within total_small);
+    costs = sym (none_many n);
+    values = length-replicate n (pos 0) ∙ sym (none_many n);
+    variables = lengths ∙ ap (λ k. k + m) (sym (none_many n));
+    full = λ i l. ready.rows_full i l ∙ sym (none_many n);
+    units = λ i k l q. absurd (omega (arith, (column_number 0 n m (length (no_rows n) + i) k q).1, none_many n));
+    weights = ready.weights;
+    light = ready.light;
+    reached = λ j l. reached j (omega (arith, l, none_many n));
+    near = omega (arith, near);
+    bounded = λ v l. start_bounded reduced_costs bounds m v;
+    room = room;
+  }
 
-  pub start_is : (numbers : List ℕ) → started (fraction_program program_rows reduced_costs bounds numbers)
-      ≡ Some (tableau_of (length reduced_costs) numbers (of_parts bounds positions at_upper nonbasic_values rows costs values d 0))
-  start_is numbers =
-      start_tableau_is program_rows reduced_costs bounds values ready.rows_full ready.bounds_there many exact_at numbers (small_at (length reduced_costs)) total_small_at
-      ∙ ap (λ w. Some (tableau_of (length reduced_costs) numbers w)) (sym same)
+  first_is : (numbers : List ℕ) → started (fraction_program program_rows reduced_costs bounds numbers) ≡ Some (tableau_of (length (no_rows n)) numbers (expanded program_rows first))
+  first_is numbers =
+      start_tableau_is program_rows reduced_costs bounds all_values ready.rows_full ready.bounds_there all_many exact_all numbers (small_at n) total_small
+      ∙ (λ i. Some (tableau_of (sym (none_many n) i) numbers (sym same i)))
 
-  pub columns_within : (n : ℕ) → n ≡ length reduced_costs → n ≤ length positions
-  columns_within n e = omega (arith, e, ap length positions_are, positions_many program_rows reduced_costs bounds [] ready.rows_full)
+  module _ (positions : List Position) (at_upper : List Bool) (nonbasic_values : List ℤ) (rows : List (List ℤ)) (costs values : List ℤ) (d : ℤ) (own_rows : List (List ℤ))
+      (positions_are : positions ≡ ss) (at_upper_are : at_upper ≡ map is_negative reduced_costs ++ replicate m false) (nonbasic_values_are : nonbasic_values ≡ xs)
+      (rows_are : rows ≡ no_rows n) (costs_are : costs ≡ reduced_costs) (values_are : values ≡ replicate n (pos 0)) (d_is : d ≡ pos 1) (own_rows_are : own_rows ≡ program_rows) where
+    parts_are : first ≡ of_parts bounds positions at_upper nonbasic_values rows costs values d 0
+    parts_are = λ i. of_parts bounds (sym positions_are i) (sym at_upper_are i) (sym nonbasic_values_are i) (sym rows_are i) (sym costs_are i) (sym values_are i) (sym d_is i) 0
 
-  pub as_many_statuses : length (statuses_of positions at_upper) ≡ length reduced_costs + length program_rows
-  as_many_statuses = (λ i. length (statuses_of (positions_are i) (at_upper_are i))) ∙ statuses_many program_rows reduced_costs bounds [] ready.rows_full
+    pub start_compact : IsCompact own_rows weight reach (of_parts bounds positions at_upper nonbasic_values rows costs values d 0)
+    start_compact = subst (λ ps. IsCompact ps weight reach (of_parts bounds positions at_upper nonbasic_values rows costs values d 0)) (sym own_rows_are) (subst (IsCompact program_rows weight reach) parts_are first_compact)
+
+    pub start_is : (numbers : List ℕ) → started (fraction_program program_rows reduced_costs bounds numbers)
+        ≡ Some (tableau_of (length rows) numbers (expanded own_rows (of_parts bounds positions at_upper nonbasic_values rows costs values d 0)))
+    start_is numbers = first_is numbers ∙ (λ i. Some (tableau_of (length (sym rows_are i)) numbers (expanded (sym own_rows_are i) (parts_are i))))
+
+    pub as_many_statuses : length (statuses_of positions at_upper) ≡ length reduced_costs + length program_rows
+    as_many_statuses = (λ i. length (statuses_of (positions_are i) (at_upper_are i))) ∙ statuses_many program_rows reduced_costs bounds [] ready.rows_full

@@ -13,7 +13,7 @@ use Rattle.integer_tableau.specs.IntegerTableau.{IntegerTableau, bound_status, f
 use Rattle.integer_tableau.specs.Numbers.{IsWithin, number_at, total_size}
 use Rattle.integer_tableau.specs.Positions.{coefficient, coefficients, sum_over}
 use Rattle.integer_tableau.specs.IntegerProgram.{fraction_program}
-use Rattle.integer_tableau.specs.Start.{columns_from, is_negative, start_number, start_numbers, start_tableau}
+use Rattle.integer_tableau.specs.Start.{columns_from, is_negative, start_number, start_numbers}
 use Rattle.integer_tableau.specs.declared.integer_bounds.IntegerBounds.{IntegerBounds}
 use Rattle.integer_tableau.specs.declared.position.Position.{Position}
 use Rattle.integer_tableau.specs.declared.position.Position.TheVariants.{InBasis, InColumn}
@@ -21,6 +21,22 @@ use Rattle.tableau.specs.Pivot.{computed_values}
 use Rattle.tableau.specs.Start.{padded, slack_basis, start_status, start_value, start_values, started}
 use Rattle.tableau.specs.Tableau.{Tableau}
 use Rattle.tableau.specs.declared.status.BasisStatus.TheVariants.{AtLower, AtUpper, Basic}
+
+-- with these values: the columns are nonbasic, and the rows' values are the basis
+abbrev pub start_tableau : List (List ℤ) → List ℤ → List IntegerBounds → List ℤ → IntegerTableau
+start_tableau rows costs bounds values =
+    let m = length rows in
+    record {
+      bounds = bounds;
+      positions = columns_from 0 (length costs) ++ replicate m InBasis;
+      at_upper = map is_negative costs ++ replicate m false;
+      nonbasic_values = start_numbers costs bounds ++ replicate m (pos 0);
+      rows = replicate (length costs) [] ++ rows;
+      reduced_costs = costs;
+      values = values;
+      denominator = 1;
+      pivots = 0;
+    }
 
 -- ---- field by field
 map_append : {X Y : Type 0} (f : X → Y) (xs ys : List X) → map f (xs ++ ys) ≡ map f xs ++ map f ys
@@ -90,6 +106,26 @@ length_start_numbers [] ls h = refl
 length_start_numbers (c ∷ cs) [] h = absurd (omega arith)
 length_start_numbers (c ∷ cs) (l ∷ ls) h = ap suc (length_start_numbers cs ls (omega arith))
 
+pub length_columns : (j n : ℕ) → length (columns_from j n) ≡ n
+length_columns j zero = refl
+length_columns j (suc n) = ap suc (length_columns (suc j) n)
+
+-- ---- where the variables are
+pub rows_in_basis : (m v : ℕ) → get_or (replicate m InBasis) v InBasis ≡ InBasis
+rows_in_basis zero v = refl
+rows_in_basis (suc m) zero = refl
+rows_in_basis (suc m) (suc v) = rows_in_basis m v
+
+pub column_number : (j n m v k : ℕ) → get_or (columns_from j n ++ replicate m InBasis) v InBasis ≡ InColumn k → (k ≡ j + v) × (v < n)
+column_number j zero m v k h = absurd (let f : InBasis ≡ InColumn k = sym (rows_in_basis m v) ∙ h in cc)
+column_number j (suc n) m zero k h = (let f : InColumn j ≡ InColumn k = h in let g : j ≡ k = cc in omega (arith, g), omega arith)
+column_number j (suc n) m (suc v) k h = let i = column_number (suc j) n m v k h in (omega (arith, i.0), omega (arith, i.1))
+
+pub position_of_column : (j n v : ℕ) (ss : List Position) → v < n → get_or (columns_from j n ++ ss) v InBasis ≡ InColumn (j + v)
+position_of_column j zero v ss l = absurd (omega arith)
+position_of_column j (suc n) zero ss l = ap InColumn (omega arith)
+position_of_column j (suc n) (suc v) ss l = position_of_column (suc j) n v ss (omega arith) ∙ ap InColumn (omega arith)
+
 -- ---- the view
 pub statuses_long : (ss : List Position) (us : List Bool) → length us ≡ length ss → length (statuses_of ss us) ≡ length ss
 statuses_long [] us e = refl
@@ -119,10 +155,6 @@ module _ (rows : List (List ℤ)) (reduced_costs : List ℤ) (bounds : List Inte
   reduced_costs_first = row_is n m reduced_costs refl
 
   -- ---- sizes of the lists
-  length_columns : (j n : ℕ) → length (columns_from j n) ≡ n
-  length_columns j zero = refl
-  length_columns j (suc n) = ap suc (length_columns (suc j) n)
-
   pub positions_many : length w.positions ≡ n + m
   positions_many = length-append (columns_from 0 n) (replicate m InBasis) ∙ (λ i. length_columns 0 n i + length-replicate m InBasis i)
 
@@ -139,17 +171,7 @@ module _ (rows : List (List ℤ)) (reduced_costs : List ℤ) (bounds : List Inte
   pub rows_many : length w.rows ≡ n + m
   rows_many = length-append (replicate n []) rows ∙ ap (λ k. k + m) (length-replicate n [])
 
-  -- ---- where the variables are
-  rows_in_basis : (m v : ℕ) → get_or (replicate m InBasis) v InBasis ≡ InBasis
-  rows_in_basis zero v = refl
-  rows_in_basis (suc m) zero = refl
-  rows_in_basis (suc m) (suc v) = rows_in_basis m v
-
-  column_number : (j n m v k : ℕ) → get_or (columns_from j n ++ replicate m InBasis) v InBasis ≡ InColumn k → (k ≡ j + v) × (v < n)
-  column_number j zero m v k h = absurd (let f : InBasis ≡ InColumn k = sym (rows_in_basis m v) ∙ h in cc)
-  column_number j (suc n) m zero k h = (let f : InColumn j ≡ InColumn k = h in let g : j ≡ k = cc in omega (arith, g), omega arith)
-  column_number j (suc n) m (suc v) k h = let i = column_number (suc j) n m v k h in (omega (arith, i.0), omega (arith, i.1))
-
+  -- ---- widths
   length_at : (width j n : ℕ) (ls : List (List ℤ)) → ((i : ℕ) → i < length ls → length (get_or ls i []) ≡ width) → (v : ℕ) → v < n + length ls
       → length (get_or (replicate n [] ++ ls) v []) ≡ row_width width (get_or (columns_from j n ++ replicate (length ls) InBasis) v InBasis)
   length_at width j zero ls h v l = h v (omega arith) ∙ ap (row_width width) (sym (rows_in_basis (length ls) v))

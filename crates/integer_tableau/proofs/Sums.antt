@@ -12,7 +12,8 @@ use Rattle.fraction.specs.Rational.{frac, whole}
 use Rattle.integer_tableau.proofs.Fractions.{add_frac, mul_frac, zero_over}
 use Rattle.integer_tableau.proofs.RowsByVariable.{agree_but, map_exchanged, number_at-set_other}
 use Rattle.integer_tableau.specs.Numbers.{IsWithin, number_at, total_size}
-use Rattle.integer_tableau.specs.Positions.{IsColumnOf, coefficient, coefficients, nonbasic_values_exchanged, numerator, positions_exchanged, products, sum_over}
+use Rattle.integer_tableau.specs.Positions.{IsColumnOf, coefficient, coefficients, numerator, products, sum_over}
+use Rattle.integer_tableau.proofs.Exchanges.{nonbasic_values_exchanged, positions_exchanged}
 use Rattle.integer_tableau.specs.Substitution.{IsSubstituted, quotient_numerator}
 use Rattle.integer_tableau.specs.declared.position.Position.{Position}
 use Rattle.integer_tableau.specs.declared.position.Position.TheVariants.{InBasis, InColumn}

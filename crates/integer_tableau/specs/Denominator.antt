@@ -1,9 +1,7 @@
 -- One denominator for all numbers of a tableau.
-use Rattle.std.specs.Prelude.{ℕ, ◌<◌, ◌^◌, ℤ, ◌*ℤ◌, All}
+use Rattle.std.specs.Prelude.{ℕ, ◌<◌, ◌^◌, All}
 use Rattle.fraction.specs.Bounds.{Within}
 use Rattle.tableau.specs.Tableau.{Tableau}
-use Rattle.integer_tableau.specs.declared.position.Position.{Position}
-use Rattle.integer_tableau.specs.declared.position.Position.TheVariants.{InBasis, InColumn}
 
 -- each number is a multiple of 1/d, and of size at most 2^62/d
 pub record HasDenominator (d : ℕ) (t : Tableau) : Type 0 where
@@ -12,8 +10,3 @@ pub record HasDenominator (d : ℕ) (t : Tableau) : Type 0 where
   pub values : All (Within d (2 ^ 62)) t.values
   pub reduced_costs : All (Within d (2 ^ 62)) t.reduced_costs
   pub rows : All (All (Within d (2 ^ 62))) t.rows
-
--- the numerator over d of a variable's value, by its position, the bound at which it is, and the numerator of a basic one
-abbrev pub value_numerator : ℤ → Position → ℤ → ℤ → ℤ
-value_numerator d InBasis x v = v
-value_numerator d (InColumn k) x v = x *ℤ d

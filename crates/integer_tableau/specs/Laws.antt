@@ -1,5 +1,5 @@
 -- What whole numbers promise: within these sizes no operation of fractions is cramped, and each gives what the numerators say.
-use Rattle.std.specs.Prelude.{◌≡◌, ◌≢◌, ℕ, ◌-◌, ◌^◌, ◌<◌, ℤ, pos, ◌+ℤ◌, ◌*ℤ◌, nat_abs, List, [], map, slice_index_or, Some}
+use Rattle.std.specs.Prelude.{◌≡◌, ◌≢◌, ℕ, ◌-◌, ◌^◌, ◌<◌, ℤ, pos, ◌+ℤ◌, ◌*ℤ◌, nat_abs, List, map, Some}
 use Rattle.fraction.specs.Rational.{frac, whole}
 use Rattle.fraction.specs.Checked.{abs_ℚ, div_checked, dot_checked}
 use Rattle.tableau.specs.declared.place.Place.TheVariants.{Cramped}
@@ -34,5 +34,4 @@ ValuesAreExact = (d : ℕ) (positions : List Position) (row xs : List ℤ) → 0
 
 -- the place
 abbrev pub PlacesAreNotCramped : Type 0
-PlacesAreNotCramped = (columns : ℕ) (numbers : List ℕ) (t : IntegerTableau) → IsConsistent t → t.denominator < 2 ^ 62 → IsWithin (2 ^ 62 - 1) t.reduced_costs
-    → ((v : ℕ) → IsWithin (2 ^ 62 - 1) (slice_index_or t.rows v [])) → place (tableau_of columns numbers t) ≢ Cramped
+PlacesAreNotCramped = (columns : ℕ) (numbers : List ℕ) (t : IntegerTableau) → IsConsistent t → place (tableau_of columns numbers t) ≢ Cramped

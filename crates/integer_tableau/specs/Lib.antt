@@ -3,6 +3,7 @@ pub mod Substitution
 pub mod Positions
 pub mod IntegerTableau
 pub mod Consistent
+pub mod Combined
 pub mod Denominator
 pub mod Leaving
 pub mod Entering

@@ -1,5 +1,5 @@
 -- Where the numerators of a variable are: rows have one number for each nonbasic variable, by column.
-use Rattle.std.specs.Prelude.{◌≡◌, ℕ, ℤ, pos, ◌+ℤ◌, ◌*ℤ◌, List, [], ◌∷◌, map, slice_index_or, slice_set}
+use Rattle.std.specs.Prelude.{◌≡◌, ℕ, ℤ, pos, ◌+ℤ◌, ◌*ℤ◌, List, [], ◌∷◌, map, slice_index_or}
 use Rattle.fraction.specs.Rational.{ℚ, frac, whole}
 use Rattle.integer_tableau.specs.Numbers.{number_at}
 use Rattle.integer_tableau.specs.declared.position.Position.{Position}
@@ -34,11 +34,3 @@ sum_over positions row xs = products (map (numerator row) positions) xs
 -- column k is that of variable c alone
 abbrev pub IsColumnOf : List Position → ℕ → ℕ → Type 0
 IsColumnOf positions c k = (v : ℕ) → slice_index_or positions v InBasis ≡ InColumn k → v ≡ c
-
--- variable r takes the column of variable c, which comes into the basis
-abbrev pub positions_exchanged : ℕ → ℕ → ℕ → List Position → List Position
-positions_exchanged r c k positions = slice_set (slice_set positions r (InColumn k)) c InBasis
-
--- r goes to the bound b, and c, which is basic then, has 0
-abbrev pub nonbasic_values_exchanged : ℕ → ℕ → ℤ → List ℤ → List ℤ
-nonbasic_values_exchanged r c b xs = slice_set (slice_set xs r b) c (pos 0)

@@ -1,103 +1,58 @@
 // What a tableau answers: the point, and the multipliers of rows that it names.
 
-ghost use Rattle.std.specs.Prelude.{◌≡◌, ℕ, ◌<◌, ◌≤◌, ◌^◌, pos, nat_abs, ◌<ℤ◌, take, length, IfOk, slice_index_or, if◌then◌else◌};
+ghost use Rattle.std.specs.Prelude.{◌≡◌, ℕ, ◌+◌, ◌*◌, ◌-◌, ◌<◌, ◌≤◌, ◌^◌, [], pos, nat_abs, ◌<ℤ◌, length, drop, IfOk, slice_index_or, if◌then◌else◌};
 ghost use Rattle.tableau.specs.Leaving.{is_below};
 ghost use Rattle.tableau.specs.Multipliers.{point_of, mult_of_cost, direction_of, mult_of_row};
 ghost use Rattle.tableau.specs.Tableau.{row_of};
 ghost use Rattle.tableau.specs.declared.bounds.Direction.TheVariants.{Rise, Fall};
-ghost use Rattle.integer_tableau.specs.Numbers.{number_at};
+ghost use Rattle.integer_tableau.specs.Numbers.{number_at, IsWithin, total_size};
 ghost use Rattle.integer_tableau.specs.Positions.{coefficient, coefficients};
 ghost use Rattle.integer_tableau.specs.IntegerTableau.{fraction_bounds, value, values_of, row_of_position};
+ghost use Rattle.integer_tableau.specs.Combined.{combined_row, expanded_rows};
 
+use crate::combination::combined_number;
 use crate::integer_bounds::{IntegerBounds, is_below};
 use crate::integer_row::IntegerRow;
 use crate::integer_tableau::IntegerTableau;
+use crate::pivot::value_of;
 use crate::position::Position;
+use crate::program_row::ProgramRow;
 use fraction::Frac;
 use problem::Terms;
 use std::alloc::{AllocError, Global};
 use tableau::{Direction, named_multipliers, turn_into_multipliers};
 
-/// The value of a variable, by its bound where it is nonbasic, or by its numerator where it is basic.
-fn value_of(position: Position, nonbasic_value: i64, numerator: i128, denominator: i64) -> Frac
-    requires positive { pos 0 <ℤ denominator }
-    requires fits { position ≡ Position.InBasis → nat_abs numerator < 2 ^ 127 }
+// ---- values
+
+/// The value of a column, by its bound where it is nonbasic, or by its numerator where it is basic.
+fn column_value(position: Position, nonbasic_value: i64, numerator: i64, denominator: i64) -> Frac
+    requires { pos 0 <ℤ denominator }
     ensures { result ≡ value (nat_abs denominator) position nonbasic_value numerator }
 {
     match position {
-        Position::InBasis => Frac::make(numerator, i128::from(denominator)),
+        Position::InBasis => Frac::make(i128::from(numerator), i128::from(denominator)),
         Position::InColumn(_) => Frac::of(i128::from(nonbasic_value)),
     }
 }
 
-/// The values of the first variables. The one error is want of memory.
-fn first_values(
+/// The values of the columns. The one error is want of memory.
+fn column_values(
     alloc: Global,
-    count: usize,
     positions: &[Position],
     nonbasic_values: &[i64],
-    values: &[i128],
+    values: &[i64],
     denominator: i64,
 ) -> Result<Vec<Frac>, AllocError>
     requires positive { pos 0 <ℤ denominator }
-    requires count { count ≤ length positions.now }
-    requires nonbasic_values_there { length nonbasic_values.now ≡ length positions.now }
-    requires values_there { length values.now ≡ length positions.now }
-    requires fits { (v : ℕ) → v < length positions.now → slice_index_or positions.now v Position.InBasis ≡ Position.InBasis → nat_abs (number_at values.now v) < 2 ^ 127 }
-    ensures { IfOk result (λ v. v.items ≡ take count (values_of (nat_abs denominator) positions.now nonbasic_values.now values.now)) }
+    requires positions_there { length values.now ≤ length positions.now }
+    requires nonbasic_values_there { length values.now ≤ length nonbasic_values.now }
+    ensures { IfOk result (λ v. v.items ≡ values_of (nat_abs denominator) positions.now nonbasic_values.now values.now) }
 {
-    let mut first = Vec::with_capacity(alloc, count)?;
-    for v in 0..count {
-        first.push(value_of(positions[v], nonbasic_values[v], values[v], denominator))?;
-    }
-    Ok(first)
-}
-
-/// The coefficient of a variable in a row.
-fn coefficient(position: Position, row: &IntegerRow, denominator: i64) -> Frac
-    requires { pos 0 <ℤ denominator }
-    ensures { result ≡ coefficient (nat_abs denominator) row.now position }
-{
-    match position {
-        Position::InBasis => Frac::of(0),
-        Position::InColumn(column) => {
-            Frac::make(i128::from(row.numerator(column)), i128::from(denominator))
-        }
-    }
-}
-
-/// The coefficients of all variables in a row. The one error is want of memory.
-fn coefficients(
-    alloc: Global,
-    positions: &[Position],
-    row: &IntegerRow,
-    denominator: i64,
-) -> Result<Vec<Frac>, AllocError>
-    requires { pos 0 <ℤ denominator }
-    ensures { IfOk result (λ v. v.items ≡ coefficients (nat_abs denominator) positions.now row.now) }
-{
-    let mut all = Vec::with_capacity(alloc, positions.len())?;
-    for position in positions {
-        all.push(coefficient(*position, row, denominator))?;
+    let mut all = Vec::with_capacity(alloc, values.len())?;
+    for (j, value) in values.iter().enumerate() {
+        all.push(column_value(positions[j], nonbasic_values[j], *value, denominator))?;
     }
     Ok(all)
-}
-
-/// The same in the row of a variable at this position, which has none where it isn't basic. The one error is want of memory.
-fn row_coefficients(
-    alloc: Global,
-    position: Position,
-    positions: &[Position],
-    row: &IntegerRow,
-    denominator: i64,
-) -> Result<Vec<Frac>, AllocError>
-    requires { pos 0 <ℤ denominator }
-    ensures { IfOk result (λ v. v.items ≡ row_of_position (nat_abs denominator) positions.now position row.now) }
-{
-    match position {
-        Position::InBasis => coefficients(alloc, positions, row, denominator),
-        Position::InColumn(_) => Ok(Vec::new(alloc)),
-    }
 }
 
 /// Whether a variable's value is below its lower bound.
@@ -135,14 +90,102 @@ fn direction_of(
     }
 }
 
+// ---- coefficients
+
+/// The coefficient of a variable in a row.
+fn coefficient(position: Position, row: &IntegerRow, denominator: i64) -> Frac
+    requires { pos 0 <ℤ denominator }
+    ensures { result ≡ coefficient (nat_abs denominator) row.now position }
+{
+    match position {
+        Position::InBasis => Frac::of(0),
+        Position::InColumn(column) => {
+            Frac::make(i128::from(row.numerator(column)), i128::from(denominator))
+        }
+    }
+}
+
+/// The coefficients of variables in a row. The one error is want of memory.
+fn coefficients(
+    alloc: Global,
+    positions: &[Position],
+    row: &IntegerRow,
+    denominator: i64,
+) -> Result<Vec<Frac>, AllocError>
+    requires { pos 0 <ℤ denominator }
+    ensures { IfOk result (λ v. v.items ≡ coefficients (nat_abs denominator) positions.now row.now) }
+{
+    let mut all = Vec::with_capacity(alloc, positions.len())?;
+    for position in positions {
+        all.push(coefficient(*position, row, denominator))?;
+    }
+    Ok(all)
+}
+
+/// The coefficient of a variable in the row of a row's variable.
+fn combined_coefficient(
+    position: Position,
+    program_row: &ProgramRow,
+    positions: &[Position],
+    rows: &[IntegerRow],
+    denominator: i64,
+) -> Frac
+    requires positive { pos 0 <ℤ denominator }
+    requires small { nat_abs denominator < 2 ^ 62 }
+    requires rows_there { length rows.now ≡ length program_row.now }
+    requires positions_there { length program_row.now ≤ length positions.now }
+    requires light { total_size program_row.now < 2 ^ 62 }
+    requires rows_small { (j : ℕ) → IsWithin (2 ^ 62 - 1) (slice_index_or rows.now j []) }
+    requires column { (k : ℕ) → position ≡ Position.InColumn k → k < length rows.now }
+    ensures { result ≡ coefficient (nat_abs denominator) (combined_row (nat_abs denominator) positions.now rows.now program_row.now) position }
+{
+    match position {
+        Position::InBasis => Frac::of(0),
+        Position::InColumn(column) => Frac::make(
+            combined_number(
+                program_row.numerators(),
+                positions,
+                rows,
+                denominator,
+                column,
+            ),
+            i128::from(denominator),
+        ),
+    }
+}
+
+/// The coefficients of the variables from `first` on in the row of a row's variable. The one error is want of memory.
+fn combined_coefficients(
+    alloc: Global,
+    first: usize,
+    program_row: &ProgramRow,
+    positions: &[Position],
+    rows: &[IntegerRow],
+    denominator: i64,
+) -> Result<Vec<Frac>, AllocError>
+    requires positive { pos 0 <ℤ denominator }
+    requires small { nat_abs denominator < 2 ^ 62 }
+    requires rows_there { length rows.now ≡ length program_row.now }
+    requires positions_there { length program_row.now ≤ length positions.now }
+    requires light { total_size program_row.now < 2 ^ 62 }
+    requires rows_small { (j : ℕ) → IsWithin (2 ^ 62 - 1) (slice_index_or rows.now j []) }
+    requires columns { (j k : ℕ) → slice_index_or positions.now j Position.InBasis ≡ Position.InColumn k → k < length rows.now }
+    ensures { IfOk result (λ v. v.items ≡ coefficients (nat_abs denominator) (drop first positions.now) (combined_row (nat_abs denominator) positions.now rows.now program_row.now)) }
+{
+    let mut all = Vec::new(alloc);
+    for v in first..positions.len() {
+        all.push(combined_coefficient(positions[v], program_row, positions, rows, denominator))?;
+    }
+    Ok(all)
+}
+
 impl IntegerTableau {
     /// The values of the columns. The one error is want of memory.
     pub fn point(&self, alloc: Global) -> Result<Vec<Frac>, AllocError>
         ensures { IfOk result (λ v. v.items ≡ point_of self.now) }
     {
-        first_values(
+        column_values(
             alloc,
-            self.fixed.columns,
             &self.positions,
             &self.nonbasic_values,
             &self.values,
@@ -154,18 +197,14 @@ impl IntegerTableau {
     pub fn mult_of_cost(&self, alloc: Global) -> Result<Terms, AllocError>
         ensures { IfOk result (λ m. m ≡ mult_of_cost self.now) }
     {
+        let columns = self.rows.len();
         let reduced_costs = coefficients(
             alloc,
-            &self.positions,
+            &self.positions[columns..],
             &self.reduced_costs,
             self.denominator,
         )?;
-        named_multipliers(
-            alloc,
-            &self.fixed.numbers,
-            self.fixed.columns,
-            &reduced_costs,
-        )
+        named_multipliers(alloc, &self.fixed.numbers, 0, &reduced_costs)
     }
 
     /// The direction back to its bounds of a variable that is outside of them.
@@ -173,27 +212,55 @@ impl IntegerTableau {
         requires { row < length self.now.statuses }
         ensures { result ≡ direction_of self.now row }
     {
+        let numerator = value_of(
+            row,
+            &self.fixed.rows,
+            &self.positions,
+            &self.nonbasic_values,
+            &self.values,
+            self.denominator,
+        );
         direction_of(
             &self.fixed.bounds[row],
             self.positions[row],
             self.nonbasic_values[row],
-            self.values[row],
+            numerator,
             self.denominator,
         )
     }
 
-    /// The coefficients in the row of a variable. The one error is want of memory.
-    fn coefficients_of(&self, alloc: Global, row: usize) -> Result<Vec<Frac>, AllocError>
-        requires { row < length self.now.statuses }
-        ensures { IfOk result (λ v. v.items ≡ row_of self.now row) }
+    /// The coefficients of the variables from `first` on in the row of a variable. The one error is want of memory.
+    pub(crate) fn coefficients_of(
+        &self,
+        alloc: Global,
+        row: usize,
+        first: usize,
+    ) -> Result<Vec<Frac>, AllocError>
+        requires row_there { row < length self.now.statuses }
+        requires first_there { first ≤ length self.now.statuses }
+        ensures { IfOk result (λ v. v.items ≡ drop first (row_of self.now row)) }
     {
-        row_coefficients(
-            alloc,
-            self.positions[row],
-            &self.positions,
-            &self.rows[row],
-            self.denominator,
-        )
+        let Position::InBasis = self.positions[row] else {
+            return Ok(Vec::new(alloc));
+        };
+        let columns = self.rows.len();
+        if row < columns {
+            coefficients(
+                alloc,
+                &self.positions[first..],
+                &self.rows[row],
+                self.denominator,
+            )
+        } else {
+            combined_coefficients(
+                alloc,
+                first,
+                &self.fixed.rows[row - columns],
+                &self.positions,
+                &self.rows,
+                self.denominator,
+            )
+        }
     }
 
     /// For each row, by its number, its multiplier in what the row of variable `row`, which is outside its bounds, says of the box, but those
@@ -203,8 +270,14 @@ impl IntegerTableau {
         ensures { IfOk result (λ m. m ≡ mult_of_row self.now row) }
     {
         let direction = self.direction_of(row);
-        let mut multipliers = self.coefficients_of(alloc, row)?;
-        turn_into_multipliers(direction, row, &mut multipliers);
-        named_multipliers(alloc, &self.fixed.numbers, self.fixed.columns, &multipliers)
+        let columns = self.rows.len();
+        let mut multipliers = self.coefficients_of(alloc, row, columns)?;
+        let place = if row < columns {
+            self.positions.len()
+        } else {
+            row - columns
+        };
+        turn_into_multipliers(direction, place, &mut multipliers);
+        named_multipliers(alloc, &self.fixed.numbers, 0, &multipliers)
     }
 }

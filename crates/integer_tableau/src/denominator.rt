@@ -1,45 +1,97 @@
 // The denominator of all numbers.
 
-ghost use Rattle.std.specs.Prelude.{◌≡◌, ℕ, ◌<◌, ◌≤◌, ◌^◌, pos, nat_abs, ◌<ℤ◌, length, IsTrue, IfSome, slice_index_or};
-ghost use Rattle.integer_tableau.specs.Numbers.{number_at};
-ghost use Rattle.integer_tableau.specs.Denominator.{HasDenominator, value_numerator};
+ghost use Rattle.std.specs.Prelude.{◌≡◌, ℕ, ◌+◌, ◌*◌, ◌<◌, ◌≤◌, ◌^◌, [], pos, nat_abs, ◌<ℤ◌, length, IsTrue, IfSome, slice_index_or};
+ghost use Rattle.integer_tableau.specs.Numbers.{number_at, total_size};
+ghost use Rattle.integer_tableau.specs.Combined.{value_numerator, combined_value};
+ghost use Rattle.integer_tableau.specs.Denominator.{HasDenominator};
 
+use crate::combination::{column_value, combined_value};
+use crate::integer_row::IntegerRow;
 use crate::integer_tableau::IntegerTableau;
 use crate::position::Position;
+use crate::program_row::ProgramRow;
 use crate::wide_numbers::product;
 
 /// The greatest numerator over a common denominator.
-const GREATEST: u128 = 1 << 62;
+const GREATEST: u64 = 1 << 62;
 
-/// The numerator of a variable's value over the denominator.
-fn value_numerator(
+/// Whether the numerators of the columns' values are at most 2^62 in size.
+fn are_columns_small(
+    positions: &[Position],
+    nonbasic_values: &[i64],
+    values: &[i64],
+    denominator: i64,
+) -> bool
+    requires positions_there { length values.now ≤ length positions.now }
+    requires nonbasic_values_there { length values.now ≤ length nonbasic_values.now }
+    requires near { (j : ℕ) → j < length values.now → nat_abs (number_at nonbasic_values.now j) * nat_abs denominator < 2 ^ 63 }
+    ensures { IsTrue result → (j : ℕ) → j < length values.now → nat_abs (value_numerator denominator (slice_index_or positions.now j Position.InBasis) (number_at nonbasic_values.now j) (number_at values.now j)) ≤ 2 ^ 62 }
+{
+    for (j, value) in values.iter().enumerate() {
+        let numerator = column_value(positions[j], nonbasic_values[j], *value, denominator);
+        if numerator.unsigned_abs() > GREATEST {
+            return false;
+        }
+    }
+    true
+}
+
+/// The numerator of the value of a row's variable.
+fn row_value(
     position: Position,
     nonbasic_value: i64,
-    numerator: i128,
+    coefficients: &ProgramRow,
+    positions: &[Position],
+    nonbasic_values: &[i64],
+    values: &[i64],
     denominator: i64,
 ) -> i128
-    ensures { result ≡ value_numerator denominator position nonbasic_value numerator }
+    requires values_there { length values.now ≡ length coefficients.now }
+    requires positions_there { length coefficients.now ≤ length positions.now }
+    requires nonbasic_values_there { length coefficients.now ≤ length nonbasic_values.now }
+    requires light { total_size coefficients.now < 2 ^ 62 }
+    requires near { (j : ℕ) → j < length coefficients.now → nat_abs (number_at nonbasic_values.now j) * nat_abs denominator < 2 ^ 63 }
+    ensures { result ≡ value_numerator denominator position nonbasic_value (combined_value denominator coefficients.now positions.now nonbasic_values.now values.now) }
 {
     match position {
-        Position::InBasis => numerator,
+        Position::InBasis => combined_value(
+            coefficients,
+            positions,
+            nonbasic_values,
+            values,
+            denominator,
+        ),
         Position::InColumn(_) => product(nonbasic_value, denominator),
     }
 }
 
-/// Whether the numerators of all values are at most 2^62 in size.
-fn are_small(
+/// Whether the numerators of the values of the rows' variables are at most 2^62 in size.
+fn are_rows_small(
+    program_rows: &[ProgramRow],
     positions: &[Position],
     nonbasic_values: &[i64],
-    values: &[i128],
+    values: &[i64],
     denominator: i64,
 ) -> bool
+    requires positions_there { length positions.now ≡ length values.now + length program_rows.now }
     requires nonbasic_values_there { length nonbasic_values.now ≡ length positions.now }
-    requires values_there { length values.now ≡ length positions.now }
-    ensures { IsTrue result → (v : ℕ) → v < length positions.now → nat_abs (value_numerator denominator (slice_index_or positions.now v Position.InBasis) (number_at nonbasic_values.now v) (number_at values.now v)) ≤ 2 ^ 62 }
+    requires full { (i : ℕ) → i < length program_rows.now → length (slice_index_or program_rows.now i []) ≡ length values.now }
+    requires light { (i : ℕ) → i < length program_rows.now → total_size (slice_index_or program_rows.now i []) < 2 ^ 62 }
+    requires near { (j : ℕ) → j < length values.now → nat_abs (number_at nonbasic_values.now j) * nat_abs denominator < 2 ^ 63 }
+    ensures { IsTrue result → (i : ℕ) → i < length program_rows.now → nat_abs (value_numerator denominator (slice_index_or positions.now (length values.now + i) Position.InBasis) (number_at nonbasic_values.now (length values.now + i)) (combined_value denominator (slice_index_or program_rows.now i []) positions.now nonbasic_values.now values.now)) ≤ 2 ^ 62 }
 {
-    for (v, position) in positions.iter().enumerate() {
-        let numerator = value_numerator(*position, nonbasic_values[v], values[v], denominator);
-        if numerator.unsigned_abs() > GREATEST {
+    let columns = values.len();
+    for (i, coefficients) in program_rows.iter().enumerate() {
+        let numerator = row_value(
+            positions[columns + i],
+            nonbasic_values[columns + i],
+            coefficients,
+            positions,
+            nonbasic_values,
+            values,
+            denominator,
+        );
+        if numerator.unsigned_abs() > u128::from(GREATEST) {
             return false;
         }
     }
@@ -51,15 +103,20 @@ impl IntegerTableau {
     pub fn common_denominator(&self) -> Option<u64>
         ensures { IfSome result (λ d. HasDenominator d self.now) }
     {
-        if are_small(
+        if !are_columns_small(
+            &self.positions,
+            &self.nonbasic_values,
+            &self.values,
+            self.denominator,
+        ) || !are_rows_small(
+            &self.fixed.rows,
             &self.positions,
             &self.nonbasic_values,
             &self.values,
             self.denominator,
         ) {
-            Some(self.denominator.unsigned_abs())
-        } else {
-            None
+            return None;
         }
+        Some(self.denominator.unsigned_abs())
     }
 }

@@ -1,6 +1,6 @@
 // The elimination of a variable from rows and reduced costs.
 
-ghost use Rattle.std.specs.Prelude.{◌≡◌, ◌≢◌, ℕ, ◌<◌, ◌^◌, ◌-◌, [], pos, nat_abs, ◌<ℤ◌, length, IsTrue, slice_index_or};
+ghost use Rattle.std.specs.Prelude.{◌≡◌, ◌≢◌, ℕ, ◌<◌, ◌^◌, ◌-◌, List, ℤ, [], pos, nat_abs, ◌<ℤ◌, length, IsTrue, slice_index_or, slice_set};
 ghost use Rattle.integer_tableau.specs.Numbers.{number_at, IsWithin};
 ghost use Rattle.integer_tableau.specs.Substitution.{IsSubstitutedIfFull};
 ghost use Rattle.integer_tableau.specs.Pivot.{IsEliminated};
@@ -30,43 +30,41 @@ fn substitute_all(
     true
 }
 
-/// Solves the leaving row for the entering variable, which makes it the row of that one, and substitutes this in the other rows and in the
-/// reduced costs. `spare` is a row without numerators, as that of the entering variable is. False where a number isn't exact or small.
+/// Puts the row of the entering variable into its place, if it is a column.
+fn put_row(rows: &mut [IntegerRow], entering: usize, row: &mut IntegerRow)
+    ensures { rows.new ≡ slice_set rows.old entering row.old }
+{
+    if entering < rows.len() {
+        mem::swap(&mut rows[entering], row);
+    }
+}
+
+/// Solves the row of the leaving variable for the entering one, and substitutes this in the columns' rows, of which the leaving variable has
+/// none, and in the reduced costs. False where a number isn't exact or small.
 pub(crate) fn eliminate(
     rows: &mut [IntegerRow],
-    spare: &mut IntegerRow,
+    leaving_row: &mut IntegerRow,
     reduced_costs: &mut IntegerRow,
-    leaving: usize,
     entering: usize,
     column: usize,
-    denominator: i64,
+    pivot_size: i64,
+    divisor: Divisor,
 ) -> bool
-    requires leaving_there { leaving < length rows.old }
-    requires entering_there { entering < length rows.old }
-    requires apart { leaving ≢ entering }
-    requires spare_empty { spare.old ≡ [] }
-    requires entering_empty { slice_index_or rows.old entering [] ≡ [] }
-    requires leaving_full { length (slice_index_or rows.old leaving []) ≡ length reduced_costs.old }
+    requires width { length leaving_row.old ≡ length reduced_costs.old }
     requires column { column < length reduced_costs.old }
-    requires denominator_positive { pos 0 <ℤ denominator }
-    requires denominator_small { nat_abs denominator < 2 ^ 62 }
-    requires pivot { 0 < nat_abs (number_at (slice_index_or rows.old leaving []) column) }
-    ensures value { IsTrue result → IsEliminated leaving entering column (nat_abs denominator) rows.old rows.new reduced_costs.old reduced_costs.new }
-    ensures spare { IsTrue result → spare.new ≡ [] }
+    requires pivot { 0 < nat_abs (number_at leaving_row.old column) }
+    requires size { pivot_size ≡ pos (nat_abs (number_at leaving_row.old column)) }
+    ensures { IsTrue result → (new : List ℤ) × IsEliminated entering column (nat_abs divisor.number) (nat_abs pivot_size) leaving_row.old new rows.old rows.new reduced_costs.old reduced_costs.new }
 {
-    mem::swap(&mut rows[leaving], spare);
-    let pivot = spare.numerator(column);
-    if !spare.solve(column, denominator) {
+    if !leaving_row.solve(column, divisor.number()) {
         return false;
     }
-    let pivot_size = pivot.abs();
-    let divisor = Divisor::make(denominator);
-    if !substitute_all(rows, column, spare, pivot_size, divisor) {
+    if !substitute_all(rows, column, leaving_row, pivot_size, divisor) {
         return false;
     }
-    if !reduced_costs.substitute(column, spare, pivot_size, divisor) {
+    if !reduced_costs.substitute(column, leaving_row, pivot_size, divisor) {
         return false;
     }
-    mem::swap(&mut rows[entering], spare);
+    put_row(rows, entering, leaving_row);
     true
 }

@@ -5,6 +5,7 @@ ghost use Rattle.std.specs.Option.{option_map};
 ghost use Rattle.fraction.specs.Rational.{frac, whole};
 ghost use Rattle.tableau.specs.Leaving.{is_below, is_above, violation, violated_bound, bounds_differ};
 ghost use Rattle.integer_tableau.specs.IntegerTableau.{fraction_bounds};
+ghost use Rattle.integer_tableau.specs.Combined.{size_of, bound_size};
 
 use crate::wide_numbers::product;
 use tableau::Direction;
@@ -40,6 +41,16 @@ fn is_above(value: i128, upper: Option<i64>, denominator: i64) -> bool
     }
 }
 
+/// The size of a bound; 0 where it isn't there.
+fn size_of(bound: Option<i64>) -> u64
+    ensures { result ≡ size_of bound }
+{
+    match bound {
+        Some(number) => number.unsigned_abs(),
+        None => 0,
+    }
+}
+
 impl IntegerBounds {
     /// The direction back to the bounds of a value over the denominator that is outside of them.
     pub(crate) fn violation(&self, value: i128, denominator: i64) -> Option<Direction>
@@ -63,6 +74,13 @@ impl IntegerBounds {
             Direction::Rise => self.lower.unwrap_or(0),
             Direction::Fall => self.upper.unwrap_or(0),
         }
+    }
+
+    /// The size of the greater bound; one that isn't there has none.
+    pub(crate) fn size(&self) -> u64
+        ensures { result ≡ bound_size self.now }
+    {
+        size_of(self.lower).max(size_of(self.upper))
     }
 
     /// Whether the variable isn't fixed.

@@ -4,12 +4,13 @@ ghost use Rattle.std.specs.Prelude.{◌≡◌, ℕ, ◌<◌, ◌≤◌, ◌-◌,
 ghost use Rattle.fraction.specs.Rational.{whole};
 ghost use Rattle.std.specs.Option.{option_map};
 ghost use Rattle.tableau.specs.WellFormed.{IsIntegral};
-ghost use Rattle.integer_tableau.specs.Numbers.{IsWithin};
+ghost use Rattle.integer_tableau.specs.Numbers.{IsWithin, total_size};
 ghost use Rattle.integer_tableau.specs.IntegerTableau.{fraction_bounds};
 ghost use Rattle.integer_tableau.specs.IntegerProgram.{column_bounds};
 
 use crate::integer_bounds::IntegerBounds;
-use crate::integer_row::IntegerRow;
+use crate::integer_row::{IntegerRow, LIMIT};
+use crate::program_row::ProgramRow;
 use fraction::Frac;
 use problem_box::{IntBox, Span};
 use std::alloc::{AllocError, Global};
@@ -19,7 +20,9 @@ use tableau::{Bounds, LinearProgram};
 /// A linear program of whole numbers, made ready for tableaus over many boxes. Contracts see the linear program itself.
 #[derive(Drop)]
 pub struct IntegerProgram {
-    pub(crate) rows: Vec<IntegerRow>,
+    pub(crate) rows: Vec<ProgramRow>,
+    /// No row has coefficients that are greater together.
+    pub(crate) weight: u64,
     pub(crate) costs: IntegerRow,
     pub(crate) bounds: Vec<IntegerBounds>,
     pub(crate) numbers: Vec<u32>,
@@ -33,7 +36,7 @@ impl Model for IntegerProgram {
 
     ghost view = { λ p. fraction_program p.rows.items p.costs p.bounds.items p.numbers.items };
 
-    ghost invariant = { λ p. IsReady p.rows.items p.costs p.bounds.items };
+    ghost invariant = { λ p. IsReady p.rows.items p.weight p.costs p.bounds.items };
 }
 
 /// The whole number of a fraction; none where it isn't whole, or has more than 64 bits.
@@ -115,14 +118,14 @@ fn integer_row(
     alloc: Global,
     program: &LinearProgram,
     row: usize,
-) -> Result<Option<IntegerRow>, AllocError>
+) -> Result<Option<ProgramRow>, AllocError>
     requires { row < length program.now.rows }
     ensures value { IfOk result (λ o. IfSome o (λ r. map whole r ≡ slice_index_or program.now.rows row [])) }
     ensures width { IfOk result (λ o. IfSome o (λ r. length r ≡ length program.now.costs)) }
 {
     let coefficients = program.row(alloc, row)?;
     match integers(alloc, &coefficients)? {
-        Some(numbers) => Ok(Some(IntegerRow::make(numbers))),
+        Some(numbers) => Ok(Some(ProgramRow::make(alloc, numbers)?)),
         None => Ok(None),
     }
 }
@@ -131,7 +134,7 @@ fn integer_row(
 fn integer_rows(
     alloc: Global,
     program: &LinearProgram,
-) -> Result<Option<Vec<IntegerRow>>, AllocError>
+) -> Result<Option<Vec<ProgramRow>>, AllocError>
     ensures value { IfOk result (λ o. IfSome o (λ v. map (map whole) v.items ≡ program.now.rows)) }
     ensures width { IfOk result (λ o. IfSome o (λ v. (i : ℕ) → i < length v.items → length (slice_index_or v.items i []) ≡ length program.now.costs)) }
 {
@@ -146,7 +149,7 @@ fn integer_rows(
 }
 
 /// Whether the numbers of each row are below 2^62 in size.
-fn are_within(rows: &[IntegerRow]) -> bool
+fn are_within(rows: &[ProgramRow]) -> bool
     ensures { IsTrue result → (v : ℕ) → v < length rows.now → IsWithin (2 ^ 62 - 1) (slice_index_or rows.now v []) }
 {
     for row in rows {
@@ -155,6 +158,28 @@ fn are_within(rows: &[IntegerRow]) -> bool
         }
     }
     true
+}
+
+/// The sum of the sizes, if it has 64 bits.
+fn total_size(numbers: &[i64]) -> Option<u64>
+    ensures { IfSome result (λ t. t ≡ total_size numbers.now) }
+{
+    let mut total = 0u64;
+    for number in numbers {
+        total = total.checked_add(number.unsigned_abs())?;
+    }
+    Some(total)
+}
+
+/// The greatest sum of the sizes in a row, if each has 64 bits.
+fn greatest_weight(rows: &[ProgramRow]) -> Option<u64>
+    ensures { IfSome result (λ w. (v : ℕ) → v < length rows.now → total_size (slice_index_or rows.now v []) ≤ w) }
+{
+    let mut weight = 0u64;
+    for row in rows {
+        weight = weight.max(total_size(row.numerators())?);
+    }
+    Some(weight)
 }
 
 /// The bounds of a column.
@@ -208,12 +233,16 @@ impl IntegerProgram {
         let Some(bounds) = all_bounds(alloc, program.bounds())? else {
             return Ok(None);
         };
-        if !costs.is_within() || !are_within(&rows) {
+        let Some(weight) = greatest_weight(&rows) else {
+            return Ok(None);
+        };
+        if !costs.is_within() || !are_within(&rows) || weight >= LIMIT {
             return Ok(None);
         }
         let numbers = Vec::from_slice(alloc, program.numbers())?;
         Ok(Some(IntegerProgram {
             rows,
+            weight,
             costs,
             bounds,
             numbers,

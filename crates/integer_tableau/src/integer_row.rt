@@ -1,10 +1,14 @@
 // Rows of numerators.
 
-ghost use Rattle.std.specs.Prelude.{◌≡◌, ℕ, [], ◌<◌, ◌≤◌, ◌^◌, ◌-◌, pos, nat_abs, neg_ℤ, ◌<ℤ◌, length, IsTrue, IfOk, IfSome, IsSome, slice_set};
+ghost use Rattle.std.specs.Prelude.{◌≡◌, ℕ, [], ◌<◌, ◌≤◌, ◌^◌, ◌-◌, pos, nat_abs, neg_ℤ, ◌<ℤ◌, length, IsTrue, IfOk, OnOk, IfSome, IsSome, replicate, slice_index_or, slice_set};
 ghost use Rattle.integer_tableau.specs.Numbers.{number_at, IsWithin};
+ghost use Rattle.integer_tableau.specs.Combined.{combined_row};
 ghost use Rattle.integer_tableau.specs.Substitution.{IsSubstituted, IsSolved, IsSubstitutedRow, IsSolvedRow, IsSubstitutedIfFull, substituted_size};
 
+use crate::combination::add_columns;
 use crate::divisor::Divisor;
+use crate::position::Position;
+use crate::program_row::ProgramRow;
 use crate::substitution::substitute;
 use std::alloc::{AllocError, Global};
 use std::marker::Model;
@@ -34,7 +38,7 @@ impl Model for IntegerRow {
 }
 
 /// The greatest size.
-fn greatest_size(row: &[i64]) -> u64
+pub(crate) fn greatest_size(row: &[i64]) -> u64
     ensures { IsWithin result row.now }
 {
     let mut size = 0;
@@ -187,6 +191,69 @@ impl IntegerRow {
         ensures { result ≡ length self.now }
     {
         self.numerators.len()
+    }
+
+    /// A bound on the sizes.
+    #[inline(always)]
+    pub(crate) fn bound(&self) -> u64
+        ensures { IsWithin result self.now }
+    {
+        self.size
+    }
+
+    /// Makes the bound on the sizes the greatest of them.
+    pub(crate) fn look(&mut self)
+        ensures { self.new ≡ self.old }
+    {
+        self.size = greatest_size(&self.numerators);
+    }
+
+    /// Takes all numerators out of the row.
+    pub(crate) fn clear(&mut self)
+        ensures { self.new ≡ [] }
+    {
+        self.numerators.clear();
+        self.size = 0;
+    }
+
+    /// Puts so many zeros into the row. The one error is want of memory, after which there are none.
+    fn fill(&mut self, width: usize) -> Result<(), AllocError>
+        ensures { OnOk result (self.new ≡ replicate width (pos 0)) }
+    {
+        self.clear();
+        self.numerators.resize(width, 0)
+    }
+
+    /// Makes the row the combination of the columns by coefficients; false where memory is wanting, or a number is too large.
+    pub(crate) fn combine(
+        &mut self,
+        coefficients: &ProgramRow,
+        positions: &[Position],
+        rows: &[IntegerRow],
+        denominator: i64,
+    ) -> bool
+        requires rows_there { length rows.now ≡ length coefficients.now }
+        requires positions_there { length coefficients.now ≤ length positions.now }
+        requires positive { pos 0 <ℤ denominator }
+        ensures { IsTrue result → (self.new ≡ combined_row (nat_abs denominator) positions.now rows.now coefficients.now) × IsWithin (2 ^ 62 - 1) self.new }
+    {
+        if self.fill(rows.len()).is_err() {
+            return false;
+        }
+        if add_columns(
+            &mut self.numerators,
+            coefficients.numerators(),
+            positions,
+            rows,
+            denominator,
+        ) {
+            self.size = greatest_size(&self.numerators);
+            self.is_small()
+        } else {
+            self.numerators.clear();
+            self.size = 0;
+            false
+        }
     }
 
     /// Whether each number is below 2^62 in size.

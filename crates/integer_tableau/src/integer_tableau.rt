@@ -8,22 +8,28 @@ use crate::integer_row::IntegerRow;
 use crate::leaving::leaving;
 use crate::place::place_where_leaving;
 use crate::position::Position;
+use crate::program_row::ProgramRow;
 use std::marker::Model;
 use tableau::Place;
 
 /// What pivots leave as it is.
 #[derive(Drop)]
 pub(crate) struct Fixed {
-    /// How many columns there are.
-    pub(crate) columns: usize,
     /// The numbers by which multipliers name the rows.
     pub(crate) numbers: Vec<u32>,
     pub(crate) bounds: Vec<IntegerBounds>,
+    /// The coefficients of the linear program's rows.
+    pub(crate) rows: Vec<ProgramRow>,
+    /// No row has coefficients that are greater together.
+    pub(crate) weight: u64,
+    /// No column has a greater bound.
+    pub(crate) reach: u64,
 }
 
 /// A tableau of a linear program on whole numbers over one denominator. Contracts see the tableau of fractions that it stands for.
 ///
-/// Variables are numbered from 0: first the columns, then the values of the rows. This is integer pivoting (Edmonds 1967), with the exact
+/// Variables are numbered from 0: first the columns, then the values of the rows. Rows and values are kept of the columns alone: those of
+/// another variable are a combination of them, by the linear program's row. This is integer pivoting (Edmonds 1967), with the exact
 /// divisions of Bareiss (1968). That a division is exact is tested. A call that would make numbers too large gives up.
 #[derive(Drop)]
 pub struct IntegerTableau {
@@ -31,25 +37,28 @@ pub struct IntegerTableau {
     pub(crate) positions: Vec<Position>,
     pub(crate) at_upper: Vec<bool>,
     pub(crate) nonbasic_values: Vec<i64>,
+    /// Of each column: none where it isn't basic.
     pub(crate) rows: Vec<IntegerRow>,
+    /// Room for the row of a variable that leaves.
     pub(crate) spare: IntegerRow,
     pub(crate) reduced_costs: IntegerRow,
-    pub(crate) values: Vec<i128>,
+    /// Of each column.
+    pub(crate) values: Vec<i64>,
     pub(crate) denominator: i64,
     pub(crate) pivots: u64,
 }
 
 impl Model for IntegerTableau {
-    ghost use Rattle.std.specs.Prelude.{◌≡◌, ◌≤◌, [], pos, ◌<ℤ◌, length};
+    ghost use Rattle.std.specs.Prelude.{pos, ◌<ℤ◌, length};
     ghost use Rattle.tableau.specs.Tableau.{Tableau as Described};
     ghost use Rattle.integer_tableau.specs.IntegerTableau.{tableau_of, of_parts};
-    ghost use Rattle.integer_tableau.specs.Consistent.{IsConsistent};
+    ghost use Rattle.integer_tableau.specs.Combined.{expanded, IsCompact};
 
     ghost Value = { Described };
 
-    ghost view = { λ t. tableau_of t.fixed.columns t.fixed.numbers.items (of_parts t.fixed.bounds.items t.positions.items t.at_upper.items t.nonbasic_values.items t.rows.items t.reduced_costs t.values.items t.denominator t.pivots) };
+    ghost view = { λ t. tableau_of (length t.rows.items) t.fixed.numbers.items (expanded t.fixed.rows.items (of_parts t.fixed.bounds.items t.positions.items t.at_upper.items t.nonbasic_values.items t.rows.items t.reduced_costs t.values.items t.denominator t.pivots)) };
 
-    ghost invariant = { λ t. IsConsistent (of_parts t.fixed.bounds.items t.positions.items t.at_upper.items t.nonbasic_values.items t.rows.items t.reduced_costs t.values.items t.denominator t.pivots) × (t.spare ≡ []) × (pos 0 <ℤ t.denominator) × (t.fixed.columns ≤ length t.positions.items) };
+    ghost invariant = { λ t. IsCompact t.fixed.rows.items t.fixed.weight t.fixed.reach (of_parts t.fixed.bounds.items t.positions.items t.at_upper.items t.nonbasic_values.items t.rows.items t.reduced_costs t.values.items t.denominator t.pivots) × (pos 0 <ℤ t.denominator) };
 }
 
 impl IntegerTableau {
@@ -60,22 +69,26 @@ impl IntegerTableau {
         self.pivots
     }
 
-    /// What the tableau asks for next; none where the numbers are too large.
+    /// What the tableau asks for next; none where the numbers are too large, or memory is wanting.
     pub fn next_place(&self) -> Option<Place>
         ensures value { IfSome result (λ p. p ≡ place self.now) }
         ensures within { IfSome result (λ p. PlaceIsWithin (length self.now.statuses) p) }
         ensures exact { IfSome result (λ p. p ≢ Place.Cramped) }
     {
         match leaving(
+            &self.fixed.rows,
             &self.positions,
             &self.fixed.bounds,
+            &self.nonbasic_values,
             &self.values,
             self.denominator,
         ) {
             None => Some(Place::Done),
             Some((row, direction)) => place_where_leaving(
+                *self.rows.allocator(),
                 row,
                 direction,
+                &self.fixed.rows,
                 &self.positions,
                 &self.at_upper,
                 &self.fixed.bounds,

@@ -2,6 +2,8 @@
 #![tactic(auto)]
 
 mod answers;
+mod combination;
+mod combined_sizes;
 mod denominator;
 mod divisor;
 mod elimination;
@@ -16,9 +18,10 @@ mod narrow;
 mod pivot;
 mod place;
 mod position;
+mod program_row;
+mod reading;
 mod run;
 mod start;
-mod start_values;
 mod substitution;
 mod values;
 mod wide;

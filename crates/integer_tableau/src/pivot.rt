@@ -1,19 +1,24 @@
 // Pivots.
 
-ghost use Rattle.std.specs.Prelude.{◌≡◌, ◌≢◌, ◌<◌, ◌+◌, ◌^◌, [], pos, nat_abs, ◌<ℤ◌, length, slice_index_or, IsTrue, IfSome, Some};
+ghost use Rattle.std.specs.Prelude.{◌≡◌, ℕ, ◌+◌, ◌*◌, ◌-◌, ◌<◌, ◌^◌, List, ℤ, [], pos, nat_abs, ◌-ℤ◌, ◌*ℤ◌, ◌<ℤ◌, length, slice_index_or, slice_set, IsTrue, IfSome, Some};
 ghost use Rattle.tableau.specs.Pivot.{pivoted};
-ghost use Rattle.integer_tableau.specs.Numbers.{number_at, total_size};
-ghost use Rattle.integer_tableau.specs.Positions.{nonbasic_values_exchanged};
+ghost use Rattle.integer_tableau.specs.Numbers.{number_at, IsWithin, total_size};
+ghost use Rattle.integer_tableau.specs.Substitution.{quotient_numerator};
 ghost use Rattle.integer_tableau.specs.IntegerTableau.{of_parts};
-ghost use Rattle.integer_tableau.specs.Consistent.{IsConsistent};
+ghost use Rattle.integer_tableau.specs.Combined.{expanded_rows, expanded_values, IsCompact};
 ghost use Rattle.integer_tableau.specs.Pivot.{is_upper, IsPivotOf, AreSubstitutedValues, IsEliminated, IsPivoted};
 
+use crate::combination::combined_value;
+use crate::combined_sizes::are_combinations_small;
+use crate::divisor::Divisor;
 use crate::elimination::eliminate;
 use crate::integer_bounds::IntegerBounds;
 use crate::integer_row::IntegerRow;
 use crate::integer_tableau::IntegerTableau;
 use crate::position::Position;
-use crate::values::{change_values, is_total_small};
+use crate::program_row::ProgramRow;
+use crate::values::change_values;
+use std::mem;
 use tableau::Direction;
 
 /// Whether a leaving variable goes to its upper bound.
@@ -39,12 +44,74 @@ fn size_of(pivot: i64) -> Option<i64>
     }
 }
 
-/// Whether a denominator is below 2^62.
-pub(crate) fn is_small(denominator: i64) -> bool
-    requires { pos 0 <ℤ denominator }
-    ensures { IsTrue result → nat_abs denominator < 2 ^ 62 }
+/// Whether the value of no nonbasic column has more than 63 bits over the denominator.
+pub(crate) fn is_near(reach: u64, denominator: i64) -> bool
+    ensures { IsTrue result → reach * nat_abs denominator < 2 ^ 63 }
 {
-    denominator < 1 << 62
+    u128::from(reach) * u128::from(denominator.unsigned_abs()) < 1 << 63
+}
+
+/// The numerator of a variable's value, if it is basic.
+pub(crate) fn value_of(
+    variable: usize,
+    program_rows: &[ProgramRow],
+    positions: &[Position],
+    nonbasic_values: &[i64],
+    values: &[i64],
+    denominator: i64,
+) -> i128
+    requires positions_there { length positions.now ≡ length values.now + length program_rows.now }
+    requires nonbasic_values_there { length nonbasic_values.now ≡ length positions.now }
+    requires variable_there { variable < length positions.now }
+    requires full { (i : ℕ) → i < length program_rows.now → length (slice_index_or program_rows.now i []) ≡ length values.now }
+    requires light { (i : ℕ) → i < length program_rows.now → total_size (slice_index_or program_rows.now i []) < 2 ^ 62 }
+    requires near { (j : ℕ) → j < length values.now → nat_abs (number_at nonbasic_values.now j) * nat_abs denominator < 2 ^ 63 }
+    requires positive { pos 0 <ℤ denominator }
+    ensures { result ≡ number_at (expanded_values (nat_abs denominator) program_rows.now positions.now nonbasic_values.now values.now) variable }
+{
+    if variable < values.len() {
+        i128::from(values[variable])
+    } else {
+        combined_value(
+            &program_rows[variable - values.len()],
+            positions,
+            nonbasic_values,
+            values,
+            denominator,
+        )
+    }
+}
+
+/// Puts the row of a basic variable into `leaving_row`, and leaves none in its place; false where it isn't kept, and its numbers are too large.
+fn take_row(
+    rows: &mut [IntegerRow],
+    leaving_row: &mut IntegerRow,
+    program_rows: &[ProgramRow],
+    positions: &[Position],
+    denominator: i64,
+    leaving: usize,
+) -> bool
+    requires positions_there { length positions.now ≡ length rows.old + length program_rows.now }
+    requires leaving_there { leaving < length positions.now }
+    requires basic { slice_index_or positions.now leaving Position.InBasis ≡ Position.InBasis }
+    requires full { (i : ℕ) → i < length program_rows.now → length (slice_index_or program_rows.now i []) ≡ length rows.old }
+    requires positive { pos 0 <ℤ denominator }
+    ensures row { IsTrue result → leaving_row.new ≡ slice_index_or (expanded_rows (nat_abs denominator) program_rows.now positions.now rows.old) leaving [] }
+    ensures rows { IsTrue result → rows.new ≡ slice_set rows.old leaving [] }
+{
+    let columns = rows.len();
+    if leaving < columns {
+        leaving_row.clear();
+        mem::swap(&mut rows[leaving], leaving_row);
+        true
+    } else {
+        leaving_row.combine(
+            &program_rows[leaving - columns],
+            positions,
+            rows,
+            denominator,
+        )
+    }
 }
 
 /// A pivot that can be made.
@@ -52,7 +119,9 @@ pub(crate) fn is_small(denominator: i64) -> bool
 struct Exchange {
     /// The column of the entering variable, which the leaving one takes.
     column: usize,
-    /// The size of the pivot, which is the new denominator.
+    /// The coefficient of the entering variable in the leaving row.
+    pivot: i64,
+    /// Its size, which is the new denominator.
     size: i64,
     /// In which direction the leaving variable goes.
     direction: Direction,
@@ -64,8 +133,8 @@ struct Exchange {
 fn exchange_of(
     bounds: &[IntegerBounds],
     positions: &[Position],
-    rows: &[IntegerRow],
-    values: &[i128],
+    leaving_row: &IntegerRow,
+    value: i128,
     denominator: i64,
     leaving: usize,
     entering: usize,
@@ -73,155 +142,211 @@ fn exchange_of(
     requires positive { pos 0 <ℤ denominator }
     requires leaving_there { leaving < length positions.now }
     requires entering_there { entering < length positions.now }
+    requires basic { slice_index_or positions.now leaving Position.InBasis ≡ Position.InBasis }
     requires bounds_there { length bounds.now ≡ length positions.now }
-    requires rows_there { length rows.now ≡ length positions.now }
-    requires values_there { length values.now ≡ length positions.now }
-    ensures size { IfSome result (λ e. e.size ≡ pos (nat_abs (number_at (slice_index_or rows.now leaving []) e.column))) }
-    ensures pivot { IfSome result (λ e. IsPivotOf bounds.now positions.now rows.now values.now (nat_abs denominator) leaving entering e.column e.direction e.bound) }
+    ensures pivot { IfSome result (λ e. e.pivot ≡ number_at leaving_row.now e.column) }
+    ensures size { IfSome result (λ e. e.size ≡ pos (nat_abs (number_at leaving_row.now e.column))) }
+    ensures there { IfSome result (λ e. IsPivotOf bounds.now positions.now leaving_row.now value (nat_abs denominator) leaving entering e.column e.direction e.bound) }
 {
     let Position::InColumn(column) = positions[entering] else {
         return None;
     };
-    let Position::InBasis = positions[leaving] else {
-        return None;
-    };
-    let size = size_of(rows[leaving].numerator(column))?;
-    if !is_small(denominator) {
-        return None;
-    }
-    let direction = bounds[leaving].violation(values[leaving], denominator)?;
+    let pivot = leaving_row.numerator(column);
+    let size = size_of(pivot)?;
+    let direction = bounds[leaving].violation(value, denominator)?;
     let bound = bounds[leaving].violated(direction);
     Some(Exchange {
         column,
+        pivot,
         size,
         direction,
         bound,
     })
 }
 
-/// Makes the pivot in the numbers of a tableau; false where they grow too large, or a division isn't exact.
-fn exchange_numbers(
-    nonbasic_values: &mut [i64],
+/// Takes the leaving row out of the rows, into `leaving_row`. The answer is the numerator of the leaving variable's value, and the pivot, if
+/// it can be made.
+fn leave(
+    bounds: &[IntegerBounds],
+    program_rows: &[ProgramRow],
+    positions: &[Position],
+    nonbasic_values: &[i64],
     rows: &mut [IntegerRow],
-    spare: &mut IntegerRow,
-    reduced_costs: &mut IntegerRow,
-    values: &mut [i128],
+    leaving_row: &mut IntegerRow,
+    values: &[i64],
     denominator: i64,
     leaving: usize,
+    entering: usize,
+) -> Option<(i128, Exchange)>
+    requires positive { pos 0 <ℤ denominator }
+    requires leaving_there { leaving < length positions.now }
+    requires entering_there { entering < length positions.now }
+    requires basic { slice_index_or positions.now leaving Position.InBasis ≡ Position.InBasis }
+    requires bounds_there { length bounds.now ≡ length positions.now }
+    requires nonbasic_values_there { length nonbasic_values.now ≡ length positions.now }
+    requires positions_there { length positions.now ≡ length rows.old + length program_rows.now }
+    requires values_there { length values.now ≡ length rows.old }
+    requires full { (i : ℕ) → i < length program_rows.now → length (slice_index_or program_rows.now i []) ≡ length rows.old }
+    requires light { (i : ℕ) → i < length program_rows.now → total_size (slice_index_or program_rows.now i []) < 2 ^ 62 }
+    requires near { (j : ℕ) → j < length values.now → nat_abs (number_at nonbasic_values.now j) * nat_abs denominator < 2 ^ 63 }
+    ensures value { IfSome result (λ e. e.0 ≡ number_at (expanded_values (nat_abs denominator) program_rows.now positions.now nonbasic_values.now values.now) leaving) }
+    ensures row { IfSome result (λ e. leaving_row.new ≡ slice_index_or (expanded_rows (nat_abs denominator) program_rows.now positions.now rows.old) leaving []) }
+    ensures rows { IfSome result (λ e. rows.new ≡ slice_set rows.old leaving []) }
+    ensures pivot { IfSome result (λ e. e.1.pivot ≡ number_at leaving_row.new e.1.column) }
+    ensures size { IfSome result (λ e. e.1.size ≡ pos (nat_abs (number_at leaving_row.new e.1.column))) }
+    ensures there { IfSome result (λ e. IsPivotOf bounds.now positions.now leaving_row.new e.0 (nat_abs denominator) leaving entering e.1.column e.1.direction e.1.bound) }
+{
+    let value = value_of(
+        leaving,
+        program_rows,
+        positions,
+        nonbasic_values,
+        values,
+        denominator,
+    );
+    if !take_row(
+        rows,
+        leaving_row,
+        program_rows,
+        positions,
+        denominator,
+        leaving,
+    ) {
+        return None;
+    }
+    let exchange = exchange_of(
+        bounds,
+        positions,
+        leaving_row,
+        value,
+        denominator,
+        leaving,
+        entering,
+    )?;
+    Some((value, exchange))
+}
+
+/// Makes the pivot in the numbers of a tableau, from which the leaving row was taken; false where they grow too large, or a division isn't
+/// exact.
+fn exchange_numbers(
+    rows: &mut [IntegerRow],
+    leaving_row: &mut IntegerRow,
+    reduced_costs: &mut IntegerRow,
+    values: &mut [i64],
+    value: i128,
+    left: i64,
+    denominator: i64,
     entering: usize,
     exchange: Exchange,
 ) -> bool
     requires positive { pos 0 <ℤ denominator }
     requires small { nat_abs denominator < 2 ^ 62 }
-    requires spare_empty { spare.old ≡ [] }
-    requires leaving_there { leaving < length nonbasic_values.old }
-    requires entering_there { entering < length nonbasic_values.old }
-    requires apart { leaving ≢ entering }
-    requires rows_there { length rows.old ≡ length nonbasic_values.old }
-    requires values_there { length values.old ≡ length nonbasic_values.old }
+    requires values_there { length values.old ≡ length rows.old }
+    requires width { length leaving_row.old ≡ length reduced_costs.old }
     requires column { exchange.column < length reduced_costs.old }
-    requires leaving_full { length (slice_index_or rows.old leaving []) ≡ length reduced_costs.old }
-    requires entering_empty { slice_index_or rows.old entering [] ≡ [] }
-    requires coefficient { 0 < nat_abs (number_at (slice_index_or rows.old leaving []) exchange.column) }
-    requires size { exchange.size ≡ pos (nat_abs (number_at (slice_index_or rows.old leaving []) exchange.column)) }
-    ensures rows { IsTrue result → IsEliminated leaving entering exchange.column (nat_abs denominator) rows.old rows.new reduced_costs.old reduced_costs.new }
-    ensures values { IsTrue result → AreSubstitutedValues leaving entering exchange.column (nat_abs denominator) (number_at nonbasic_values.old entering) exchange.bound (length reduced_costs.old) rows.old values.old values.new }
-    ensures nonbasic_values { IsTrue result → nonbasic_values.new ≡ nonbasic_values_exchanged leaving entering exchange.bound nonbasic_values.old }
-    ensures total { IsTrue result → total_size nonbasic_values.new < 2 ^ 62 }
-    ensures spare { IsTrue result → spare.new ≡ [] }
+    requires coefficient { 0 < nat_abs (number_at leaving_row.old exchange.column) }
+    requires pivot { exchange.pivot ≡ number_at leaving_row.old exchange.column }
+    requires size { exchange.size ≡ pos (nat_abs (number_at leaving_row.old exchange.column)) }
+    ensures rows { IsTrue result → (solved : List ℤ) × IsEliminated entering exchange.column (nat_abs denominator) (nat_abs exchange.size) leaving_row.old solved rows.old rows.new reduced_costs.old reduced_costs.new }
+    ensures values { IsTrue result → AreSubstitutedValues entering exchange.column denominator exchange.size left (quotient_numerator exchange.pivot (value -ℤ exchange.pivot *ℤ left -ℤ denominator *ℤ exchange.bound)) (length reduced_costs.old) rows.old values.old values.new }
 {
-    let Exchange {
-        column,
-        size,
-        direction: _,
-        bound,
-    } = exchange;
-    let left = nonbasic_values[entering];
+    let divisor = Divisor::make(denominator);
     let width = reduced_costs.width();
     if !change_values(
         values,
         rows,
         width,
-        leaving,
         entering,
-        column,
+        exchange.column,
+        exchange.pivot,
+        value,
         left,
-        bound,
-        size,
-        denominator,
+        exchange.bound,
+        exchange.size,
+        divisor,
     ) {
         return false;
     }
-    if !eliminate(
+    eliminate(
         rows,
-        spare,
+        leaving_row,
         reduced_costs,
-        leaving,
         entering,
-        column,
-        denominator,
-    ) {
-        return false;
-    }
-    nonbasic_values[leaving] = bound;
-    nonbasic_values[entering] = 0;
-    is_total_small(nonbasic_values)
+        exchange.column,
+        exchange.size,
+        divisor,
+    )
 }
 
 /// Exchanges two variables in the parts of a tableau. The answer is the new denominator, or none where the pivot is given up; the parts are
 /// of no use then.
 fn pivot_parts(
     bounds: &[IntegerBounds],
+    program_rows: &[ProgramRow],
+    weight: u64,
+    reach: u64,
     positions: &mut [Position],
     at_upper: &mut [bool],
     nonbasic_values: &mut [i64],
     rows: &mut [IntegerRow],
     spare: &mut IntegerRow,
     reduced_costs: &mut IntegerRow,
-    values: &mut [i128],
+    values: &mut [i64],
     denominator: i64,
     pivots: u64,
     leaving: usize,
     entering: usize,
 ) -> Option<i64>
-    requires consistent { IsConsistent (of_parts bounds.now positions.old at_upper.old nonbasic_values.old rows.old reduced_costs.old values.old denominator pivots) }
+    requires compact { IsCompact program_rows.now weight reach (of_parts bounds.now positions.old at_upper.old nonbasic_values.old rows.old reduced_costs.old values.old denominator pivots) }
     requires positive { pos 0 <ℤ denominator }
-    requires spare_empty { spare.old ≡ [] }
     requires leaving_there { leaving < length positions.old }
     requires entering_there { entering < length positions.old }
     requires bounds_there { length bounds.now ≡ length positions.old }
     requires at_upper_there { length at_upper.old ≡ length positions.old }
     requires nonbasic_values_there { length nonbasic_values.old ≡ length positions.old }
-    requires rows_there { length rows.old ≡ length positions.old }
-    requires values_there { length values.old ≡ length positions.old }
-    ensures { IfSome result (λ e. IsPivoted leaving entering (of_parts bounds.now positions.old at_upper.old nonbasic_values.old rows.old reduced_costs.old values.old denominator pivots) (of_parts bounds.now positions.new at_upper.new nonbasic_values.new rows.new reduced_costs.new values.new e (pivots + 1)) × (spare.new ≡ []) × (pos 0 <ℤ e)) }
+    requires positions_there { length positions.old ≡ length rows.old + length program_rows.now }
+    requires values_there { length values.old ≡ length rows.old }
+    ensures { IfSome result (λ e. IsPivoted program_rows.now weight reach leaving entering (of_parts bounds.now positions.old at_upper.old nonbasic_values.old rows.old reduced_costs.old values.old denominator pivots) (of_parts bounds.now positions.new at_upper.new nonbasic_values.new rows.new reduced_costs.new values.new e (pivots + 1)) × (pos 0 <ℤ e)) }
 {
-    let exchange = exchange_of(
+    let Position::InBasis = positions[leaving] else {
+        return None;
+    };
+    let (value, exchange) = leave(
         bounds,
+        program_rows,
         positions,
+        nonbasic_values,
         rows,
+        spare,
         values,
         denominator,
         leaving,
         entering,
     )?;
     if !exchange_numbers(
-        nonbasic_values,
         rows,
         spare,
         reduced_costs,
         values,
+        value,
+        nonbasic_values[entering],
         denominator,
-        leaving,
         entering,
         exchange,
     ) {
         return None;
     }
+    nonbasic_values[leaving] = exchange.bound;
+    nonbasic_values[entering] = 0;
     positions[leaving] = Position::InColumn(exchange.column);
     positions[entering] = Position::InBasis;
     at_upper[leaving] = is_upper(exchange.direction);
     at_upper[entering] = false;
+    if !is_near(reach, exchange.size)
+        || !are_combinations_small(program_rows, weight, positions, rows, spare, exchange.size)
+    {
+        return None;
+    }
     Some(exchange.size)
 }
 
@@ -250,6 +375,9 @@ impl IntegerTableau {
         } = self;
         let denominator = pivot_parts(
             &fixed.bounds,
+            &fixed.rows,
+            fixed.weight,
+            fixed.reach,
             &mut positions,
             &mut at_upper,
             &mut nonbasic_values,

@@ -1,20 +1,52 @@
 // What a tableau asks for next.
 
-ghost use Rattle.std.specs.Prelude.{◌≡◌, ◌≢◌, ◌<◌, pos, nat_abs, ◌<ℤ◌, length, IfSome};
+ghost use Rattle.std.specs.Prelude.{◌≡◌, ◌≢◌, ℕ, ◌+◌, ◌<◌, [], pos, nat_abs, ◌<ℤ◌, length, IfSome, None, slice_index_or};
 ghost use Rattle.tableau.specs.Place.{PlaceIsWithin};
-ghost use Rattle.integer_tableau.specs.Place.{place_where_leaving};
+ghost use Rattle.integer_tableau.specs.Combined.{expanded_rows};
+ghost use Rattle.integer_tableau.specs.Entering.{entering_by_numerators};
+ghost use Rattle.integer_tableau.specs.Place.{place_of_candidate};
 
 use crate::entering::entering;
 use crate::integer_bounds::IntegerBounds;
 use crate::integer_row::IntegerRow;
-use crate::pivot::is_small;
 use crate::position::Position;
+use crate::program_row::ProgramRow;
+use std::alloc::Global;
 use tableau::{Direction, Place};
 
-/// The place where this variable leaves; none where the numbers are too large, or the variable isn't basic.
-pub(crate) fn place_where_leaving(
+/// The place where a variable with this row leaves.
+fn place_by_row(
     leaving: usize,
     direction: Direction,
+    positions: &[Position],
+    at_upper: &[bool],
+    bounds: &[IntegerBounds],
+    reduced_costs: &IntegerRow,
+    row: &IntegerRow,
+) -> Place
+    requires at_upper_there { length at_upper.now ≡ length positions.now }
+    requires bounds_there { length bounds.now ≡ length positions.now }
+    requires leaving_there { leaving < length positions.now }
+    ensures value { result ≡ place_of_candidate leaving (entering_by_numerators 0 direction None positions.now at_upper.now bounds.now reduced_costs.now row.now) }
+    ensures within { PlaceIsWithin (length positions.now) result }
+    ensures exact { result ≢ Place.Cramped }
+{
+    match entering(direction, positions, at_upper, bounds, reduced_costs, row) {
+        None => Place::NoColumn { row: leaving },
+        Some(best) => Place::Pivot {
+            row: leaving,
+            column: best.variable,
+        },
+    }
+}
+
+/// The place where this variable leaves; none where it isn't basic, or its row isn't kept and has numbers that are too large, or no memory
+/// is left for it.
+pub(crate) fn place_where_leaving(
+    alloc: Global,
+    leaving: usize,
+    direction: Direction,
+    program_rows: &[ProgramRow],
     positions: &[Position],
     at_upper: &[bool],
     bounds: &[IntegerBounds],
@@ -24,31 +56,45 @@ pub(crate) fn place_where_leaving(
 ) -> Option<Place>
     requires at_upper_there { length at_upper.now ≡ length positions.now }
     requires bounds_there { length bounds.now ≡ length positions.now }
-    requires rows_there { length rows.now ≡ length positions.now }
+    requires positions_there { length positions.now ≡ length rows.now + length program_rows.now }
     requires leaving_there { leaving < length positions.now }
+    requires full { (i : ℕ) → i < length program_rows.now → length (slice_index_or program_rows.now i []) ≡ length rows.now }
     requires positive { pos 0 <ℤ denominator }
-    ensures value { IfSome result (λ p. p ≡ place_where_leaving leaving direction (nat_abs denominator) positions.now at_upper.now bounds.now rows.now reduced_costs.now) }
+    ensures value { IfSome result (λ p. p ≡ place_of_candidate leaving (entering_by_numerators 0 direction None positions.now at_upper.now bounds.now reduced_costs.now (slice_index_or (expanded_rows (nat_abs denominator) program_rows.now positions.now rows.now) leaving []))) }
     ensures within { IfSome result (λ p. PlaceIsWithin (length positions.now) p) }
     ensures exact { IfSome result (λ p. p ≢ Place.Cramped) }
 {
     let Position::InBasis = positions[leaving] else {
         return None;
     };
-    if !is_small(denominator) || !reduced_costs.is_within() || !rows[leaving].is_within() {
+    let columns = rows.len();
+    if leaving < columns {
+        return Some(place_by_row(
+            leaving,
+            direction,
+            positions,
+            at_upper,
+            bounds,
+            reduced_costs,
+            &rows[leaving],
+        ));
+    }
+    let mut row = IntegerRow::empty(alloc);
+    if !row.combine(
+        &program_rows[leaving - columns],
+        positions,
+        rows,
+        denominator,
+    ) {
         return None;
     }
-    match entering(
+    Some(place_by_row(
+        leaving,
         direction,
         positions,
         at_upper,
         bounds,
         reduced_costs,
-        &rows[leaving],
-    ) {
-        None => Some(Place::NoColumn { row: leaving }),
-        Some(best) => Some(Place::Pivot {
-            row: leaving,
-            column: best.variable,
-        }),
-    }
+        &row,
+    ))
 }

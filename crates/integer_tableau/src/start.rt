@@ -1,8 +1,9 @@
 // The tableau at the start.
 
-ghost use Rattle.std.specs.Prelude.{◌≡◌, ◌+◌, ◌≤◌, ◌++◌, [], pos, length, map, replicate, IfOk, IfSome, OnOk, false, Some};
+ghost use Rattle.std.specs.Prelude.{◌≡◌, ℕ, ◌+◌, ◌<◌, ◌≤◌, ◌^◌, ◌++◌, [], pos, length, map, replicate, slice_index_or, IsTrue, IfOk, IfSome, false, Some, None};
 ghost use Rattle.tableau.specs.LinearProgram.{variables, over};
 ghost use Rattle.tableau.specs.Start.{started};
+ghost use Rattle.integer_tableau.specs.Combined.{bound_size, total_bound_size};
 ghost use Rattle.integer_tableau.specs.IntegerProgram.{fraction_program, IsReady};
 ghost use Rattle.integer_tableau.specs.Start.{columns_from, is_negative, start_number, start_numbers};
 
@@ -10,9 +11,9 @@ use crate::integer_bounds::IntegerBounds;
 use crate::integer_program::{IntegerProgram, bounds_over};
 use crate::integer_row::IntegerRow;
 use crate::integer_tableau::{Fixed, IntegerTableau};
+use crate::pivot::is_near;
 use crate::position::Position;
-use crate::start_values::{nonzero_columns, start_values};
-use crate::values::is_total_small;
+use crate::program_row::ProgramRow;
 use problem_box::IntBox;
 use std::alloc::{AllocError, Global};
 
@@ -115,31 +116,41 @@ fn empty_rows(alloc: Global, count: usize) -> Result<Vec<IntegerRow>, AllocError
     Ok(rows)
 }
 
-/// Copies of rows behind others. The one error is want of memory.
-fn append_copies(
-    alloc: Global,
-    all: &mut Vec<IntegerRow>,
-    rows: &[IntegerRow],
-) -> Result<(), AllocError>
-    ensures { OnOk result (all.new.items ≡ all.old.items ++ rows.now) }
+/// Copies of rows. The one error is want of memory.
+fn copies(alloc: Global, rows: &[ProgramRow]) -> Result<Vec<ProgramRow>, AllocError>
+    ensures { IfOk result (λ v. v.items ≡ rows.now) }
 {
+    let mut all = Vec::with_capacity(alloc, rows.len())?;
     for row in rows {
         all.push(row.copy(alloc)?)?;
     }
-    Ok(())
+    Ok(all)
 }
 
-/// The row of each variable: none for the columns. The one error is want of memory.
-fn start_rows(
-    alloc: Global,
-    columns: usize,
-    rows: &[IntegerRow],
-) -> Result<Vec<IntegerRow>, AllocError>
-    ensures { IfOk result (λ v. v.items ≡ replicate columns [] ++ rows.now) }
+/// Whether the sizes of all bounds add up to less than 2^62.
+fn has_room(bounds: &[IntegerBounds]) -> bool
+    ensures { IsTrue result → total_bound_size bounds.now < 2 ^ 62 }
 {
-    let mut all = empty_rows(alloc, columns)?;
-    append_copies(alloc, &mut all, rows)?;
-    Ok(all)
+    let mut total = 0u64;
+    for own in bounds {
+        match total.checked_add(own.size()) {
+            Some(more) => total = more,
+            None => return false,
+        }
+    }
+    total < 1 << 62
+}
+
+/// The greatest size of the columns' bounds.
+fn reach_of(bounds: &[IntegerBounds], columns: usize) -> u64
+    requires { columns ≤ length bounds.now }
+    ensures { (j : ℕ) → j < columns → bound_size (slice_index_or bounds.now j (record { lower = None; upper = None })) ≤ result }
+{
+    let mut reach = 0;
+    for column in 0..columns {
+        reach = reach.max(bounds[column].size());
+    }
+    reach
 }
 
 impl IntegerTableau {
@@ -157,42 +168,52 @@ impl IntegerTableau {
     {
         let bounds = bounds_over(alloc, area, program.costs.width(), &program.bounds)?;
         let numbers = Vec::from_slice(alloc, &program.numbers)?;
-        IntegerTableau::start_from(alloc, &program.rows, &program.costs, bounds, numbers)
+        IntegerTableau::start_from(
+            alloc,
+            &program.rows,
+            program.weight,
+            &program.costs,
+            bounds,
+            numbers,
+        )
     }
 
     /// The same from its parts.
     fn start_from(
         alloc: Global,
-        rows: &[IntegerRow],
+        rows: &[ProgramRow],
+        weight: u64,
         costs: &IntegerRow,
         bounds: Vec<IntegerBounds>,
         numbers: Vec<u32>,
     ) -> Result<Option<IntegerTableau>, AllocError>
-        requires { IsReady rows.now costs.now bounds.items }
+        requires { IsReady rows.now weight costs.now bounds.items }
         ensures value { IfOk result (λ o. IfSome o (λ t. started (fraction_program rows.now costs.now bounds.items numbers.items) ≡ Some t)) }
         ensures size { IfOk result (λ o. IfSome o (λ t. length t.statuses ≡ length costs.now + length rows.now)) }
         ensures pivots { IfOk result (λ o. IfSome o (λ t. t.pivots ≡ 0)) }
     {
         let columns = costs.width();
         let count = rows.len();
+        let reach = reach_of(&bounds, columns);
+        if !has_room(&bounds) || !is_near(reach, 1) {
+            return Ok(None);
+        }
         let positions = start_positions(alloc, columns, count)?;
         let at_upper = start_at_upper(alloc, costs.numerators(), count)?;
         let nonbasic_values = start_numbers(alloc, costs.numerators(), &bounds, count)?;
-        if !is_total_small(&nonbasic_values) {
-            return Ok(None);
-        }
-        let nonzero = nonzero_columns(alloc, &nonbasic_values)?;
-        let values = start_values(alloc, columns, &nonzero, rows)?;
+        let values = Vec::from_elem(alloc, 0, columns)?;
         Ok(Some(IntegerTableau {
             fixed: Fixed {
-                columns,
                 numbers,
                 bounds,
+                rows: copies(alloc, rows)?,
+                weight,
+                reach,
             },
             positions,
             at_upper,
             nonbasic_values,
-            rows: start_rows(alloc, columns, rows)?,
+            rows: empty_rows(alloc, columns)?,
             spare: IntegerRow::empty(alloc),
             reduced_costs: costs.copy(alloc)?,
             values,

@@ -1,26 +1,13 @@
-// The values of the variables.
+// The values of the columns.
 
-ghost use Rattle.std.specs.Prelude.{◌≡◌, ℕ, ◌<◌, ◌^◌, [], pos, nat_abs, ◌-ℤ◌, ◌*ℤ◌, ◌+ℤ◌, ◌<ℤ◌, length, IsTrue, IfSome, slice_index_or};
-ghost use Rattle.integer_tableau.specs.Numbers.{number_at, total_size};
+ghost use Rattle.std.specs.Prelude.{◌≡◌, ℕ, ◌<◌, ◌^◌, [], pos, nat_abs, ◌-ℤ◌, ◌*ℤ◌, ◌+ℤ◌, ◌<ℤ◌, length, IsTrue, IfSome, slice_index_or, slice_set};
+ghost use Rattle.integer_tableau.specs.Numbers.{number_at};
 ghost use Rattle.integer_tableau.specs.Substitution.{quotient_numerator};
 ghost use Rattle.integer_tableau.specs.Pivot.{IsSubstitutedValue, AreSubstitutedValues};
 
+use crate::divisor::Divisor;
 use crate::integer_row::IntegerRow;
 use crate::wide_numbers::{exact_quotient, less_product, quotient_numerator, sum, times};
-
-/// Whether the sizes of the numbers add up to less than 2^62.
-pub(crate) fn is_total_small(numbers: &[i64]) -> bool
-    ensures { IsTrue result → total_size numbers.now < 2 ^ 62 }
-{
-    let mut total = 0u64;
-    for number in numbers {
-        match total.checked_add(number.unsigned_abs()) {
-            Some(more) => total = more,
-            None => return false,
-        }
-    }
-    total < 1 << 62
-}
 
 /// The numerator of the entering variable's value, over the size of the pivot: the leaving variable, whose value this is so far, goes to
 /// its bound, and the entering one leaves its own.
@@ -40,34 +27,35 @@ fn entering_value(
 
 /// The numerator of another variable's value, where the division by the denominator is exact.
 fn substituted_value(
-    value: i128,
+    value: i64,
     factor: i64,
     nonbasic_value: i64,
     pivot_size: i64,
     entering: i128,
-    denominator: i64,
-) -> Option<i128>
-    ensures { IfSome result (λ v. v *ℤ denominator ≡ (value -ℤ factor *ℤ nonbasic_value) *ℤ pivot_size +ℤ entering *ℤ factor) }
+    divisor: Divisor,
+) -> Option<i64>
+    ensures { IfSome result (λ v. v *ℤ divisor.number ≡ (value -ℤ factor *ℤ nonbasic_value) *ℤ pivot_size +ℤ entering *ℤ factor) }
 {
-    let rest = less_product(value, factor, nonbasic_value)?;
+    let rest = less_product(i128::from(value), factor, nonbasic_value)?;
     let rest = times(rest, pivot_size)?;
     let part = times(entering, factor)?;
     let total = sum(rest, part)?;
-    exact_quotient(total, denominator)
+    exact_quotient(total, divisor)
 }
 
 /// The same of a variable with this row, if the row has the width.
+#[inline(always)]
 fn value_after(
-    value: i128,
+    value: i64,
     row: &IntegerRow,
     width: usize,
     column: usize,
     nonbasic_value: i64,
     pivot_size: i64,
     entering: i128,
-    denominator: i64,
-) -> Option<i128>
-    ensures { IfSome result (λ after. IsSubstitutedValue width column nonbasic_value pivot_size entering denominator row.now value after) }
+    divisor: Divisor,
+) -> Option<i64>
+    ensures { IfSome result (λ after. IsSubstitutedValue width column nonbasic_value pivot_size entering divisor.number row.now value after) }
 {
     if row.width() == width {
         substituted_value(
@@ -76,26 +64,26 @@ fn value_after(
             nonbasic_value,
             pivot_size,
             entering,
-            denominator,
+            divisor,
         )
     } else {
         Some(value)
     }
 }
 
-/// The values of all variables whose rows have the width; false where one isn't exact.
+/// The values of all columns whose rows have the width; false where one isn't exact, or is too large.
 fn substitute_values(
-    values: &mut [i128],
+    values: &mut [i64],
     rows: &[IntegerRow],
     width: usize,
     column: usize,
     nonbasic_value: i64,
     pivot_size: i64,
     entering: i128,
-    denominator: i64,
+    divisor: Divisor,
 ) -> bool
     requires { length values.old ≡ length rows.now }
-    ensures { IsTrue result → (v : ℕ) → v < length values.old → IsSubstitutedValue width column nonbasic_value pivot_size entering denominator (slice_index_or rows.now v []) (number_at values.old v) (number_at values.new v) }
+    ensures { IsTrue result → (v : ℕ) → v < length values.old → IsSubstitutedValue width column nonbasic_value pivot_size entering divisor.number (slice_index_or rows.now v []) (number_at values.old v) (number_at values.new v) }
 {
     for (v, value) in values.iter_mut().enumerate() {
         match value_after(
@@ -106,7 +94,7 @@ fn substitute_values(
             nonbasic_value,
             pivot_size,
             entering,
-            denominator,
+            divisor,
         ) {
             Some(after) => *value = after,
             None => return false,
@@ -115,30 +103,49 @@ fn substitute_values(
     true
 }
 
-/// The values after a pivot, in which the leaving variable goes to the bound; false where one isn't exact.
+/// Puts the value of the entering variable into its place, if it is a column; false where it is too large.
+fn put_value(values: &mut [i64], entering: usize, value: i128) -> bool
+    ensures { IsTrue result → values.new ≡ slice_set values.old entering value }
+{
+    if entering < values.len() {
+        match i64::try_from(value) {
+            Ok(number) => {
+                values[entering] = number;
+                true
+            }
+            Err(_) => false,
+        }
+    } else {
+        true
+    }
+}
+
+/// The values after a pivot, in which the leaving variable, of this value, goes to the bound; false where one isn't exact, or is too large.
 pub(crate) fn change_values(
-    values: &mut [i128],
+    values: &mut [i64],
     rows: &[IntegerRow],
     width: usize,
-    leaving: usize,
     entering: usize,
     column: usize,
+    pivot: i64,
+    leaving_value: i128,
     nonbasic_value: i64,
     bound: i64,
     pivot_size: i64,
-    denominator: i64,
+    divisor: Divisor,
 ) -> bool
-    requires rows_there { length rows.now ≡ length values.old }
-    requires leaving_there { leaving < length values.old }
-    requires entering_there { entering < length values.old }
-    requires size { pivot_size ≡ pos (nat_abs (number_at (slice_index_or rows.now leaving []) column)) }
-    requires denominator_positive { pos 0 <ℤ denominator }
-    ensures { IsTrue result → AreSubstitutedValues leaving entering column (nat_abs denominator) nonbasic_value bound width rows.now values.old values.new }
+    requires { length rows.now ≡ length values.old }
+    ensures { IsTrue result → AreSubstitutedValues entering column divisor.number pivot_size nonbasic_value (quotient_numerator pivot (leaving_value -ℤ pivot *ℤ nonbasic_value -ℤ divisor.number *ℤ bound)) width rows.now values.old values.new }
 {
-    let pivot = rows[leaving].numerator(column);
-    match entering_value(values[leaving], pivot, nonbasic_value, denominator, bound) {
+    match entering_value(
+        leaving_value,
+        pivot,
+        nonbasic_value,
+        divisor.number(),
+        bound,
+    ) {
         Some(value) => {
-            let is_exact = substitute_values(
+            substitute_values(
                 values,
                 rows,
                 width,
@@ -146,10 +153,8 @@ pub(crate) fn change_values(
                 nonbasic_value,
                 pivot_size,
                 value,
-                denominator,
-            );
-            values[entering] = value;
-            is_exact
+                divisor,
+            ) && put_value(values, entering, value)
         }
         None => false,
     }

@@ -31,7 +31,7 @@ fn determinant(a: i64, m: i64, s: i64, q: i64) -> i128
 /// The quotient by the number that ends in so many zeros, and whose rest has this inverse modulo 2^64, where the quotient is whole and has
 /// 64 bits.
 #[inline(always)]
-fn trial_quotient(dividend: i128, zeros: u32, inverse: u64) -> i64 {
+pub(crate) fn trial_quotient(dividend: i128, zeros: u32, inverse: u64) -> i64 {
     let low = ((dividend >> (zeros & 63)).cast_unsigned() & LOW) as u64;
     low.wrapping_mul(inverse).cast_signed()
 }

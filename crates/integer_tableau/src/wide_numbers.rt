@@ -3,6 +3,9 @@
 ghost use Rattle.std.specs.Prelude.{◌≡◌, ◌+ℤ◌, ◌-ℤ◌, ◌*ℤ◌, IfSome};
 ghost use Rattle.integer_tableau.specs.Substitution.{quotient_numerator};
 
+use crate::divisor::Divisor;
+use crate::wide::trial_quotient;
+
 /// The product of two numbers of 64 bits.
 #[inline(always)]
 pub(crate) fn product(a: i64, b: i64) -> i128
@@ -18,11 +21,14 @@ pub(crate) fn less_product(value: i128, a: i64, b: i64) -> Option<i128>
     value.checked_sub(product(a, b))
 }
 
-/// `value * factor`, if it has 128 bits.
+/// `value * factor`, if it has 128 bits. A value of 64 bits takes one multiplication.
 pub(crate) fn times(value: i128, factor: i64) -> Option<i128>
     ensures { IfSome result (λ v. v ≡ value *ℤ factor) }
 {
-    value.checked_mul(i128::from(factor))
+    match i64::try_from(value) {
+        Ok(number) => Some(product(number, factor)),
+        Err(_) => value.checked_mul(i128::from(factor)),
+    }
 }
 
 /// `a + b`, if it has 128 bits.
@@ -32,12 +38,12 @@ pub(crate) fn sum(a: i128, b: i128) -> Option<i128>
     a.checked_add(b)
 }
 
-/// The quotient, where the division is exact.
-pub(crate) fn exact_quotient(dividend: i128, divisor: i64) -> Option<i128>
-    ensures { IfSome result (λ v. v *ℤ divisor ≡ dividend) }
+/// The quotient, where the division is exact and the quotient has 64 bits.
+pub(crate) fn exact_quotient(dividend: i128, divisor: Divisor) -> Option<i64>
+    ensures { IfSome result (λ v. v *ℤ divisor.number ≡ dividend) }
 {
-    let quotient = dividend.checked_div(i128::from(divisor))?;
-    if times(quotient, divisor)? == dividend {
+    let quotient = trial_quotient(dividend, divisor.zeros, divisor.inverse);
+    if product(quotient, divisor.number) == dividend {
         Some(quotient)
     } else {
         None

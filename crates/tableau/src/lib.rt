@@ -13,6 +13,7 @@ mod multiple;
 mod pivot;
 mod place;
 mod program;
+mod reading;
 mod run;
 mod sparse_row;
 mod start;

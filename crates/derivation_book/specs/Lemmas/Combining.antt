@@ -18,7 +18,7 @@ columns_from ls mult j (s ∷ ss) = option_and_then (λ c. option_map (λ cs. c 
 abbrev pub combined_from : List CertLine → List (ℕ × ℚ) → Sums → Option Sums
 combined_from ls mult q = option_and_then (λ cs. option_map (sums_of cs) (sum_from (side_at ls) q.side mult)) (columns_from ls mult 0 q.coefficients)
 
-columns_step : (ls : List CertLine) (m : ℕ × ℚ) (ms : List (ℕ × ℚ)) (j : ℕ) (ss : List ℚ)
+pub columns_step : (ls : List CertLine) (m : ℕ × ℚ) (ms : List (ℕ × ℚ)) (j : ℕ) (ss : List ℚ)
     → columns_from ls (m ∷ ms) j ss ≡ option_and_then (columns_from ls ms j) (columns_added ss j m.1 (row_at ls m.0).terms)
 columns_step ls m ms j [] = refl
 columns_step ls m ms j (s ∷ ss) =
@@ -41,7 +41,7 @@ combined_step ls m ms q =
     ∙ crossed (columns_added q.coefficients 0 m.1 (row_at ls m.0).terms) (with_product q.side m.1 (side_at ls m.0)) (columns_from ls ms 0) (λ u. sum_from (side_at ls) u ms)
 
 -- no lines
-columns_done : (ls : List CertLine) (j : ℕ) (ss : List ℚ) → columns_from ls [] j ss ≡ Some ss
+pub columns_done : (ls : List CertLine) (j : ℕ) (ss : List ℚ) → columns_from ls [] j ss ≡ Some ss
 columns_done ls j [] = refl
 columns_done ls j (s ∷ ss) = ap (option_map (λ vs. s ∷ vs)) (columns_done ls (j + 1) ss)
 
@@ -49,7 +49,7 @@ pub combined_done : (ls : List CertLine) (q : Sums) → combined_from ls [] q �
 combined_done ls q = ap (option_and_then (λ cs. option_map (sums_of cs) (Some q.side))) (columns_done ls 0 q.coefficients)
 
 -- from zeros
-columns_begun : (ls : List CertLine) (mult : List (ℕ × ℚ)) (j n : ℕ) → columns_from ls mult j (replicate n (whole (pos 0))) ≡ combined_columns ls mult j n
+pub columns_begun : (ls : List CertLine) (mult : List (ℕ × ℚ)) (j n : ℕ) → columns_from ls mult j (replicate n (whole (pos 0))) ≡ combined_columns ls mult j n
 columns_begun ls mult j zero = refl
 columns_begun ls mult j (suc n) =
     ap (λ o. option_and_then (λ c. option_map (λ cs. c ∷ cs) o) (combined_at ls mult j)) (columns_begun ls mult (j + 1) n)
@@ -58,7 +58,7 @@ pub combined_begun : (ls : List CertLine) (mult : List (ℕ × ℚ)) (n : ℕ) �
 combined_begun ls mult n = ap (option_and_then (λ cs. option_map (sums_of cs) (combined_side ls mult))) (columns_begun ls mult 0 n)
 
 -- a coefficient for each column
-columns_length : (ls : List CertLine) (mult : List (ℕ × ℚ)) (j n : ℕ) (cs : List ℚ) → combined_columns ls mult j n ≡ Some cs → length cs ≡ n
+pub columns_length : (ls : List CertLine) (mult : List (ℕ × ℚ)) (j n : ℕ) (cs : List ℚ) → combined_columns ls mult j n ≡ Some cs → length cs ≡ n
 columns_length ls mult j zero cs e = let f : [] ≡ cs = (cc) in subst (λ (vs : List ℚ). length vs ≡ 0) f refl
 columns_length ls mult j (suc n) cs e =
     let w = was_some (λ c. option_map (λ cs. c ∷ cs) (combined_columns ls mult (j + 1) n)) (combined_at ls mult j) cs e in

@@ -1,27 +1,56 @@
-use Rattle.std.proofs.Common.{refl, rules, length, nat_abs, subst, ◌∙◌, w64, to_z, of_z}
+use Rattle.std.proofs.Common.{◌+◌, ◌-ℤ◌, ◌*ℤ◌, [], refl, rules, false, length, get_or, set, nat_abs, pos, ap, sym, subst, ◌∙◌, w64, to_z, of_z}
+use Rattle.std.specs.Int.{w128}
 use mir.Val.{SFits}
 use Rattle.std.proofs.lemmas.Int.{to_z-of_z}
+use Rattle.integer_tableau.specs.Combined.{expanded_rows, expanded_values}
+use Rattle.integer_tableau.specs.IntegerTableau.{of_parts}
 use Rattle.integer_tableau.specs.Numbers.{number_at}
-use Rattle.integer_tableau.specs.Pivot.{AreSubstitutedValues, IsEliminated, IsPivotOf}
-use Rattle.integer_tableau.proofs.FromCode.{pivoted_from, positive_from}
+use Rattle.integer_tableau.specs.Pivot.{AreSubstitutedValues, IsEliminated, IsPivotOf, IsPivoted}
+use Rattle.integer_tableau.proofs.Exchanges.{positions_exchanged}
+use Rattle.integer_tableau.specs.Substitution.{quotient_numerator}
+use Rattle.integer_tableau.proofs.FromCode.{near_from_code, pivoted_from, positive_from}
 use Rattle.integer_tableau.proofs.pivot.pivot_parts.Goals as goal
+
+pub leave-requires-clause-near : goal.leave-requires-clause-near
+leave-requires-clause-near c = near_from_code _ _ _ _ c.requires.compact c.args.nonbasic_values.now c.args.values.now _ refl refl (ap nat_abs (to_z-of_z w64 c.args.denominator c.ranges.denominator))
+
+pub exchange_numbers-requires-clause-column : goal.exchange_numbers-requires-clause-column
+exchange_numbers-requires-clause-column c = c.requires.compact.consistent.within c.args.entering c.in_ok-value.exchange.column c.in_ok-value.ensures.there.entering
 
 pub returns : goal.returns
 returns c =
-    let x = c.in_ok-exchange.exchange in
-    let h = c.in_ok-exchange.ensures.pivot in
-    let f : SFits w64 x.size = search rules in
-    let d = to_z-of_z w64 c.args.denominator c.ranges.denominator in
+    let a = c.args in
+    let x = c.in_ok-value.exchange in
     let n = c.exchange_numbers.new in
-    let e_is = to_z-of_z w64 x.size f ∙ c.in_ok-exchange.ensures.size in (
-      pivoted_from c.args.bounds.now c.args.positions.now c.args.at_upper.now c.args.nonbasic_values.now c.args.rows.now c.args.reduced_costs.now c.args.values.now
-          c.args.denominator c.args.pivots c.args.leaving c.args.entering x.column x.direction x.bound c.is_upper.result (to_z w64 (of_z w64 x.size))
-          n.nonbasic_values n.rows n.reduced_costs n.values c.requires.consistent c.requires.entering_there c.requires.leaving_there
-          (subst (λ z. IsPivotOf c.args.bounds.now c.args.positions.now c.args.rows.now c.args.values.now (nat_abs z) c.args.leaving c.args.entering x.column x.direction x.bound) d h)
-          (subst (λ z. IsEliminated c.args.leaving c.args.entering x.column (nat_abs z) c.args.rows.now n.rows c.args.reduced_costs.now n.reduced_costs) d (c.if-not-exchange_numbers.ensures.rows refl))
-          (subst (λ z. AreSubstitutedValues c.args.leaving c.args.entering x.column (nat_abs z) (number_at c.args.nonbasic_values.now c.args.entering) x.bound (length c.args.reduced_costs.now) c.args.rows.now c.args.values.now n.values) d
-          (c.if-not-exchange_numbers.ensures.values refl))
-          (c.if-not-exchange_numbers.ensures.nonbasic_values refl) (c.if-not-exchange_numbers.ensures.total refl) c.is_upper.ensures e_is,
-      c.if-not-exchange_numbers.ensures.spare refl,
-      positive_from _ _ e_is h.coefficient,
+    let fs : SFits w64 x.size = search rules in
+    let fb : SFits w64 x.bound = search rules in
+    let fl : SFits w64 (number_at a.nonbasic_values.now a.entering) = search rules in
+    let fv : SFits w128 c.in_ok-value.value = search rules in
+    let d = to_z-of_z w64 a.denominator c.ranges.denominator in
+    let s = to_z-of_z w64 x.size fs in
+    let b = to_z-of_z w64 x.bound fb in
+    let left = to_z-of_z w64 (number_at a.nonbasic_values.now a.entering) fl in
+    let v = to_z w128 (of_z w128 c.in_ok-value.value) in
+    let same = to_z-of_z w128 c.in_ok-value.value fv in
+    let e = to_z w64 (of_z w64 x.size) in
+    let row = c.leave.new.leaving_row in
+    let taken = c.leave.new.rows in
+    let row_is = c.in_ok-value.ensures.row ∙ ap (λ z. get_or (expanded_rows (nat_abs z) a.program_rows.now a.positions.now a.rows.now) a.leaving []) d in
+    let value_is = same ∙ c.in_ok-value.ensures.value ∙ ap (λ z. number_at (expanded_values (nat_abs z) a.program_rows.now a.positions.now a.nonbasic_values.now a.values.now) a.leaving) d in
+    let p = subst (λ z. IsPivotOf a.bounds.now a.positions.now row v (nat_abs z) a.leaving a.entering x.column x.direction x.bound) d
+    (subst (λ v. IsPivotOf a.bounds.now a.positions.now row v (nat_abs (to_z w64 (of_z w64 a.denominator))) a.leaving a.entering x.column x.direction x.bound) (sym same) c.in_ok-value.ensures.there) in
+    let e_is = s ∙ c.in_ok-value.ensures.size in
+    let h = c.if-not-exchange_numbers.ensures.rows refl in
+    let ex = subst (λ (T : Type 0). T) (λ i. IsEliminated a.entering x.column (nat_abs (d i)) (nat_abs (sym s i)) row h.0 taken n.rows a.reduced_costs.now n.reduced_costs) h.1 in
+    let vs = subst (λ (T : Type 0). T) (λ i. AreSubstitutedValues a.entering x.column (d i) (sym s i) (left i) (quotient_numerator x.pivot (v -ℤ x.pivot *ℤ left i -ℤ d i *ℤ x.bound)) (length a.reduced_costs.now) taken a.values.now n.values)
+    (c.if-not-exchange_numbers.ensures.values refl) in (
+      subst (λ rows. IsPivoted a.program_rows.now a.weight a.reach a.leaving a.entering
+          (of_parts a.bounds.now a.positions.now a.at_upper.now a.nonbasic_values.now a.rows.now a.reduced_costs.now a.values.now a.denominator a.pivots)
+          (of_parts a.bounds.now (positions_exchanged a.leaving a.entering x.column a.positions.now) (set (set a.at_upper.now a.leaving c.is_upper.result) a.entering false)
+          (set (set a.nonbasic_values.now a.leaving (to_z w64 (of_z w64 x.bound))) a.entering (pos 0)) rows n.reduced_costs n.values e (a.pivots + 1))) (sym c.are_combinations_small.ensures.same)
+          (pivoted_from a.program_rows.now a.weight a.reach a.bounds.now a.positions.now a.at_upper.now a.nonbasic_values.now a.rows.now a.reduced_costs.now a.values.now a.denominator a.pivots a.leaving a.entering
+          x.column x.direction x.bound x.pivot v c.is_upper.result e row taken n.rows (set (set a.nonbasic_values.now a.leaving (to_z w64 (of_z w64 x.bound))) a.entering (pos 0)) n.reduced_costs n.values
+          c.requires.compact c.requires.positive c.requires.leaving_there c.requires.entering_there row_is value_is c.in_ok-value.ensures.rows p c.in_ok-value.ensures.pivot e_is (h.0, ex) vs
+          (ap (λ b. set (set a.nonbasic_values.now a.leaving b) a.entering (pos 0)) b) c.is_upper.ensures (c.if-not-is_near.ensures refl) (c.if-not-are_combinations_small.ensures.small refl)),
+      positive_from _ _ e_is p.coefficient,
     )

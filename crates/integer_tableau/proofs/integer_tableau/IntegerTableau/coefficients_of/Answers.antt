@@ -1,19 +1,105 @@
-use Rattle.std.proofs.Common.{arith, refl, ◌∙◌, rules, ap, nat_abs, w64}
+use Rattle.std.proofs.Common.{arith, refl, ◌≡◌, ◌∙◌, ◌-◌, ◌<◌, ◌≤◌, ◌^◌, [], length, rules, ap, sym, subst, nat_abs, drop, w64, get_or}
 use mir.Val.{SFits}
 use Rattle.std.proofs.lemmas.Int.{to_z-of_z}
-use Rattle.integer_tableau.proofs.Answering.{coefficients_are}
-use Rattle.integer_tableau.proofs.FromCode.{is_there}
+use Rattle.std.proofs.lemmas.List.{get_or_default, take_rest}
+use Rattle.integer_tableau.proofs.Answering.{column_are, combined_are, none_are}
+use Rattle.integer_tableau.proofs.Expanded.{light_rows}
+use Rattle.integer_tableau.proofs.FromCode.{is_there, statuses_as_many}
 use Rattle.integer_tableau.proofs.Lists.{if_ok}
+use Rattle.integer_tableau.specs.Combined.{combined_row}
+use Rattle.integer_tableau.specs.Numbers.{total_size}
+use Rattle.integer_tableau.specs.Positions.{coefficients}
+use Rattle.integer_tableau.specs.declared.position.Position.TheVariants.{InBasis}
 use Rattle.integer_tableau.proofs.integer_tableau.IntegerTableau.coefficients_of.Goals as goal
 
 pub index-requires : goal.index-requires
-index-requires c = omega (arith, is_there _ _ _ c.args.self.now c.self.inside.positions.items c.args.row c.self.invariant.0 c.self.view_is refl c.requires, c.self.inside.positions.ok)
+index-requires c =
+    omega (arith, is_there _ _ _ _ _ _ c.args.self.now c.self.invariant.0 c.self.view_is c.self.inside.positions.items c.args.row refl c.requires.row_there, c.self.inside.positions.ok)
 
-pub index-requires-2 : goal.index-requires-2
-index-requires-2 c = omega (arith, is_there _ _ _ c.args.self.now c.self.inside.positions.items c.args.row c.self.invariant.0 c.self.view_is refl c.requires, c.self.inside.rows.ok, c.self.invariant.0.rows)
+pub returns-in_default : goal.returns-in_default
+returns-in_default c =
+    let there = is_there _ _ _ _ _ _ c.args.self.now c.self.invariant.0 c.self.view_is c.self.inside.positions.items c.args.row refl c.requires.row_there in
+    c.new.ensures.items
+    ∙ none_are _ _ _ _ _ _ c.args.self.now c.self.invariant.0 c.self.view_is refl c.args.row there c.args.first c.in_default.field-0
+    (sym (get_or_default c.self.inside.positions.items c.args.row c.index.result.now InBasis there) ∙ sym c.index.ensures ∙ c.in_default.is)
 
-pub returns : goal.returns
-returns c =
-    let d : SFits w64 c.self.inside.denominator = search rules in
-    if_ok _ _ c.row_coefficients.result (λ v h. h ∙ coefficients_are _ _ _ c.args.self.now c.self.invariant.0 c.self.view_is c.args.row (is_there _ _ _ c.args.self.now c.self.inside.positions.items c.args.row c.self.invariant.0 c.self.view_is refl c.requires) _ _ _ _
-    c.index.ensures c.index-2.ensures (ap nat_abs (to_z-of_z w64 c.self.inside.denominator d)) c.deref.ensures.value) c.row_coefficients.ensures
+first_there : (c : goal.After-deref) → c.args.first ≤ length c.deref.result.now
+first_there c = omega (arith, c.requires.first_there, ap length c.deref.ensures.value, statuses_as_many _ _ _ _ _ _ c.args.self.now c.self.invariant.0 c.self.view_is)
+
+pub offset_bounds-deref-first : goal.offset_bounds-deref-first
+offset_bounds-deref-first c = let l = first_there c in search rules
+
+pub slice_bounds-coefficients-count : goal.slice_bounds-coefficients-count
+slice_bounds-coefficients-count c = first_there c
+
+pub slice_bounds-coefficients-start : goal.slice_bounds-coefficients-start
+slice_bounds-coefficients-start c = let l = first_there c in search rules
+
+pub index-requires-else-row-columns : goal.index-requires-else-row-columns
+index-requires-else-row-columns c =
+    omega (
+      arith,
+      is_there _ _ _ _ _ _ c.args.self.now c.self.invariant.0 c.self.view_is c.self.inside.positions.items c.args.row refl c.requires.row_there,
+      c.self.inside.fixed.rows.ok,
+      c.self.inside.rows.ok,
+      c.len-columns.ensures,
+      c.self.invariant.0.variables,
+      c.if-row-columns.false,
+    )
+
+-- the row of the linear program that is read
+module _ (c : goal.After-combined_coefficients-arg-1) where
+  place_there : c.args.row - c.len-columns.result < length c.self.inside.fixed.rows.items
+  place_there =
+      omega (
+        arith,
+        is_there _ _ _ _ _ _ c.args.self.now c.self.invariant.0 c.self.view_is c.self.inside.positions.items c.args.row refl c.requires.row_there,
+        c.self.inside.rows.ok,
+        c.len-columns.ensures,
+        c.self.invariant.0.variables,
+        c.if-row-columns.false,
+      )
+
+  row_is : c.index-else-row-columns.result.now ≡ get_or c.self.inside.fixed.rows.items (c.args.row - c.len-columns.result) []
+  row_is = c.index-else-row-columns.ensures ∙ get_or_default c.self.inside.fixed.rows.items (c.args.row - c.len-columns.result) c.index-else-row-columns.result.now [] place_there
+
+  row_full : length c.index-else-row-columns.result.now ≡ length c.self.inside.rows.items
+  row_full = ap length row_is ∙ c.self.invariant.0.full (c.args.row - c.len-columns.result) place_there
+
+pub combined_coefficients-requires-clause-rows_there : goal.combined_coefficients-requires-clause-rows_there
+combined_coefficients-requires-clause-rows_there c = omega (arith, row_full c, ap length c.deref-else-row-columns-2.ensures.value)
+
+pub combined_coefficients-requires-clause-positions_there : goal.combined_coefficients-requires-clause-positions_there
+combined_coefficients-requires-clause-positions_there c = omega (arith, row_full c, ap length c.deref-else-row-columns.ensures.value, c.self.invariant.0.variables)
+
+pub combined_coefficients-requires-clause-light : goal.combined_coefficients-requires-clause-light
+combined_coefficients-requires-clause-light c =
+    subst (λ a. total_size a < 2 ^ 62) (sym (row_is c)) (light_rows _ _ _ _ c.self.invariant.0 (c.args.row - c.len-columns.result) (place_there c))
+
+pub returns-then-row-columns : goal.returns-then-row-columns
+returns-then-row-columns c =
+    let n = c.self.inside in
+    let f : SFits w64 n.denominator = search rules in
+    let there = is_there _ _ _ _ _ _ c.args.self.now c.self.invariant.0 c.self.view_is n.positions.items c.args.row refl c.requires.row_there in
+    if_ok _ _ c.coefficients.result (λ v h. h
+    ∙ (λ i. coefficients (nat_abs (to_z-of_z w64 n.denominator f i)) (take_rest c.deref.result.now c.args.first i) c.index-then-row-columns.result.now)
+    ∙ ap (λ ss. coefficients (nat_abs n.denominator) (drop c.args.first ss) c.index-then-row-columns.result.now) c.deref.ensures.value
+    ∙ column_are _ _ _ _ _ _ c.args.self.now c.self.invariant.0 c.self.view_is refl c.args.row there c.args.first c.index-then-row-columns.result.now
+    (sym (get_or_default n.positions.items c.args.row c.index.result.now InBasis there) ∙ sym c.index.ensures ∙ c.in-InBasis.is)
+    (omega (arith, c.if-row-columns.true, c.len-columns.ensures, n.rows.ok))
+    (c.index-then-row-columns.ensures ∙ get_or_default n.rows.items c.args.row c.index-then-row-columns.result.now [] (omega (arith, c.if-row-columns.true, c.len-columns.ensures, n.rows.ok)))) c.coefficients.ensures
+
+pub returns-else-row-columns : goal.returns-else-row-columns
+returns-else-row-columns c =
+    let n = c.self.inside in
+    let f : SFits w64 n.denominator = search rules in
+    let there = is_there _ _ _ _ _ _ c.args.self.now c.self.invariant.0 c.self.view_is n.positions.items c.args.row refl c.requires.row_there in
+    let i = c.args.row - c.len-columns.result in
+    let place_there : i < length n.fixed.rows.items = omega (arith, there, n.rows.ok, c.len-columns.ensures, c.self.invariant.0.variables, c.if-row-columns.false) in
+    if_ok _ _ c.combined_coefficients.result (λ v h. h
+    ∙ (λ i. coefficients (nat_abs (to_z-of_z w64 n.denominator f i)) (drop c.args.first (c.deref-else-row-columns.ensures.value i))
+    (combined_row (nat_abs (to_z-of_z w64 n.denominator f i)) (c.deref-else-row-columns.ensures.value i) (c.deref-else-row-columns-2.ensures.value i) c.index-else-row-columns.result.now))
+    ∙ combined_are _ _ _ _ _ _ c.args.self.now c.self.invariant.0 c.self.view_is refl c.args.row there c.args.first c.index-else-row-columns.result.now i
+    (sym (get_or_default n.positions.items c.args.row c.index.result.now InBasis there) ∙ sym c.index.ensures ∙ c.in-InBasis.is)
+    (omega (arith, n.rows.ok, c.len-columns.ensures, c.if-row-columns.false)) place_there
+    (c.index-else-row-columns.ensures ∙ get_or_default n.fixed.rows.items i c.index-else-row-columns.result.now [] place_there)) c.combined_coefficients.ensures

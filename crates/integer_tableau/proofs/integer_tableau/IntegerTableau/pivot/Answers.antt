@@ -1,18 +1,16 @@
-use Rattle.std.proofs.Common.{◌+◌, ◌≤◌, length, arith, ap, sym, subst, ◌∙◌, pos, ◌<ℤ◌, w64, to_z, of_z}
+use Rattle.std.proofs.Common.{◌+◌, rules, sym, subst, ◌∙◌, pos, ◌<ℤ◌, w64, to_z, of_z}
 use mir.Val.{SFits}
-use Rattle.std.proofs.Common.{rules}
 use Rattle.std.proofs.lemmas.Int.{to_z-of_z}
 use Rattle.integer_tableau.proofs.FromCode.{carried, is_there}
 use Rattle.integer_tableau.proofs.Sizes.{written}
 use Rattle.integer_tableau.specs.IntegerTableau.{of_parts}
-use Rattle.tableau.specs.Tableau.{Tableau}
 use Rattle.integer_tableau.proofs.integer_tableau.IntegerTableau.pivot.Goals as goal
 
 pub pivot_parts-requires-clause-leaving_there : goal.pivot_parts-requires-clause-leaving_there
-pivot_parts-requires-clause-leaving_there c = is_there _ _ _ c.args.self c.deref_mut.result.now c.args.leaving c.self.invariant.0 c.self.view_is c.deref_mut.ensures.value c.requires.leaving_there
+pivot_parts-requires-clause-leaving_there c = is_there _ _ _ _ _ _ c.args.self c.self.invariant.0 c.self.view_is c.deref_mut.result.now c.args.leaving c.deref_mut.ensures.value c.requires.leaving_there
 
 pub pivot_parts-requires-clause-entering_there : goal.pivot_parts-requires-clause-entering_there
-pivot_parts-requires-clause-entering_there c = is_there _ _ _ c.args.self c.deref_mut.result.now c.args.entering c.self.invariant.0 c.self.view_is c.deref_mut.ensures.value c.requires.entering_there
+pivot_parts-requires-clause-entering_there c = is_there _ _ _ _ _ _ c.args.self c.self.invariant.0 c.self.view_is c.deref_mut.result.now c.args.entering c.deref_mut.ensures.value c.requires.entering_there
 
 pub invariant_of-result : goal.invariant_of-result
 invariant_of-result c =
@@ -22,12 +20,13 @@ invariant_of-result c =
     let d = to_z-of_z w64 c.self.inside.denominator fd in
     let n = c.self.inside in
     let m = c.pivot_parts.new in
-    let t = (carried _ _ c.args.leaving c.args.entering
+    let t = (carried n.fixed.numbers.items c.deref-2.result.now n.fixed.rows.items n.fixed.weight n.fixed.reach c.args.leaving c.args.entering
     (of_parts c.deref.result.now c.deref_mut.result.now c.deref_mut-2.result.now c.deref_mut-3.result.now c.deref_mut-4.result.now n.reduced_costs c.deref_mut-5.result.now (to_z w64 (of_z w64 n.denominator)) n.pivots)
     (of_parts n.fixed.bounds.items n.positions.items n.at_upper.items n.nonbasic_values.items n.rows.items n.reduced_costs n.values.items n.denominator n.pivots)
     (of_parts c.deref.result.now m.positions m.at_upper m.nonbasic_values m.rows m.reduced_costs m.values c.in_ok-denominator.denominator (n.pivots + 1))
     _
     c.args.self
+    c.deref-2.ensures.value
     (λ i. of_parts (c.deref.ensures.value i) (c.deref_mut.ensures.value i) (c.deref_mut-2.ensures.value i) (c.deref_mut-3.ensures.value i) (c.deref_mut-4.ensures.value i) n.reduced_costs (c.deref_mut-5.ensures.value i) (d i) n.pivots)
     (λ i. of_parts (c.deref.ensures.value i)
     (sym (written m.positions n.positions.items n.positions.len (c.pivot_parts.auto.positions ∙ c.deref_mut.ensures.len)) i)
@@ -38,12 +37,7 @@ invariant_of-result c =
     (sym (written m.values n.values.items n.values.len (c.pivot_parts.auto.values ∙ c.deref_mut-5.ensures.len)) i)
     (sym e i) (n.pivots + 1))
     c.self.view_is c.in_ok-denominator.ensures.0).1 in
-    let l = written m.positions n.positions.items n.positions.len (c.pivot_parts.auto.positions ∙ c.deref_mut.ensures.len) in (
-      t,
-      c.in_ok-denominator.ensures.1,
-      subst (λ z. pos 0 <ℤ z) (sym e) c.in_ok-denominator.ensures.2,
-      subst (λ xs. n.fixed.columns ≤ length xs) (sym l) (omega (arith, c.self.invariant.3, c.pivot_parts.auto.positions, ap length c.deref_mut.ensures.value)),
-    )
+    (t, subst (λ z. pos 0 <ℤ z) (sym e) c.in_ok-denominator.ensures.1)
 
 pub returns-clause-value : goal.returns-clause-value
 returns-clause-value c =
@@ -53,12 +47,13 @@ returns-clause-value c =
     let d = to_z-of_z w64 c.self.inside.denominator fd in
     let n = c.self.inside in
     let m = c.pivot_parts.new in
-    (carried _ _ c.args.leaving c.args.entering
+    (carried n.fixed.numbers.items c.deref-2.result.now n.fixed.rows.items n.fixed.weight n.fixed.reach c.args.leaving c.args.entering
     (of_parts c.deref.result.now c.deref_mut.result.now c.deref_mut-2.result.now c.deref_mut-3.result.now c.deref_mut-4.result.now n.reduced_costs c.deref_mut-5.result.now (to_z w64 (of_z w64 n.denominator)) n.pivots)
     (of_parts n.fixed.bounds.items n.positions.items n.at_upper.items n.nonbasic_values.items n.rows.items n.reduced_costs n.values.items n.denominator n.pivots)
     (of_parts c.deref.result.now m.positions m.at_upper m.nonbasic_values m.rows m.reduced_costs m.values c.in_ok-denominator.denominator (n.pivots + 1))
     _
     c.args.self
+    c.deref-2.ensures.value
     (λ i. of_parts (c.deref.ensures.value i) (c.deref_mut.ensures.value i) (c.deref_mut-2.ensures.value i) (c.deref_mut-3.ensures.value i) (c.deref_mut-4.ensures.value i) n.reduced_costs (c.deref_mut-5.ensures.value i) (d i) n.pivots)
     (λ i. of_parts (c.deref.ensures.value i)
     (sym (written m.positions n.positions.items n.positions.len (c.pivot_parts.auto.positions ∙ c.deref_mut.ensures.len)) i)
@@ -69,6 +64,3 @@ returns-clause-value c =
     (sym (written m.values n.values.items n.values.len (c.pivot_parts.auto.values ∙ c.deref_mut-5.ensures.len)) i)
     (sym e i) (n.pivots + 1))
     c.self.view_is c.in_ok-denominator.ensures.0).0
-
-pub returns-clause-counted : goal.returns-clause-counted
-returns-clause-counted c = ap (λ (t : Tableau). t.pivots + 1) c.self.view_is

@@ -1,0 +1,268 @@
+-- Combinations of multipliers over one denominator: where their sums in whole numbers aren't cramped, those of the fractions aren't either.
+use Rattle.std.specs.Prelude.{◌≡◌, ℕ, zero, suc, ◌+◌, ◌*◌, ◌/◌, ◌^◌, ◌<◌, ◌≤◌, ℤ, pos, ◌+ℤ◌, ◌*ℤ◌, nat_abs, eqb, Bool, true, false, if◌then◌else◌, List, [], ◌∷◌, ◌++◌, map, slice_index_or, All, IfSome, Option, Some, option_map, refl}
+use Rattle.std.specs.Option.{option_and_then}
+use Rattle.std.proofs.Common.{sym, ap, ◌∙◌, subst, arith, get_or, take, drop, length}
+use Rattle.std.proofs.lemmas.Int.{ints, unsigned_abs-mul}
+use Rattle.std.proofs.lemmas.List.{take_more, length-map}
+use Rattle.std.proofs.Math.Seq.{take-append_seam}
+use Rattle.std.proofs.lemmas.List.Elements.{All-nil, All-cons, All-head, All-tail, All-weaker}
+use Rattle.std.proofs.Math.Nat.{mul-one, mul-le-mul, div-le_self, mul-div_cancel', mul-pos, div-mul_cancel, le_of_dvd}
+use Prim.Native.Nat.{◌∣◌}
+use borrow.Author.Tests.{lt-ltb}
+use Rattle.fraction.specs.Gcd.{gcd}
+use Rattle.fraction.specs.Rational.{ℚ, whole, frac, inv_ℚ, ◌+ℚ◌, ◌*ℚ◌}
+use Rattle.fraction.specs.Checked.{add_fits, add_checked, mul_checked}
+use Rattle.fraction.specs.Lemmas.Gcd.{gcd_is, lcm_dvd}
+use Rattle.fraction.specs.Lemmas.Lowest.{abs-div}
+use Rattle.fraction.specs.Lemmas.Integers.{is_diff, diff-pos, diff-mul, diff-add, diff-same, cancel_ℤ, add-mul_ℤ}
+use Rattle.fraction.specs.Lemmas.Rational.{lit_one, frac_is, frac_den, frac_same, frac-+ℚ, frac-*ℚ, *ℚ_assoc, *ℚ_comm, one-*ℚ, mul-inv_ℚ}
+use Rattle.fraction.specs.Lemmas.Bounds.{add_is, mul_is, mul_fits_small, is_small_from, was_some, value_from_add, value_from_mul, whole_parts}
+use Rattle.fraction.specs.Lemmas.Checked.{sum_has_fraction, product_has_fraction}
+use Rattle.fraction.specs.Lemmas.Whole.{IsAnInteger, integer_from_whole, integer-+, whole-+, whole-*}
+use Rattle.fraction.specs.Whole.{IsWhole}
+use Rattle.fraction.specs.Fits.{FitsFraction}
+use Rattle.problem.specs.declared.row.Row.{Row}
+use Rattle.problem.specs.Linear.{coefficient, at_column}
+use Rattle.problem.specs.Problem.{Problem}
+use Rattle.cert_rows.specs.Lines.{CertLine, row_at}
+use Rattle.derivation_book.specs.declared.cut.Cut.{Cut}
+use Rattle.derivation_book.specs.declared.place.Place.{Place}
+use Rattle.derivation_book.specs.declared.place.Place.TheVariants.{Lower, Upper}
+use Rattle.derivation_book.specs.Places.{row_in, no_span}
+use Rattle.derivation_book.specs.Sums.{with_product, sum_from, coefficient_at, side_at, combined_at, combined_side, combined_columns, Sums, sums_of, combined}
+use Rattle.derivation_book.specs.Lemmas.Steps.{was_mapped}
+use Rattle.derivation_book.specs.OverOne.{IsTimes, IsScaled, AreScaled, IsWholeRow, NamesWholeRow, over, sums_over}
+
+-- ---- sums and products over one denominator
+regrouped : (n : ℤ) (b q k : ℕ) → ((n *ℤ pos q) *ℤ pos k) *ℤ pos b ≡ n *ℤ pos (b * q * k)
+regrouped n b q k = rw (is_diff n) (simp (diff-pos, diff-mul) (diff-same _ _ _ _ (omega arith)))
+
+cancelled : (n a : ℤ) (b q k d : ℕ) → 0 < b → b * q * k ≡ d → n *ℤ pos d ≡ a *ℤ pos b → (n *ℤ pos q) *ℤ pos k ≡ a
+cancelled n a b q k d o e f = cancel_ℤ _ a b o (regrouped n b q k ∙ ap (λ m. n *ℤ pos m) e ∙ f)
+
+size_below : (s z : ℤ) (k : ℕ) → 0 < k → s *ℤ pos k ≡ z → nat_abs s ≤ nat_abs z
+size_below s z zero o e = omega arith
+size_below s z (suc k) o e = omega (arith, unsigned_abs-mul s (pos (suc k)), ap nat_abs e)
+
+least_common : (b d g q p : ℕ) → q * g ≡ b → p * g ≡ d → d * q ≡ b * p
+least_common b d g q p e f = rw (← e, ← f) (omega arith)
+
+factor_positive : (m k n : ℕ) → 0 < n → m * k ≡ n → 0 < k
+factor_positive m zero n o e = omega arith
+factor_positive m (suc k) n o e = omega arith
+
+sum_fits : (x y : ℚ) (a b : ℤ) (d : ℕ) → 0 < d → d < 2 ^ 127 → nat_abs a < 2 ^ 127 → nat_abs b < 2 ^ 127 → nat_abs (a +ℤ b) < 2 ^ 127
+    → x.num *ℤ pos d ≡ a *ℤ pos x.den → y.num *ℤ pos d ≡ b *ℤ pos y.den → x.den ∣ d → y.den ∣ d → add_fits x y ≡ true
+unfolding add_fits
+sum_fits x y a b d o h k l m e f u v =
+    let i = gcd_is x.den y.den in
+    let c = lcm_dvd x.den y.den d y.lowest.0 u v in
+    let n = d / (x.den * (y.den / gcd x.den y.den)) in
+    let en : x.den * (y.den / gcd x.den y.den) * n ≡ d = mul-div_cancel' _ c in
+    let on : 0 < n = factor_positive _ n d o en in
+    let swapped : y.den * (x.den / gcd x.den y.den) ≡ x.den * (y.den / gcd x.den y.den) =
+    least_common x.den y.den (gcd x.den y.den) _ _ (div-mul_cancel _ i.0) (div-mul_cancel _ i.1) in
+    let p : (x.num *ℤ pos (y.den / gcd x.den y.den)) *ℤ pos n ≡ a = cancelled x.num a x.den (y.den / gcd x.den y.den) n d x.lowest.0 en e in
+    let q : (y.num *ℤ pos (x.den / gcd x.den y.den)) *ℤ pos n ≡ b = cancelled y.num b y.den (x.den / gcd x.den y.den) n d y.lowest.0 (ap (λ m. m * n) swapped ∙ en) f in
+    let s : (x.num *ℤ pos (y.den / gcd x.den y.den) +ℤ y.num *ℤ pos (x.den / gcd x.den y.den)) *ℤ pos n ≡ a +ℤ b =
+    add-mul_ℤ (x.num *ℤ pos (y.den / gcd x.den y.den)) (y.num *ℤ pos (x.den / gcd x.den y.den)) (pos n) ∙ (λ i. p i +ℤ q i) in
+    rw (
+      is_small_from _ (let w : nat_abs (x.num *ℤ pos (y.den / gcd x.den y.den)) < 2 ^ 127 = omega (arith, size_below _ a n on p, k) in w),
+      is_small_from _ (let w : nat_abs (y.num *ℤ pos (x.den / gcd x.den y.den)) < 2 ^ 127 = omega (arith, size_below _ b n on q, l) in w),
+      is_small_from _ (let w : nat_abs (x.num *ℤ pos (y.den / gcd x.den y.den) +ℤ y.num *ℤ pos (x.den / gcd x.den y.den)) < 2 ^ 127 = omega (arith, size_below _ (a +ℤ b) n on s, m) in w),
+    )
+    (lt-ltb _ _ (let w : x.den * (y.den / gcd x.den y.den) < 2 ^ 127 = omega (arith, le_of_dvd o c, h) in w))
+
+summed : (a b : ℤ) (d : ℕ) → (a *ℤ pos d +ℤ b *ℤ pos d) *ℤ pos d ≡ (a +ℤ b) *ℤ pos (d * d)
+summed a b d = rw (is_diff a, is_diff b) (simp (diff-pos, diff-mul, diff-add) (diff-same _ _ _ _ (omega arith)))
+
+pub add_over : (a b : ℤ) (d : ℕ) → 0 < d → d < 2 ^ 127 → nat_abs a < 2 ^ 127 → nat_abs b < 2 ^ 127 → nat_abs (a +ℤ b) < 2 ^ 127
+    → add_checked (frac a d) (frac b d) ≡ Some (frac (a +ℤ b) d)
+add_over a b d o h k l m =
+    add_is (frac a d) (frac b d) (sum_fits (frac a d) (frac b d) a b d o h k l m (frac_is a d o) (frac_is b d o) (frac_den a d o) (frac_den b d o))
+    ∙ ap Some (frac-+ℚ a b d d o o ∙ frac_same _ _ _ _ (mul-pos o o) o (summed a b d))
+
+num_le : (z : ℤ) (d : ℕ) → 0 < d → nat_abs (frac z d).num ≤ nat_abs z
+unfolding frac
+num_le z zero o = absurd (omega arith)
+num_le z (suc n) o = rw (abs-div z _) (div-le_self (nat_abs z) _)
+
+small_product : (m n a b : ℕ) → m ≤ a → n ≤ b → a * b < 2 ^ 127 → m * n < 2 ^ 127
+small_product m n a b h k l = omega (arith, mul-le-mul h k)
+
+pub mul_over : (z x : ℤ) (d : ℕ) → 0 < d → d < 2 ^ 127 → nat_abs (z *ℤ x) < 2 ^ 127 → mul_checked (frac z d) (whole x) ≡ Some (frac (z *ℤ x) d)
+mul_over z x d o h k =
+    mul_is _ _ (mul_fits_small (frac z d) (whole x)
+    (small_product _ _ _ _ (num_le z d o) (num_le x 1 lit_one) (let w : nat_abs z * nat_abs x < 2 ^ 127 = omega (arith, k, unsigned_abs-mul z x) in w))
+    (small_product _ _ d 1 (le_of_dvd o (frac_den z d o)) (le_of_dvd lit_one (frac_den x 1 lit_one)) (omega (arith, h))))
+    ∙ ap Some (frac-*ℚ z x d 1 o lit_one ∙ ap (frac (z *ℤ x)) (mul-one d))
+
+-- ---- whole coefficients
+abbrev IsWholeTerm : ℕ × ℚ → Type 0
+IsWholeTerm t = IsWhole t.1
+
+pub whole_coefficients : (ts : List (ℕ × ℚ)) → All IsWholeTerm ts → (j : ℕ) → IsAnInteger (coefficient ts j)
+whole_coefficients [] h j = (pos 0, refl)
+whole_coefficients (t ∷ ts) h j = integer-+ (at_column t.0 t.1 j) (coefficient ts j) (at (eqb t.0 j)) (whole_coefficients ts (All-tail IsWholeTerm t ts h) j)
+  where
+    at : (b : Bool) → IsAnInteger (if b then t.1 else whole (pos 0))
+    at true = integer_from_whole t.1 (All-head IsWholeTerm t ts h)
+    at false = (pos 0, refl)
+
+-- ---- one product more
+-- the sum of whole numbers t is c, and so the sum over d is c over d
+pub record IsOver (d : ℕ) (t : ℚ) (o : Option ℚ) : Type 0 where
+  pub sum : ℤ
+  pub is : t ≡ whole sum
+  pub small : nat_abs sum < 2 ^ 127
+  pub over : o ≡ Some (frac sum d)
+
+whole_size : (z : ℤ) (p : ℚ) → p ≡ whole z → nat_abs p.num < 2 ^ 127 → nat_abs z < 2 ^ 127
+whole_size z p e h = subst (λ n. nat_abs n < 2 ^ 127) (ap (λ (q : ℚ). q.num) e ∙ (whole_parts z).0) h
+
+plain_sum : (a b : ℤ) → a *ℤ pos 1 +ℤ b *ℤ pos 1 ≡ a +ℤ b
+plain_sum a b = omega (arith, ints)
+
+pub product_over : (a z x : ℤ) (d : ℕ) (t : ℚ) → 0 < d → d < 2 ^ 127 → nat_abs a < 2 ^ 127 → with_product (whole a) (whole z) (whole x) ≡ Some t
+    → IsOver d t (with_product (frac a d) (frac z d) (whole x))
+product_over a z x d t o h k e =
+    let p = was_some (λ v. add_checked (whole a) v) (mul_checked (whole z) (whole x)) t e in
+    let ep : p.0 ≡ whole (z *ℤ x) = sym (value_from_mul (whole z) (whole x) p.0 p.1) ∙ whole-* z x in
+    let et : t ≡ whole (a +ℤ z *ℤ x) = sym (value_from_add (whole a) p.0 t p.2) ∙ ap (λ v. whole a +ℚ v) ep ∙ whole-+ a (z *ℤ x) ∙ ap whole (plain_sum a (z *ℤ x)) in
+    let sp = whole_size (z *ℤ x) p.0 ep (product_has_fraction (whole z) (whole x) p.0 p.1).0 in
+    let st = whole_size (a +ℤ z *ℤ x) t et (sum_has_fraction (whole a) p.0 t p.2).0 in
+    record {
+      sum = a +ℤ z *ℤ x;
+      is = et;
+      small = st;
+      over = ap (option_and_then (λ v. add_checked (frac a d) v)) (mul_over z x d o h sp) ∙ add_over a (z *ℤ x) d o h k sp st;
+    }
+
+-- ---- sums
+abbrev IsWholeAt : (ℕ → ℚ) → ℕ × ℚ → Type 0
+IsWholeAt f m = IsAnInteger (f m.0)
+
+pub sum_over : (d : ℕ) (f : ℕ → ℚ) (ms ws : List (ℕ × ℚ)) (a : ℤ) (t : ℚ) → 0 < d → d < 2 ^ 127 → All (IsWholeAt f) ms → AreScaled d ms ws → nat_abs a < 2 ^ 127 → sum_from f (whole a) ws ≡ Some t
+    → IsOver d t (sum_from f (frac a d) ms)
+sum_over d f [] [] a t o h w s k e = record { sum = a; is = (let g : whole a ≡ t = cc in sym g); small = k; over = refl }
+sum_over d f [] (v ∷ vs) a t o h w s k e = absurd s
+sum_over d f (m ∷ ms) [] a t o h w s k e = absurd s
+sum_over d f (m ∷ ms) (v ∷ vs) a t o h w s k e =
+    let i = All-head (IsWholeAt f) m ms w in
+    let p = was_some (λ u. sum_from f u vs) (with_product (whole a) v.1 (f v.0)) t e in
+    let q : with_product (whole a) (whole s.0.1.0) (whole i.0) ≡ Some p.0 =
+    (λ j. with_product (whole a) (sym s.0.1.1 j) (sym (ap f s.0.0 ∙ i.1) j)) ∙ p.1 in
+    let r = product_over a s.0.1.0 i.0 d p.0 o h k q in
+    let n = sum_over d f ms vs r.sum t o h (All-tail (IsWholeAt f) m ms w) s.1 r.small (ap (λ u. sum_from f u vs) (sym r.is) ∙ p.2) in
+    record {
+      sum = n.sum;
+      is = n.is;
+      small = n.small;
+      over = ap (option_and_then (λ u. sum_from f u ms)) ((λ j. with_product (frac a d) (s.0.1.2 j) (i.1 j)) ∙ r.over) ∙ n.over;
+    }
+
+-- ---- combinations
+over_is : (d : ℕ) (t : ℚ) (c : ℤ) → t ≡ whole c → frac c d ≡ over d t
+over_is d t c e = ap (λ z. frac z d) (sym (ap (λ (q : ℚ). q.num) e ∙ (whole_parts c).0))
+
+zero_over : (d : ℕ) → 0 < d → whole (pos 0) ≡ frac (pos 0) d
+zero_over d o = frac_same (pos 0) (pos 0) 1 d lit_one o (omega (arith, ints))
+
+pub columns_over : (ls : List CertLine) (d : ℕ) (ms ws : List (ℕ × ℚ)) (j n : ℕ) (cs : List ℚ) → 0 < d → d < 2 ^ 127 → All (NamesWholeRow ls) ms → AreScaled d ms ws
+    → combined_columns ls ws j n ≡ Some cs → combined_columns ls ms j n ≡ Some (map (over d) cs)
+columns_over ls d ms ws j zero cs o h w s e = let f : [] ≡ cs = cc in ap (λ v. Some (map (over d) v)) f
+columns_over ls d ms ws j (suc n) cs o h w s e =
+    let a = was_some (λ c. option_map (λ cs. c ∷ cs) (combined_columns ls ws (j + 1) n)) (combined_at ls ws j) cs e in
+    let b = was_mapped (λ vs. a.0 ∷ vs) (combined_columns ls ws (j + 1) n) cs a.2 in
+    let r = sum_over d (coefficient_at ls j) ms ws (pos 0) a.0 o h (All-weaker (NamesWholeRow ls) (IsWholeAt (coefficient_at ls j)) (λ m k. whole_coefficients (row_at ls m.0).terms k.0 j) ms w) s (omega arith) a.1 in
+    let first : combined_at ls ms j ≡ Some (over d a.0) =
+    ap (λ u. sum_from (coefficient_at ls j) u ms) (zero_over d o) ∙ r.over ∙ ap Some (over_is d a.0 r.sum r.is) in
+    let rest = columns_over ls d ms ws (j + 1) n b.0 o h w s b.1 in
+    (λ i. option_and_then (λ c. option_map (λ cs. c ∷ cs) (rest i)) (first i)) ∙ ap (λ v. Some (map (over d) v)) b.2
+
+pub combined_over : (ls : List CertLine) (d : ℕ) (ms ws : List (ℕ × ℚ)) (n : ℕ) (s : Sums) → 0 < d → d < 2 ^ 127 → All (NamesWholeRow ls) ms → AreScaled d ms ws
+    → combined ls ws n ≡ Some s → combined ls ms n ≡ Some (sums_over d s)
+combined_over ls d ms ws n s o h w k e =
+    let a = was_some (λ cs. option_map (sums_of cs) (combined_side ls ws)) (combined_columns ls ws 0 n) s e in
+    let b = was_mapped (sums_of a.0) (combined_side ls ws) s a.2 in
+    let r = sum_over d (side_at ls) ms ws (pos 0) b.0 o h (All-weaker (NamesWholeRow ls) (IsWholeAt (side_at ls)) (λ m k. integer_from_whole (row_at ls m.0).rhs k.1) ms w) k (omega arith) b.1 in
+    let side : combined_side ls ms ≡ Some (over d b.0) =
+    ap (λ u. sum_from (side_at ls) u ms) (zero_over d o) ∙ r.over ∙ ap Some (over_is d b.0 r.sum r.is) in
+    (λ i. option_and_then (λ cs. option_map (sums_of cs) (side i)) (columns_over ls d ms ws 0 n a.0 o h w k a.1 i)) ∙ ap (λ v. Some (sums_over d v)) b.2
+
+-- ---- a multiplier times the denominator
+alone : (x y : ℚ) → 0 < nat_abs y.num → x ≡ (x *ℚ y) *ℚ inv_ℚ y
+alone x y o = sym (*ℚ_assoc x y (inv_ℚ y) ∙ ap (λ v. x *ℚ v) (mul-inv_ℚ y o) ∙ *ℚ_comm x (whole (pos 1)) ∙ one-*ℚ x)
+
+same_times : (x z y : ℚ) → 0 < nat_abs y.num → x *ℚ y ≡ z *ℚ y → x ≡ z
+same_times x z y o e = alone x y o ∙ ap (λ v. v *ℚ inv_ℚ y) e ∙ sym (alone z y o)
+
+times_one : (z : ℤ) (d : ℕ) → (z *ℤ pos d) *ℤ pos 1 ≡ z *ℤ pos (d * 1)
+times_one z d = rw (is_diff z) (simp (diff-pos, diff-mul) (diff-same _ _ _ _ (omega arith)))
+
+over_times : (z : ℤ) (d : ℕ) → 0 < d → frac z d *ℚ whole (pos d) ≡ whole z
+over_times z d o = frac-*ℚ z (pos d) d 1 o lit_one ∙ frac_same (z *ℤ pos d) z (d * 1) 1 (omega (arith, o)) lit_one (times_one z d)
+
+pub times_is : (d : ℕ) (m w : ℚ) → 0 < d → mul_checked m (whole (pos d)) ≡ Some w → w.den ≡ 1 → IsTimes d m w
+times_is d m w o e h =
+    let i = integer_from_whole w h in
+    let n : 0 < nat_abs (whole (pos d)).num = subst (λ z. 0 < nat_abs z) (sym (whole_parts (pos d)).0) o in
+    (i.0, i.1, same_times m (frac i.0 d) (whole (pos d)) n (value_from_mul m (whole (pos d)) w e ∙ i.1 ∙ sym (over_times i.0 d o)))
+
+pub one_scaled : (d : ℕ) (ms ws : List (ℕ × ℚ)) (m w : ℕ × ℚ) → AreScaled d ms ws → IsScaled d m w → AreScaled d (ms ++ m ∷ []) (ws ++ w ∷ [])
+one_scaled d [] [] m w h k = (k, tt)
+one_scaled d [] (v ∷ vs) m w h k = absurd h
+one_scaled d (n ∷ ns) [] m w h k = absurd h
+one_scaled d (n ∷ ns) (v ∷ vs) m w h k = (h.0, one_scaled d ns vs m w h.1 k)
+
+abbrev IsBelow : ℕ → ℕ × ℚ → Type 0
+IsBelow n m = m.0 < n
+
+pub scaled_below : (d n : ℕ) (ms ws : List (ℕ × ℚ)) → AreScaled d ms ws → All (IsBelow n) ms → All (IsBelow n) ws
+scaled_below d n [] [] h k = All-nil (IsBelow n)
+scaled_below d n [] (v ∷ vs) h k = absurd h
+scaled_below d n (m ∷ ms) [] h k = absurd h
+scaled_below d n (m ∷ ms) (v ∷ vs) h k =
+    All-cons (IsBelow n) v vs (subst (λ i. i < n) (sym h.0.0) (All-head (IsBelow n) m ms k)) (scaled_below d n ms vs h.1 (All-tail (IsBelow n) m ms k))
+
+pub next_scaled : (d : ℕ) (ms ws more : List (ℕ × ℚ)) (i : ℕ) (m p : ℕ × ℚ) (w : ℚ) → i < length ms → m ≡ get_or ms i m → p ≡ m → IsTimes d p.1 w → more ≡ ws ++ (p.0, w) ∷ []
+    → AreScaled d (take i ms) ws → AreScaled d (take (i + 1) ms) more
+next_scaled d ms ws more i m p w l e f h g k =
+    subst (AreScaled d (take (i + 1) ms)) (sym g)
+    (subst (λ (us : List (ℕ × ℚ)). AreScaled d us (ws ++ (p.0, w) ∷ [])) (sym (take_more ms i m l ∙ ap (λ (u : ℕ × ℚ). take i ms ++ u ∷ []) (sym (f ∙ e))))
+    (one_scaled d (take i ms) ws p (p.0, w) k (refl, h)))
+
+-- ---- bound rows
+one_is_whole : IsWhole (whole (pos 1))
+one_is_whole = (whole_parts (pos 1)).1
+
+pub lower_is_whole : (p : Problem) (cs : List Cut) (s : Place) (j : ℕ) (r : Row) → s ≡ Lower j → row_in p cs s ≡ r → IsWholeRow r
+lower_is_whole p cs s j r e f =
+    subst IsWholeRow (ap (row_in p cs) (sym e) ∙ f)
+    (All-cons IsWholeTerm (j, whole (pos 1)) [] one_is_whole (All-nil IsWholeTerm), (whole_parts (slice_index_or p.spans j no_span).lo).1)
+
+pub upper_is_whole : (p : Problem) (cs : List Cut) (s : Place) (j : ℕ) (r : Row) → s ≡ Upper j → row_in p cs s ≡ r → IsWholeRow r
+upper_is_whole p cs s j r e f =
+    subst IsWholeRow (ap (row_in p cs) (sym e) ∙ f)
+    (All-cons IsWholeTerm (j, whole (pos 1)) [] one_is_whole (All-nil IsWholeTerm), (whole_parts (slice_index_or p.spans j no_span).hi).1)
+
+-- ---- the results
+over_fits : (d : ℕ) (c : ℚ) → 0 < d → d < 2 ^ 127 → FitsFraction c → FitsFraction (over d c)
+over_fits d c o h k = (omega (arith, num_le c.num d o, k.0), omega (arith, le_of_dvd o (frac_den c.num d o), h))
+
+pub all_over_fit : (d : ℕ) (cs : List ℚ) → 0 < d → d < 2 ^ 127 → All FitsFraction cs → All FitsFraction (map (over d) cs)
+all_over_fit d [] o h k = All-nil FitsFraction
+all_over_fit d (c ∷ cs) o h k =
+    All-cons FitsFraction (over d c) (map (over d) cs) (over_fits d c o h (All-head FitsFraction c cs k)) (all_over_fit d cs o h (All-tail FitsFraction c cs k))
+
+pub sum_over_fits : (d : ℕ) (c v : ℚ) → 0 < d → d < 2 ^ 127 → FitsFraction c → v ≡ over d c → FitsFraction v
+sum_over_fits d c v o h k e = subst FitsFraction (sym e) (over_fits d c o h k)
+
+-- a list that was written over another one of its length
+pub written : (n d : ℕ) (items now more : List ℚ) → more ≡ map (over d) now → now ≡ items → length now ≡ n → take n (more ++ drop (length more) items) ≡ map (over d) items
+written n d items now more e f l =
+    let k : length more ≡ n = ap length e ∙ length-map now (over d) ∙ l in
+    ap (λ m. take m (more ++ drop (length more) items)) (sym k) ∙ take-append_seam more (drop (length more) items) ∙ e ∙ ap (map (over d)) f
+
+pub some_of : {A : Type 0} (o : Option A) (v : A) (P : A → Type 0) → IfSome o P → o ≡ Some v → P v
+some_of {A} o v P h e = subst (λ o. IfSome o P) e h

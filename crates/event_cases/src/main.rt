@@ -1,0 +1,14 @@
+//! Calls on events, incumbents and cuts that no whole run shows. The gate compares what it prints with `stdout`.
+#![tactic(auto)]
+
+mod cuts;
+mod events;
+mod incumbents;
+
+use anyhow::Result;
+
+fn main(rt: HostRuntime) -> Result<()> {
+    events::show(&rt)?;
+    incumbents::show(&rt)?;
+    cuts::show(&rt)
+}

@@ -1,0 +1,5 @@
+mod Worked
+mod Reference
+mod Rising
+mod Steps
+mod Separating

@@ -1,0 +1,3 @@
+pub mod Multipliers
+pub mod Separation
+pub mod Laws

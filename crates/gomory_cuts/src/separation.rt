@@ -1,0 +1,192 @@
+//! The cuts that separate a point.
+
+ghost use Rattle.std.specs.Prelude.{◌≡◌, ◌<◌, ◌≤◌, ◌^◌, ◌++◌, ◌∷◌, ◌&&◌, nat_eq, IfOk, OnOk, List, Option, length, take};
+ghost use Rattle.std.specs.Ordering.{int_eq};
+ghost use Rattle.problem.specs.Linear.{Multipliers};
+ghost use Rattle.gomory_cuts.specs.Separation.{cut_at, is_fractional, cuts_at, is_same, is_found, with_cuts, separation};
+
+use crate::gomory::gomory_multipliers;
+use crate::sign::Sign;
+use crate::violation::has_violated_row;
+use derivation_book::Book;
+use dual_simplex::FinalTableau;
+use fraction::Frac;
+use node_events::{Mult, RationalPoint};
+use problem::{Problem, Term};
+use std::alloc::{AllocError, Global};
+use tableau::BasisStatus;
+
+/// How many cuts are separated at most.
+const MOST: usize = 4;
+
+/// The multipliers of the cut that the row of a column gives with a sign; none exactly where a step is cramped, or the point violates no such cut. The
+/// one error is want of memory.
+fn cut_at(
+    alloc: Global,
+    tableau: &FinalTableau,
+    problem: &Problem,
+    book: &Book,
+    point: &RationalPoint,
+    column: usize,
+    sign: Sign,
+) -> Result<Option<Mult>, AllocError>
+    requires few { length book.now.cuts < 2 ^ 27 }
+    requires columns { length problem.now.spans ≤ length tableau.now.statuses }
+    requires column { column < length problem.now.spans }
+    ensures { IfOk result (λ o. o ≡ cut_at problem.now book.now.cuts tableau.now point.now column sign) }
+{
+    let Some(multipliers) = gomory_multipliers(alloc, tableau, problem, book, sign, column)? else {
+        return Ok(None);
+    };
+    let mult = Mult::make(multipliers);
+    if has_violated_row(alloc, problem, book, point, &mult)? {
+        Ok(Some(mult))
+    } else {
+        Ok(None)
+    }
+}
+
+/// Whether a column is basic, and its number at the point isn't whole.
+fn is_fractional(tableau: &FinalTableau, point: &RationalPoint, column: usize) -> bool
+    requires there { column < length tableau.now.statuses }
+    requires number { column < length point.now }
+    ensures { result ≡ is_fractional tableau.now point.now column }
+{
+    match tableau.status(column) {
+        BasisStatus::Basic => point.get(column).denom() != 1,
+        BasisStatus::AtLower | BasisStatus::AtUpper => false,
+    }
+}
+
+/// Whether both are the same number with the same multiplier.
+fn is_same_pair(a: (u32, Frac), b: (u32, Frac)) -> bool
+    ensures { result ≡ nat_eq a.0 b.0 && int_eq a.1.num b.1.num && nat_eq a.1.den b.1.den }
+{
+    a.0 == b.0 && a.1.numer() == b.1.numer() && a.1.denom() == b.1.denom()
+}
+
+/// Whether both are the same multipliers.
+fn is_same(a: &[Term], b: &[Term]) -> bool
+    ensures { result ≡ is_same a.now b.now }
+{
+    for (i, multiplier) in a.iter().enumerate() {
+        if i >= b.len() {
+            return false;
+        }
+        if !is_same_pair(multiplier.pair(), b[i].pair()) {
+            return false;
+        }
+    }
+    a.len() == b.len()
+}
+
+/// Whether these multipliers are among those that are found.
+fn is_found(mult: &Mult, found: &[Mult]) -> bool
+    ensures { result ≡ is_found mult.now found.now }
+{
+    for other in found {
+        if is_same(mult.as_slice(), other.as_slice()) {
+            return true;
+        }
+    }
+    false
+}
+
+/// Adds the cut of a column and a sign, if it is there and new and there is place for one more. The one error is want of memory.
+fn add_cut(
+    alloc: Global,
+    tableau: &FinalTableau,
+    problem: &Problem,
+    book: &Book,
+    point: &RationalPoint,
+    column: usize,
+    sign: Sign,
+    found: &mut Vec<Mult>,
+) -> Result<(), AllocError>
+    requires few { length book.now.cuts < 2 ^ 27 }
+    requires columns { length problem.now.spans ≤ length tableau.now.statuses }
+    requires column { column < length problem.now.spans }
+    requires four { length found.old.items ≤ 4 }
+    ensures value { OnOk result ((rest : List (Option Multipliers)) → take 4 (with_cuts found.new.items rest) ≡ take 4 (with_cuts found.old.items (cut_at problem.now book.now.cuts tableau.now point.now column sign ∷ rest))) }
+    ensures four { OnOk result (length found.new.items ≤ 4) }
+{
+    if found.len() == MOST {
+        return Ok(());
+    }
+    if let Some(mult) = cut_at(alloc, tableau, problem, book, point, column, sign)? {
+        if !is_found(&mult, found) {
+            found.push(mult)?;
+        }
+    }
+    Ok(())
+}
+
+/// Adds the cuts of a column, if it is basic and its number isn't whole. The one error is want of memory.
+fn add_cuts(
+    alloc: Global,
+    tableau: &FinalTableau,
+    problem: &Problem,
+    book: &Book,
+    point: &RationalPoint,
+    column: usize,
+    found: &mut Vec<Mult>,
+) -> Result<(), AllocError>
+    requires few { length book.now.cuts < 2 ^ 27 }
+    requires columns { length problem.now.spans ≤ length tableau.now.statuses }
+    requires column { column < length problem.now.spans }
+    requires point { length point.now ≡ length problem.now.spans }
+    requires four { length found.old.items ≤ 4 }
+    ensures value { OnOk result ((rest : List (Option Multipliers)) → take 4 (with_cuts found.new.items rest) ≡ take 4 (with_cuts found.old.items (cuts_at problem.now book.now.cuts tableau.now point.now column ++ rest))) }
+    ensures four { OnOk result (length found.new.items ≤ 4) }
+{
+    if !is_fractional(tableau, point, column) {
+        return Ok(());
+    }
+    add_cut(
+        alloc,
+        tableau,
+        problem,
+        book,
+        point,
+        column,
+        Sign::Plus,
+        found,
+    )?;
+    add_cut(
+        alloc,
+        tableau,
+        problem,
+        book,
+        point,
+        column,
+        Sign::Minus,
+        found,
+    )?;
+    Ok(())
+}
+
+/// The multipliers of at most four cuts that the point violates, over the problem's rows, its bound rows and the book's cuts.
+///
+/// Each basic column whose number at the point isn't whole gives the cut of its row, and that of its row times -1, in the order of the columns. What
+/// was found already is passed over. The tableau is one of the problem and some of the first cuts, and the point has a number for each column. The
+/// one error is want of memory.
+pub fn separate(
+    alloc: Global,
+    tableau: &FinalTableau,
+    problem: &Problem,
+    book: &Book,
+    point: &RationalPoint,
+) -> Result<Vec<Mult>, AllocError>
+    requires few { length book.now.cuts < 2 ^ 27 }
+    requires columns { length problem.now.spans ≤ length tableau.now.statuses }
+    requires point { length point.now ≡ length problem.now.spans }
+    ensures { IfOk result (λ v. v.items ≡ separation problem.now book.now.cuts tableau.now point.now) }
+{
+    problem.limits_hold();
+    let columns = problem.columns();
+    let mut found = Vec::new(alloc);
+    for column in 0..columns {
+        add_cuts(alloc, tableau, problem, book, point, column, &mut found)?;
+    }
+    Ok(found)
+}

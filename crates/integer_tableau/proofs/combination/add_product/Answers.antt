@@ -1,0 +1,13 @@
+use Rattle.std.proofs.Common.{◌∙◌, ◌+ℤ◌, ◌*ℤ◌, get_or, pos, rules, w64, to_z, of_z}
+use mir.Val.{SFits}
+use Rattle.std.proofs.lemmas.Int.{to_z-of_z}
+use Rattle.integer_tableau.proofs.CombinedLoops.{product_more}
+use Rattle.integer_tableau.proofs.combination.add_product.Goals as goal
+
+pub returns-in-Some : goal.returns-in-Some
+returns-in-Some c = λ _ k.
+    let f : SFits w64 c.in-Some.next = search rules in
+    let g : SFits w64 (get_or c.args.sum.now c.args.column (pos 0)) = search rules in
+    product_more c.args.sum.now c.args.column k (to_z w64 (of_z w64 c.in-Some.next)) c.args.factor c.args.denominator c.requires.there c.requires.positive
+    (to_z-of_z w64 c.in-Some.next f ∙ c.in-Some.ensures
+    ∙ (λ i. to_z-of_z w64 (get_or c.args.sum.now c.args.column (pos 0)) g i +ℤ to_z-of_z w64 c.args.factor c.ranges.factor i *ℤ to_z-of_z w64 c.args.denominator c.ranges.denominator i))

@@ -1,0 +1,222 @@
+// Combinations of columns: what a row of the linear program says of its variable.
+
+ghost use Rattle.std.specs.Prelude.{◌≡◌, ℕ, ◌+◌, ◌*◌, ◌-◌, ◌<◌, ◌≤◌, ◌^◌, [], pos, nat_abs, ◌+ℤ◌, ◌*ℤ◌, ◌<ℤ◌, length, IfSome, IsTrue, slice_index_or};
+ghost use Rattle.integer_tableau.specs.Numbers.{number_at, IsWithin, total_size};
+ghost use Rattle.integer_tableau.specs.Combined.{numerator_of, combined, value_numerator, combined_value};
+
+use crate::integer_row::IntegerRow;
+use crate::position::Position;
+use crate::program_row::ProgramRow;
+use crate::wide_numbers::product;
+
+// ---- values
+
+/// The numerator of a column's value over the denominator.
+#[inline(always)]
+pub(crate) fn column_value(
+    position: Position,
+    nonbasic_value: i64,
+    value: i64,
+    denominator: i64,
+) -> i64
+    requires { nat_abs nonbasic_value * nat_abs denominator < 2 ^ 63 }
+    ensures { result ≡ value_numerator denominator position nonbasic_value value }
+{
+    match position {
+        Position::InBasis => value,
+        Position::InColumn(_) => nonbasic_value * denominator,
+    }
+}
+
+/// A coefficient times the numerator of a column's value.
+#[inline(always)]
+fn value_term(
+    coefficient: i64,
+    position: Position,
+    nonbasic_value: i64,
+    value: i64,
+    denominator: i64,
+) -> i128
+    requires { nat_abs nonbasic_value * nat_abs denominator < 2 ^ 63 }
+    ensures { result ≡ coefficient *ℤ value_numerator denominator position nonbasic_value value }
+{
+    product(
+        coefficient,
+        column_value(position, nonbasic_value, value, denominator),
+    )
+}
+
+/// The numerator of the value of a row's variable.
+pub(crate) fn combined_value(
+    coefficients: &ProgramRow,
+    positions: &[Position],
+    nonbasic_values: &[i64],
+    values: &[i64],
+    denominator: i64,
+) -> i128
+    requires values_there { length values.now ≡ length coefficients.now }
+    requires positions_there { length coefficients.now ≤ length positions.now }
+    requires nonbasic_values_there { length coefficients.now ≤ length nonbasic_values.now }
+    requires light { total_size coefficients.now < 2 ^ 62 }
+    requires near { (j : ℕ) → j < length coefficients.now → nat_abs (number_at nonbasic_values.now j) * nat_abs denominator < 2 ^ 63 }
+    ensures { result ≡ combined_value denominator coefficients.now positions.now nonbasic_values.now values.now }
+{
+    let numerators = coefficients.numerators();
+    let places = coefficients.places();
+    let mut total = 0;
+    for place in places {
+        let j = *place;
+        total += value_term(
+            numerators[j],
+            positions[j],
+            nonbasic_values[j],
+            values[j],
+            denominator,
+        );
+    }
+    total
+}
+
+// ---- rows
+
+/// What a column says of the variable in a column.
+#[inline(always)]
+fn numerator_of(position: Position, row: &IntegerRow, column: usize, denominator: i64) -> i64
+    requires { pos 0 <ℤ denominator }
+    ensures { result ≡ numerator_of (nat_abs denominator) row.now position column }
+{
+    match position {
+        Position::InBasis => row.numerator(column),
+        Position::InColumn(own) => { if column == own { denominator } else { 0 } }
+    }
+}
+
+/// A coefficient times what a column says of the variable in a column.
+#[inline(always)]
+fn number_term(
+    coefficient: i64,
+    position: Position,
+    row: &IntegerRow,
+    column: usize,
+    denominator: i64,
+) -> i128
+    requires { pos 0 <ℤ denominator }
+    ensures { result ≡ coefficient *ℤ numerator_of (nat_abs denominator) row.now position column }
+{
+    if coefficient == 0 {
+        0
+    } else {
+        product(
+            coefficient,
+            numerator_of(position, row, column, denominator),
+        )
+    }
+}
+
+/// What the variable of a row says of the variable in a column.
+pub(crate) fn combined_number(
+    coefficients: &[i64],
+    positions: &[Position],
+    rows: &[IntegerRow],
+    denominator: i64,
+    column: usize,
+) -> i128
+    requires positive { pos 0 <ℤ denominator }
+    requires small { nat_abs denominator < 2 ^ 62 }
+    requires rows_there { length rows.now ≡ length coefficients.now }
+    requires positions_there { length coefficients.now ≤ length positions.now }
+    requires light { total_size coefficients.now < 2 ^ 62 }
+    requires rows_small { (j : ℕ) → IsWithin (2 ^ 62 - 1) (slice_index_or rows.now j []) }
+    ensures value { result ≡ combined (nat_abs denominator) coefficients.now positions.now rows.now column }
+    ensures small { nat_abs result < 2 ^ 126 }
+{
+    let mut total = 0;
+    for (j, coefficient) in coefficients.iter().enumerate() {
+        total += number_term(*coefficient, positions[j], &rows[j], column, denominator);
+    }
+    total
+}
+
+/// `number + factor * other`, if it has 64 bits.
+#[inline(always)]
+fn multiple_sum(number: i64, factor: i64, other: i64) -> Option<i64>
+    ensures { IfSome result (λ z. z ≡ number +ℤ factor *ℤ other) }
+{
+    number.checked_add(factor.checked_mul(other)?)
+}
+
+/// Adds a multiple of a row to a sum; false where a number has more than 64 bits.
+fn add_multiple(sum: &mut [i64], row: &[i64], factor: i64) -> bool
+    requires { length row.now ≡ length sum.old }
+    ensures { IsTrue result → (k : ℕ) → number_at sum.new k ≡ number_at sum.old k +ℤ factor *ℤ number_at row.now k }
+{
+    for (k, number) in sum.iter_mut().enumerate() {
+        match multiple_sum(*number, factor, row[k]) {
+            Some(next) => *number = next,
+            None => return false,
+        }
+    }
+    true
+}
+
+/// Adds a product to the number in a column of a sum; false where it has more than 64 bits.
+fn add_product(sum: &mut [i64], column: usize, factor: i64, denominator: i64) -> bool
+    requires there { column < length sum.old }
+    requires positive { pos 0 <ℤ denominator }
+    ensures { IsTrue result → (k : ℕ) → number_at sum.new k ≡ number_at sum.old k +ℤ factor *ℤ numerator_of (nat_abs denominator) [] (Position.InColumn column) k }
+{
+    match multiple_sum(sum[column], factor, denominator) {
+        Some(next) => {
+            sum[column] = next;
+            true
+        }
+        None => false,
+    }
+}
+
+/// Adds what a column says, times its coefficient, to a sum; false where a number has more than 64 bits, or a row hasn't the sum's width.
+fn add_column(
+    sum: &mut [i64],
+    coefficient: i64,
+    position: Position,
+    row: &IntegerRow,
+    denominator: i64,
+) -> bool
+    requires { pos 0 <ℤ denominator }
+    ensures { IsTrue result → (k : ℕ) → number_at sum.new k ≡ number_at sum.old k +ℤ coefficient *ℤ numerator_of (nat_abs denominator) row.now position k }
+{
+    if coefficient == 0 {
+        return true;
+    }
+    match position {
+        Position::InBasis => {
+            row.width() == sum.len() && add_multiple(sum, row.numerators(), coefficient)
+        }
+        Position::InColumn(column) => {
+            column < sum.len() && add_product(sum, column, coefficient, denominator)
+        }
+    }
+}
+
+/// Adds up what the columns say, each times its coefficient; false where a number on the way has more than 64 bits, or a row hasn't the
+/// sum's width.
+pub(crate) fn add_columns(
+    sum: &mut [i64],
+    coefficients: &[i64],
+    positions: &[Position],
+    rows: &[IntegerRow],
+    denominator: i64,
+) -> bool
+    requires zero { (k : ℕ) → number_at sum.old k ≡ pos 0 }
+    requires rows_there { length rows.now ≡ length coefficients.now }
+    requires positions_there { length coefficients.now ≤ length positions.now }
+    requires positive { pos 0 <ℤ denominator }
+    ensures { IsTrue result → (k : ℕ) → number_at sum.new k ≡ combined (nat_abs denominator) coefficients.now positions.now rows.now k }
+{
+    for (j, coefficient) in coefficients.iter().enumerate() {
+        if !add_column(sum, *coefficient, positions[j], &rows[j], denominator) {
+            return false;
+        }
+    }
+    true
+}

@@ -1,0 +1,88 @@
+// The sizes of the rows that aren't kept.
+
+ghost use Rattle.std.specs.Prelude.{◌≡◌, ℕ, ◌+◌, ◌-◌, ◌*◌, ◌<◌, ◌≤◌, ◌^◌, [], pos, nat_abs, ◌<ℤ◌, length, slice_index_or, IsTrue};
+ghost use Rattle.integer_tableau.specs.Numbers.{IsWithin, total_size};
+ghost use Rattle.integer_tableau.specs.Combined.{combined_row};
+
+use crate::integer_row::IntegerRow;
+use crate::position::Position;
+use crate::program_row::ProgramRow;
+
+/// A bound on the sizes in all rows.
+fn common_bound(rows: &[IntegerRow]) -> u64
+    ensures { (v : ℕ) → v < length rows.now → IsWithin result (slice_index_or rows.now v []) }
+{
+    let mut bound = 0;
+    for row in rows {
+        bound = bound.max(row.bound());
+    }
+    bound
+}
+
+/// Makes the bound on the sizes of each row the greatest of them.
+fn look_at_all(rows: &mut [IntegerRow])
+    ensures { rows.new ≡ rows.old }
+{
+    for row in rows.iter_mut() {
+        row.look();
+    }
+}
+
+/// Whether the bounds on the rows' sizes make all combinations small that have no greater weight.
+fn are_bounds_small(weight: u64, rows: &[IntegerRow], denominator: i64) -> bool
+    requires { weight < 2 ^ 62 }
+    ensures { IsTrue result → (most : ℕ) × (nat_abs denominator ≤ most) × ((v : ℕ) → v < length rows.now → IsWithin most (slice_index_or rows.now v [])) × (weight * most < 2 ^ 62) }
+{
+    let most = common_bound(rows).max(denominator.unsigned_abs());
+    u128::from(weight) * u128::from(most) < 1 << 62
+}
+
+/// Whether each combination that is basic has numbers below 2^62 in size.
+fn are_small_by_look(
+    program_rows: &[ProgramRow],
+    positions: &[Position],
+    rows: &[IntegerRow],
+    spare: &mut IntegerRow,
+    denominator: i64,
+) -> bool
+    requires positions_there { length positions.now ≡ length rows.now + length program_rows.now }
+    requires full { (i : ℕ) → i < length program_rows.now → length (slice_index_or program_rows.now i []) ≡ length rows.now }
+    requires positive { pos 0 <ℤ denominator }
+    ensures { IsTrue result → (i : ℕ) → i < length program_rows.now → slice_index_or positions.now (length rows.now + i) Position.InBasis ≡ Position.InBasis → IsWithin (2 ^ 62 - 1) (combined_row (nat_abs denominator) positions.now rows.now (slice_index_or program_rows.now i [])) }
+{
+    let columns = rows.len();
+    for (i, coefficients) in program_rows.iter().enumerate() {
+        if positions[columns + i] == Position::InBasis
+            && !spare.combine(coefficients, positions, rows, denominator)
+        {
+            return false;
+        }
+    }
+    true
+}
+
+/// Whether each combination that is basic has numbers below 2^62 in size: by bounds or, where these are too large, by a look at each. `spare`
+/// is of no use then.
+pub(crate) fn are_combinations_small(
+    program_rows: &[ProgramRow],
+    weight: u64,
+    positions: &[Position],
+    rows: &mut [IntegerRow],
+    spare: &mut IntegerRow,
+    denominator: i64,
+) -> bool
+    requires positions_there { length positions.now ≡ length rows.old + length program_rows.now }
+    requires full { (i : ℕ) → i < length program_rows.now → length (slice_index_or program_rows.now i []) ≡ length rows.old }
+    requires weights { (i : ℕ) → i < length program_rows.now → total_size (slice_index_or program_rows.now i []) ≤ weight }
+    requires light { weight < 2 ^ 62 }
+    requires positive { pos 0 <ℤ denominator }
+    ensures small { IsTrue result → (i : ℕ) → i < length program_rows.now → slice_index_or positions.now (length rows.old + i) Position.InBasis ≡ Position.InBasis → IsWithin (2 ^ 62 - 1) (combined_row (nat_abs denominator) positions.now rows.old (slice_index_or program_rows.now i [])) }
+    ensures same { rows.new ≡ rows.old }
+{
+    if are_bounds_small(weight, rows, denominator) {
+        return true;
+    }
+    look_at_all(rows);
+    are_bounds_small(weight, rows, denominator)
+        || are_small_by_look(program_rows, positions, rows, spare, denominator)
+}

@@ -1,0 +1,72 @@
+//! Searches that go on with a greater budget: one with an optimum, and one of five nodes without a point.
+
+ghost use Rattle.std.specs.Prelude.{◌≡◌, ◌≤◌, []};
+
+use anyhow::Result;
+use case_tools::{NumberOrNone, problem_of};
+use core_search::search;
+use event_core::State;
+use std::alloc::Global;
+use std::io;
+
+/// Minimise -3a - 2b - 2c - d where 2a + 2b + c + d <= 2, with columns 0 or 1.
+///
+/// At node 0 the linear program has its optimum at a = 1/2 and c = 1, so it is split in a; at node 2 it is the point a = 1, and at node 1 it reaches
+/// the cutoff.
+const KNAPSACK: &[u8] =
+    b"ROWS\n N o\n L r\nCOLUMNS\n m 'MARKER' 'INTORG'\n a o -3 r 2\n b o -2 r 2\n c o -2 r 1\n d o -1 r 1\nRHS\n r 2\nBOUNDS\n BV a\n BV b\n BV c\n BV d\nENDATA\n";
+
+/// No whole numbers give 4x + 2y = 7, x from 0 to 1 and y from 0 to 2. Node 0 is split in y at (1, 3/2), and node 2 in x at (3/4, 2); 4, 3 and 1 are
+/// refuted.
+const PARITY: &[u8] =
+    b"ROWS\n N o\n E r\nCOLUMNS\n m 'MARKER' 'INTORG'\n x r 4\n y r 2\nRHS\n r 7\nBOUNDS\n UP x 1\n UP y 2\nENDATA\n";
+
+/// Prints the best point, if there is one.
+fn show_best<R: Print>(rt: &R, state: &State) -> io::Result<()> {
+    let cutoff = NumberOrNone(state.incumbent().cutoff());
+    match state.incumbent().point() {
+        Some(best) => {
+            let numbers = best.as_slice();
+            println!(rt; "search best {cutoff} at {numbers:?}")
+        }
+        None => println!(rt; "search best {cutoff}"),
+    }
+}
+
+/// Searches on to so many nodes, and prints how that ends.
+fn show_search<R: Print + Alloc<A = Global>>(
+    rt: &R,
+    state: &mut State,
+    budget: u32,
+) -> io::Result<()>
+    requires few { budget ≤ 1_000_000_000 }
+    requires unheld { state.old.state.holds ≡ [] }
+    ensures { state.new.state.holds ≡ [] }
+{
+    let ending = search(rt.alloc(), state, budget);
+    let (nodes, open, events) = (
+        state.tree().len(),
+        state.open_count(),
+        state.history().len(),
+    );
+    println!(rt;
+        "search to {budget} nodes: {ending:?}, nodes {nodes}, open {open}, events {events}"
+    )?;
+    show_best(rt, state)
+}
+
+/// The state after the search of the problem that no point satisfies.
+pub(crate) fn finished<R: Print + Alloc<A = Global>>(rt: &R) -> Result<State> {
+    let mut state = State::new(rt.alloc(), problem_of(rt.alloc(), PARITY)?)?;
+    show_search(rt, &mut state, 4)?;
+    show_search(rt, &mut state, 5)?;
+    Ok(state)
+}
+
+/// Prints how a search goes on.
+pub(crate) fn show<R: Print + Alloc<A = Global>>(rt: &R) -> Result<()> {
+    let mut state = State::new(rt.alloc(), problem_of(rt.alloc(), KNAPSACK)?)?;
+    show_search(rt, &mut state, 2)?;
+    show_search(rt, &mut state, 3)?;
+    Ok(())
+}

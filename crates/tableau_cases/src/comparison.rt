@@ -1,0 +1,108 @@
+// Random linear programs by both forms of the tableau.
+
+use crate::ends::{End, fraction_end, integer_end};
+use crate::programs::random_program;
+use anyhow::{Result, bail};
+use problem::Problem;
+use std::alloc::Global;
+use std::io;
+use tableau::{LinearProgram, Place};
+
+/// How many pivots a run makes at most.
+const PIVOTS: u32 = 400;
+
+/// How often each end of a run came.
+#[derive(Clone, Copy)]
+struct Tally {
+    optimal: u32,
+    infeasible: u32,
+    neither: u32,
+}
+
+impl Tally {
+    /// Nothing is counted.
+    fn none() -> Tally {
+        Tally {
+            optimal: 0,
+            infeasible: 0,
+            neither: 0,
+        }
+    }
+
+    /// Counts one more run, which may have come to no end.
+    fn count(&mut self, end: &Option<End>) {
+        let place = match end {
+            Some(end) => Some(end.place),
+            None => None,
+        };
+        match place {
+            Some(Place::Done) => self.optimal = self.optimal.saturating_add(1),
+            Some(Place::NoColumn { .. }) => self.infeasible = self.infeasible.saturating_add(1),
+            _ => self.neither = self.neither.saturating_add(1),
+        }
+    }
+}
+
+/// How often each end came in both forms, and how often they differed.
+#[derive(Clone, Copy)]
+struct Counts {
+    integers: Tally,
+    fractions: Tally,
+    differ: u32,
+}
+
+/// Whether a run on whole numbers that came to an end has another one than that on fractions.
+fn differ(integers: &Option<End>, fractions: &Option<End>) -> bool {
+    match (integers, fractions) {
+        (Some(integers), Some(fractions)) => !integers.is_same(fractions),
+        (Some(_), None) => true,
+        (None, _) => false,
+    }
+}
+
+/// Solves a problem's linear program over its box in both forms, and counts how that ends.
+fn compare(alloc: Global, counts: &mut Counts, problem: &Problem) -> Result<()> {
+    let area = problem.root();
+    let program = LinearProgram::of(alloc, problem, area)?;
+    if area.len() != program.columns() {
+        bail!("a linear program of other columns");
+    }
+    let integers = integer_end(alloc, &program, area, PIVOTS)?;
+    let fractions = fraction_end(alloc, program, PIVOTS)?;
+    counts.integers.count(&integers);
+    counts.fractions.count(&fractions);
+    if differ(&integers, &fractions) {
+        counts.differ = counts.differ.saturating_add(1);
+    }
+    Ok(())
+}
+
+/// Prints how often each end came; `neither` says what the other runs were.
+fn show_tally<R: Print>(rt: &R, form: &str, tally: Tally, neither: &str) -> io::Result<()> {
+    let Tally {
+        optimal,
+        infeasible,
+        neither: others,
+    } = tally;
+    println!(rt;
+        "random programs on {form}: {optimal} optimal, {infeasible} infeasible, {others} {neither}"
+    )
+}
+
+/// Solves so many random programs in both forms, and prints how often each end came, and how often the two forms differed.
+pub(crate) fn show<R: Print + Alloc<A = Global>>(rt: &R, programs: u32) -> Result<()> {
+    let mut counts = Counts {
+        integers: Tally::none(),
+        fractions: Tally::none(),
+        differ: 0,
+    };
+    for seed in 0..programs {
+        let problem = random_program(rt.alloc(), seed)?;
+        compare(rt.alloc(), &mut counts, &problem)?;
+    }
+    show_tally(rt, "whole numbers", counts.integers, "given up")?;
+    show_tally(rt, "fractions", counts.fractions, "cramped")?;
+    let differ = counts.differ;
+    println!(rt; "random programs whose runs differ: {differ}")?;
+    Ok(())
+}

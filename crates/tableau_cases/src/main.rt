@@ -1,0 +1,18 @@
+//! Linear programs by both forms of the tableau, on whole numbers and on exact fractions: some that were worked out by hand, and 1,000 random ones,
+//! of which it counts those where the two forms differ. The gate compares what it prints with `stdout`.
+#![tactic(auto)]
+
+mod comparison;
+mod ends;
+mod programs;
+mod worked;
+
+use anyhow::Result;
+
+/// How many random programs are compared.
+const PROGRAMS: u32 = 1_000;
+
+fn main(rt: HostRuntime) -> Result<()> {
+    worked::show(&rt)?;
+    comparison::show(&rt, PROGRAMS)
+}
