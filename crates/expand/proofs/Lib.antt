@@ -1,0 +1,12 @@
+mod Prices
+mod Fitting
+mod Legal
+mod Optima
+mod Choosing
+mod Fractional
+mod Middles
+mod Reading
+mod Answering
+mod Nodes
+mod Expanding
+mod Settled

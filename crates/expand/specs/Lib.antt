@@ -1,0 +1,10 @@
+pub mod Verdicts
+pub mod Glances
+pub mod Findings
+pub mod Notes
+pub mod Columns
+pub mod Expansion
+pub mod Settling
+pub mod Settlements
+pub mod Laws
+pub mod Lemmas

@@ -1,0 +1,22 @@
+// What is known when a node is looked at.
+
+use derivation_book::Book;
+use dual_simplex::Relaxation;
+use fraction::Frac;
+use problem::Problem;
+use problem_box::IntBox;
+
+/// What is known when a node is looked at.
+#[derive(Clone, Copy)]
+pub struct Glance<'a> {
+    /// The problem.
+    pub problem: &'a Problem,
+    /// The problem's cuts.
+    pub book: &'a Book,
+    /// The relaxation of the problem with all these cuts.
+    pub relaxation: &'a Relaxation,
+    /// The node's box.
+    pub area: &'a IntBox,
+    /// The incumbent's objective, if there is an incumbent.
+    pub cutoff: Option<Frac>,
+}

@@ -1,0 +1,142 @@
+// What the linear program of a node says.
+ghost use Rattle.std.specs.Prelude.{◌≡◌, ◌<◌, ◌≤◌, IfOk, OnOk, OnErr, IfSome, Some, All, length};
+ghost use Rattle.problem.specs.Limited.{IsModestSpan};
+ghost use Rattle.dual_simplex.specs.declared.answer.Answer.TheVariants.{Optimal};
+ghost use Rattle.dual_simplex.specs.Answers.{linear_program, run, answer};
+ghost use Rattle.row_activity.specs.Meaning.{IsOpen};
+ghost use Rattle.expand.specs.Columns.{fractional_columns};
+ghost use Rattle.expand.specs.Expansion.{cuts_found, IsOfAnswer, IsOfOptimum, IsUnanswered};
+ghost use Rattle.expand.specs.Glances.{IsGlance};
+ghost use Rattle.expand.specs.Notes.{with_note, noted_gain};
+
+use crate::branching::first_free;
+use crate::columns::{fractional_columns, split_column};
+use crate::cuts::cuts_found;
+use crate::finding::Finding;
+use crate::glance::Glance;
+use crate::mults::Mults;
+use crate::notes::{gain_of, note};
+use crate::origin::Origin;
+use dual_simplex::{Answer, FinalTableau, Solution};
+use event_core::middle;
+use fraction::Frac;
+use node_events::{Mult, Proof, RationalPoint, Reason};
+use problem_box::IntBox;
+use pseudo_cost::Costs;
+use std::alloc::{AllocError, Global};
+
+/// The finding where the run came to no answer: the node may be split in the middle of the first free column of its box.
+fn unanswered(area: &IntBox, reason: Reason) -> Finding
+    requires free { IsOpen area.now }
+    requires few { length area.now ≤ 1000 }
+    requires modest { All IsModestSpan area.now }
+    ensures { IsUnanswered area.now reason result }
+{
+    let column = first_free(area);
+    let bound = middle(area.span(column));
+    Finding::Loose {
+        reason,
+        column: column as u32,
+        bound,
+    }
+}
+
+/// The finding at an optimum: the cuts that separate it, or else itself, with the column of these in which the node may be split.
+fn cuts_or_optimum(
+    cuts: usize,
+    costs: &Costs,
+    point: RationalPoint,
+    mult: Mult,
+    value: Frac,
+    columns: &[usize],
+    mults: Mults,
+) -> Finding
+    requires few { cuts ≤ 256 }
+    requires few_columns { length costs.now ≤ 1000 }
+    requires there { length costs.now ≡ length point }
+    requires columns { columns.now ≡ fractional_columns point }
+    ensures { IsOfOptimum costs.now cuts point mult value mults result }
+{
+    if !mults.is_empty() {
+        return Finding::Cuts { mults };
+    }
+    let column = split_column(costs, columns);
+    Finding::Solved {
+        cuts: cuts as u32,
+        point,
+        mult,
+        value,
+        column,
+    }
+}
+
+/// What an optimum says of the node. The one error is want of memory; nothing is noted then.
+fn at_optimum(
+    alloc: Global,
+    glance: &Glance,
+    costs: &mut Costs,
+    origin: &Option<Origin>,
+    gain: Option<u32>,
+    room: usize,
+    tableau: &Option<FinalTableau>,
+    point: RationalPoint,
+    mult: Mult,
+    value: Frac,
+) -> Result<Finding, AllocError>
+    requires glance { IsGlance glance.now.problem.now glance.now.book.now.cuts glance.now.relaxation.now glance.now.area.now }
+    requires costs { length costs.old ≡ length glance.now.problem.now.spans }
+    requires origin { IfSome origin.now (λ o. o.column < length costs.old) }
+    requires gain { IfSome gain (λ g. g ≤ 1_000_000_000) }
+    requires tableau { IfSome (run (linear_program glance.now.problem.now glance.now.book.now.cuts glance.now.area.now)).tableau (λ t. tableau.now ≡ Some t) }
+    requires optimal { answer glance.now.problem.now glance.now.book.now.cuts glance.now.area.now ≡ Optimal point mult value }
+    requires point { length point ≡ length glance.now.problem.now.spans }
+    ensures found { IfOk result (λ f. IsOfOptimum costs.new (length glance.now.book.now.cuts) point mult value (cuts_found glance.now.problem.now glance.now.book.now.cuts glance.now.area.now glance.now.cutoff room point value) f) }
+    ensures noted { OnOk result (costs.new ≡ noted_gain origin.now gain costs.old) }
+    ensures failed { OnErr result (costs.new ≡ costs.old) }
+    ensures columns { length costs.new ≡ length costs.old }
+{
+    glance.problem.limits_hold();
+    let columns = fractional_columns(alloc, &point)?;
+    let mults = cuts_found(alloc, glance, tableau, &point, value, &columns, room)?;
+    note(costs, origin, gain);
+    let cuts = glance.book.len();
+    Ok(cuts_or_optimum(cuts, costs, point, mult, value, &columns, mults))
+}
+
+/// What the linear program of a node says, where the node's box is open. The one error is want of memory; nothing is noted then.
+pub(crate) fn relax(
+    alloc: Global,
+    glance: &Glance,
+    costs: &mut Costs,
+    origin: &Option<Origin>,
+    room: usize,
+) -> Result<Finding, AllocError>
+    requires glance { IsGlance glance.now.problem.now glance.now.book.now.cuts glance.now.relaxation.now glance.now.area.now }
+    requires free { IsOpen glance.now.area.now }
+    requires costs { length costs.old ≡ length glance.now.problem.now.spans }
+    requires origin { IfSome origin.now (λ o. o.column < length costs.old) }
+    ensures found { IfOk result (λ f. IsOfAnswer glance.now.problem.now glance.now.book.now.cuts glance.now.area.now glance.now.cutoff costs.new room (answer glance.now.problem.now glance.now.book.now.cuts glance.now.area.now) f) }
+    ensures noted { OnOk result (costs.new ≡ with_note origin.now (answer glance.now.problem.now glance.now.book.now.cuts glance.now.area.now) costs.old) }
+    ensures failed { OnErr result (costs.new ≡ costs.old) }
+    ensures columns { length costs.new ≡ length costs.old }
+{
+    glance.problem.limits_hold();
+    let Solution { answer, tableau } = glance
+        .relaxation
+        .solve(alloc, glance.problem, glance.book, glance.area)?;
+    let gain = gain_of(origin, &answer);
+    let cuts = glance.book.len() as u32;
+    match answer {
+        Answer::Infeasible { mult } => {
+            note(costs, origin, gain);
+            Ok(Finding::Shut {
+                proof: Proof::Refute { mult },
+            })
+        }
+        Answer::Optimal { point, mult, value } => at_optimum(
+            alloc, glance, costs, origin, gain, room, &tableau, point, mult, value,
+        ),
+        Answer::Cramped { pivots } => Ok(unanswered(glance.area, Reason::Cramped { cuts, pivots })),
+        Answer::Stalled => Ok(unanswered(glance.area, Reason::Stalled { cuts })),
+    }
+}
