@@ -1,5 +1,6 @@
-// The search of crates/core_search and its dual simplex in plain Rust, for bench/search.sh: the same models, verdicts, pivots and tree, on whole
-// numbers alone, and no events. Numbers of 64 bits over one denominator; a division is taken as exact, and only sizes are tested.
+// The search of crates/core_search without cuts, and its dual simplex, in plain Rust, for bench/search.sh: the same models, verdicts, pivots,
+// pseudo-costs and tree, on whole numbers alone, and no events. Numbers of 64 bits over one denominator; a division is taken as exact, and only sizes
+// are tested.
 use std::cmp::Ordering;
 use std::collections::HashMap;
 use std::env;
@@ -131,10 +132,6 @@ impl Divisor {
         Divisor { shift, inverse }
     }
 
-    fn divide(self, number: i64) -> i64 {
-        (number >> (self.shift & 63)).wrapping_mul(self.inverse)
-    }
-
     fn divide_wide(self, number: i128) -> i64 {
         ((number >> (self.shift & 63)) as i64).wrapping_mul(self.inverse)
     }
@@ -166,8 +163,10 @@ impl Numbers {
         self.items[column] = 0;
         let size = i128::from(self.size) * i128::from(e) + i128::from(source.size) * i128::from(q.abs());
         if size < LIMIT {
+            // The factors are divided by the odd part first, modulo 2^64: two multiplications a number.
+            let (e, q) = (e.wrapping_mul(divisor.inverse), q.wrapping_mul(divisor.inverse));
             for (t, s) in self.items.iter_mut().zip(&source.items) {
-                *t = divisor.divide(*t * e + *s * q);
+                *t = t.wrapping_mul(e).wrapping_add(s.wrapping_mul(q)) >> (divisor.shift & 63);
             }
             self.size = size as i64 / old;
         } else {
@@ -475,9 +474,41 @@ struct Node {
     ending: Option<Ending>,
 }
 
+/// The split at a fractional optimum that made a node: its column, the node's side, and the optimal value.
+#[derive(Clone, Copy)]
+struct Origin {
+    column: usize,
+    side: Side,
+    value: Frac,
+}
+
 struct Open {
     number: u32,
     area: Vec<Span>,
+    origin: Option<Origin>,
+}
+
+/// What the splits of a column have gained on one side.
+#[derive(Clone, Copy, Default)]
+struct Gains {
+    count: u64,
+    sum: u64,
+}
+
+impl Gains {
+    fn average(self) -> u64 {
+        self.sum.checked_div(self.count).unwrap_or(0)
+    }
+}
+
+const MOST_GAIN: u64 = 1_000_000_000;
+
+/// `floor(1000 (value - parent))`, held within 0 and 10^9; none where a number is too large.
+fn gain(value: Frac, parent: Frac) -> Option<u64> {
+    let (own, other) = (value.num.checked_mul(parent.den.into())?, parent.num.checked_mul(value.den.into())?);
+    let den = i128::from(value.den).checked_mul(parent.den.into())?;
+    let change = own.checked_sub(other)?.checked_mul(1000)?.div_euclid(den);
+    Some(change.clamp(0, MOST_GAIN.into()) as u64)
 }
 
 enum Verdict {
@@ -507,6 +538,8 @@ struct Run<'a> {
     open: Vec<Open>,
     incumbent: Option<Vec<i64>>,
     cutoff: Option<i128>,
+    /// Of each column the gains of its left children, then those of its right ones.
+    costs: Vec<[Gains; 2]>,
     pivots: u64,
 }
 
@@ -521,9 +554,10 @@ impl<'a> Run<'a> {
             program,
             objective: problem.costs.iter().copied().enumerate().filter(|&(_, cost)| cost != 0).collect(),
             nodes: vec![Node { branch: None, ending: None }],
-            open: vec![Open { number: 0, area: problem.root.clone() }],
+            open: vec![Open { number: 0, area: problem.root.clone(), origin: None }],
             incumbent: None,
             cutoff: None,
+            costs: vec![Default::default(); problem.costs.len()],
             pivots: 0,
         }
     }
@@ -551,7 +585,34 @@ impl<'a> Run<'a> {
         self.incumbent = Some(point);
     }
 
-    fn split(&mut self, node: Open, column: usize, bound: i64, point: Vec<Frac>) {
+    /// Notes what the split that made a node has gained.
+    fn note(&mut self, origin: Option<Origin>, answer: &Answer) {
+        let Some(origin) = origin else { return };
+        let gain = match answer {
+            Answer::Infeasible(_) => Some(MOST_GAIN),
+            Answer::Optimal { value, .. } => gain(*value, origin.value),
+            Answer::Stalled => None,
+        };
+        if let Some(gain) = gain {
+            let gains = &mut self.costs[origin.column][matches!(origin.side, Side::Low) as usize];
+            gains.count += 1;
+            gains.sum += gain;
+        }
+    }
+
+    /// The column of greatest score among those where the point isn't whole, the least on a tie.
+    fn fractional_column(&self, point: &[Frac]) -> Option<usize> {
+        let mut best: Option<(usize, u128)> = None;
+        for (column, _) in point.iter().enumerate().filter(|(_, number)| number.den != 1) {
+            let [down, up] = self.costs[column].map(|gains| u128::from(gains.average()) + 1);
+            if best.is_none_or(|(_, score)| score < down * up) {
+                best = Some((column, down * up));
+            }
+        }
+        best.map(|(column, _)| column)
+    }
+
+    fn split(&mut self, node: Open, column: usize, bound: i64, point: Vec<Frac>, value: Frac) {
         let left = self.nodes.len() as u32;
         for (side, bound) in [(Side::High, bound), (Side::Low, bound + 1)] {
             let branch = Branch { parent: node.number, column: column as u32, side, bound };
@@ -562,14 +623,17 @@ impl<'a> Run<'a> {
         right[column].lo = bound + 1;
         let mut area = node.area;
         area[column].hi = bound;
-        self.open.push(Open { number: left, area });
-        self.open.push(Open { number: left + 1, area: right });
+        // Side::High is the branch of a left child, which cuts the column's high end.
+        let origin = |side| Some(Origin { column, side, value });
+        self.open.push(Open { number: left, area, origin: origin(Side::High) });
+        self.open.push(Open { number: left + 1, area: right, origin: origin(Side::Low) });
     }
 
     /// How a node ends by its linear program; the node comes back where the budget is spent.
     fn relax(&mut self, node: Open, budget: usize) -> Option<Option<Open>> {
         let (answer, pivots) = solve(self.program, &node.area)?;
         self.pivots += pivots;
+        self.note(node.origin, &answer);
         let ending = match answer {
             Answer::Infeasible(mult) => Ending::Refute { mult },
             Answer::Optimal { point, mult, value } => {
@@ -578,12 +642,12 @@ impl<'a> Run<'a> {
                 let rounded = value.den != 1;
                 if self.cutoff.is_some_and(|cutoff| bound >= cutoff) {
                     Ending::Bound { mult, rounded }
-                } else if let Some(column) = point.iter().position(|number| number.den != 1) {
+                } else if let Some(column) = self.fractional_column(&point) {
                     if self.nodes.len() + 2 > budget {
                         return Some(Some(node));
                     }
                     let floor = point[column].num.div_euclid(point[column].den.into()) as i64;
-                    self.split(node, column, floor, point);
+                    self.split(node, column, floor, point, value);
                     return Some(None);
                 } else {
                     self.accept(point.iter().map(|number| number.num as i64).collect());
@@ -631,7 +695,7 @@ fn sum(nodes: &[Node]) -> i64 {
     nodes.iter().map(|n| n.branch.as_ref().map_or(0, branch) + n.ending.as_ref().map_or(0, ending)).sum()
 }
 
-/// `search MODEL BUDGET` prints the nanoseconds, the nodes, how the search ended, the pivots, and what tells that it was done.
+/// `search MODEL BUDGET` prints the nanoseconds, the nodes, the cuts, how the search ended, the pivots, and what tells that it was done.
 fn main() -> Result<(), Box<dyn Error>> {
     let words: Vec<String> = env::args().skip(1).collect();
     let [command, model, budget] = words.as_slice() else { return Err("search MODEL BUDGET".into()) };
@@ -646,6 +710,6 @@ fn main() -> Result<(), Box<dyn Error>> {
     while run.step(budget).ok_or("a number is too large")? {}
     let time = start.elapsed().as_nanos();
     let ending = if run.open.is_empty() { "finished" } else { "spent" };
-    println!("{time} {} {ending} {} {} {:?}", run.nodes.len(), run.pivots, sum(&run.nodes), run.cutoff);
+    println!("{time} {} 0 {ending} {} {} {:?}", run.nodes.len(), run.pivots, sum(&run.nodes), run.cutoff);
     Ok(())
 }

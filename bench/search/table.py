@@ -49,11 +49,11 @@ def bytes_an_event(proved):
 
 def search_row(name, path, plain, proved, budget):
     """Nodes and pivots a second; the tree is the same in both, and so are the pivots, which plain Rust counts."""
-    base, own = best(plain, "search", path, budget), best(proved, "search", path, budget)
-    if base[1:3] != own[1:3]:
-        sys.exit(f"{name}: plain Rust {base[1:3]}, core_search {own[1:3]}")
+    base, own = best(plain, "search", path, budget), best(proved, "search", path, budget, 0)
+    if base[1:4] != own[1:4]:
+        sys.exit(f"{name}: plain Rust {base[1:4]}, core_search {own[1:4]}")
     seconds = [int(line[0]) / 1e9 for line in (base, own)]
-    nodes, pivots = int(base[1]), int(base[3])
+    nodes, pivots = int(base[1]), int(base[4])
     print(f"{name:22} {nodes / seconds[0]:9,.0f} and {nodes / seconds[1]:9,.0f} nodes/s  {pivots / seconds[0]:11,.0f} and {pivots / seconds[1]:11,.0f} pivots/s"
           f"  ratio {seconds[1] / seconds[0]:5.2f}")
 

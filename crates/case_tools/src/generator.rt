@@ -1,16 +1,29 @@
 // Numbers that look like random ones.
 
-ghost use Rattle.std.specs.Prelude.{◌<◌, ◌^◌};
+ghost use Rattle.std.specs.Prelude.{◌≡◌, ◌<◌, ◌^◌, ◌%◌};
+ghost use Rattle.case_tools.specs.Generators.{stepped, number_of};
 
-/// A linear congruential generator: one seed always gives the same numbers.
+use std::marker::Model;
+
+/// A linear congruential generator, seen as its state: one seed always gives the same numbers.
 #[derive(Drop)]
 pub struct Generator {
     state: u64,
 }
 
+impl Model for Generator {
+    ghost use Rattle.std.specs.Prelude.{ℕ};
+
+    ghost Value = { ℕ };
+
+    ghost view = { λ g. g.state };
+}
+
 impl Generator {
     /// The generator that starts with this seed.
-    pub fn seeded(seed: u32) -> Generator {
+    pub fn seeded(seed: u32) -> Generator
+        ensures { result ≡ seed }
+    {
         Generator {
             state: u64::from(seed),
         }
@@ -18,7 +31,9 @@ impl Generator {
 
     /// The next number, of 31 bits.
     pub fn next(&mut self) -> u32
-        ensures { result < 2 ^ 31 }
+        ensures state { self.new ≡ stepped self.old }
+        ensures number { result ≡ number_of self.new }
+        ensures small { result < 2 ^ 31 }
     {
         self.state = self
             .state
@@ -30,7 +45,9 @@ impl Generator {
     /// The next number of so many, from 0.
     pub fn below(&mut self, count: u32) -> u32
         requires { 0 < count }
-        ensures { result < count }
+        ensures state { self.new ≡ stepped self.old }
+        ensures number { result ≡ number_of self.new % count }
+        ensures small { result < count }
     {
         self.next() % count
     }

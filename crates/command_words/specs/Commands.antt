@@ -8,12 +8,13 @@ use Rattle.clap.specs.ValueTests.{is_unsigned_in}
 use Rattle.command_words.specs.Table.{commands}
 use Rattle.command_words.specs.declared.command.Command.{Command}
 use Rattle.command_words.specs.declared.command.Command.TheVariants as command
+use Rattle.command_words.specs.declared.limits.Limits.{Limits}
 use Rattle.command_words.specs.declared.paths.Paths.{Paths}
 
 -- What a command asks for.
 pub data Asked : Type 0 where
-  -- the paths of the model, the journal and the certificate; the most nodes; the bound for columns that have none
-  solve : Text → Text → Text → ℕ → Option ℕ → Asked
+  -- the paths of the model, the journal and the certificate; the limits of the search; the bound for columns that have none
+  solve : Text → Text → Text → Limits → Option ℕ → Asked
 
 abbrev pub are_different : Text → Text → Text → Bool
 are_different model journal cert = not (bytes_eq model journal) && (not (bytes_eq model cert) && not (bytes_eq journal cert))
@@ -24,16 +25,24 @@ abbrev pub number_in : ℕ → ℕ → Option Text → Option (Option ℕ)
 number_in low high None = Some None
 number_in low high (Some text) = if is_unsigned_in low high text then Some (Some (digits_value 10 (without_leading_plus text))) else None
 
-abbrev pub solve_with : Option Text → Option Text → Option Text → Option (Option ℕ) → Option (Option ℕ) → Option Asked
-solve_with (Some model) (Some journal) (Some cert) (Some nodes) (Some upper) =
-    if are_different model journal cert then Some (solve model journal cert (unwrap_or nodes 1000000) upper) else None
-solve_with model journal cert nodes upper = None
+abbrev pub limits_with : Option (Option ℕ) → Option (Option ℕ) → Option Limits
+limits_with (Some nodes) (Some cuts) = Some (record { nodes = unwrap_or nodes 1000000; cuts = unwrap_or cuts 256 })
+limits_with nodes cuts = None
+
+-- the limits that the matches of a command ask for: numbers in their ranges
+abbrev pub limits_of : List Row → Option Limits
+limits_of rows = limits_with (number_in 1 1000000000 (one_of (codes "nodes") rows)) (number_in 0 256 (one_of (codes "cuts") rows))
+
+abbrev pub solve_with : Option Text → Option Text → Option Text → Option Limits → Option (Option ℕ) → Option Asked
+solve_with (Some model) (Some journal) (Some cert) (Some limits) (Some upper) =
+    if are_different model journal cert then Some (solve model journal cert limits upper) else None
+solve_with model journal cert limits upper = None
 
 -- what the matches of `solve` ask for: three paths that are all different, and the numbers in their ranges
 abbrev pub solve_of : List Row → Option Asked
 solve_of rows =
-    solve_with (first_of (codes "MODEL") rows) (first_of (codes "JOURNAL") rows) (first_of (codes "CERT") rows)
-    (number_in 1 1000000000 (one_of (codes "nodes") rows)) (number_in 0 1000000000 (one_of (codes "upper") rows))
+    solve_with (first_of (codes "MODEL") rows) (first_of (codes "JOURNAL") rows) (first_of (codes "CERT") rows) (limits_of rows)
+    (number_in 0 1000000000 (one_of (codes "upper") rows))
 
 -- what the command of this name asks for by its matches
 abbrev pub asked_of : Option (Text × List Row) → Option Asked
@@ -54,15 +63,21 @@ is_command words = is_some (command_of words)
 
 -- what a command asks for, as plain values
 abbrev pub asked : Command → Asked
-asked (command.Solve model journal cert nodes upper) = solve (string_bytes model) (string_bytes journal) (string_bytes cert) nodes upper
+asked (command.Solve model journal cert limits upper) = solve (string_bytes model) (string_bytes journal) (string_bytes cert) limits upper
+
+-- the numbers of these limits are in their ranges
+pub record AreInRange (l : Limits) : Type 0 where
+  pub some_nodes : 1 ≤ l.nodes
+  pub few_nodes : l.nodes ≤ 1000000000
+  pub few_cuts : l.cuts ≤ 256
 
 -- its numbers are in their ranges
 abbrev pub HasRanges : Command → Type 0
-HasRanges (command.Solve model journal cert nodes upper) = (1 ≤ nodes) × (nodes ≤ 1000000000) × IfSome upper (λ u. u ≤ 1000000000)
+HasRanges (command.Solve model journal cert limits upper) = AreInRange limits × IfSome upper (λ u. u ≤ 1000000000)
 
 -- the paths of what is asked, each there as the command has it
 abbrev pub paths_asked : Asked → Option Text × Option Text × Option Text
-paths_asked (solve model journal cert nodes upper) = (Some model, Some journal, Some cert)
+paths_asked (solve model journal cert limits upper) = (Some model, Some journal, Some cert)
 
 -- the same of paths
 abbrev pub texts_of : Paths → Option Text × Option Text × Option Text

@@ -14,11 +14,13 @@ number id low high = record (new_rule id) { long = Some id; parser = Some (vp.Un
 abbrev pub with_paths : App → App
 with_paths a = with_rule (with_rule (with_rule a (path (codes "MODEL"))) (path (codes "JOURNAL"))) (path (codes "CERT"))
 
--- `solve MODEL JOURNAL CERT [--nodes N] [--upper U]`
+-- the most nodes and the most cuts of a search
+abbrev pub with_limits : App → App
+with_limits a = with_rule (with_rule a (number (codes "nodes") 1 1000000000)) (number (codes "cuts") 0 256)
+
+-- `solve MODEL JOURNAL CERT [--nodes N] [--cuts C] [--upper U]`
 abbrev pub solve_command : App
-solve_command =
-    with_rule (with_rule (with_paths (new_app (codes "solve")))
-    (number (codes "nodes") 1 1000000000)) (number (codes "upper") 0 1000000000)
+solve_command = with_rule (with_limits (with_paths (new_app (codes "solve")))) (number (codes "upper") 0 1000000000)
 
 -- the program: its name isn't among the words, it has no form of help, and a command has to follow
 abbrev pub no_commands : App

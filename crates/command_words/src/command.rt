@@ -4,6 +4,7 @@ ghost use Rattle.clap.specs.Words.{subcommand_rows_of};
 ghost use Rattle.command_words.specs.Commands.{HasRanges, asked, asked_of, command_of};
 
 use crate::fault::WordsFault;
+use crate::limits::Limits;
 use crate::solve_matches::solve_asked;
 use crate::table::matched;
 use crate::words::Words;
@@ -21,8 +22,8 @@ pub enum Command {
         journal: String,
         /// Where the certificate is written.
         cert: String,
-        /// The most nodes of the search, 1 to 1,000,000,000; 1,000,000 where the words don't say.
-        nodes: u32,
+        /// The limits of the search.
+        limits: Limits,
         /// The bound for each column that has none, 0 to 1,000,000,000.
         upper: Option<u32>,
     },

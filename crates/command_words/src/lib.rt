@@ -3,6 +3,8 @@
 
 mod command;
 mod fault;
+mod limits;
+mod options;
 mod paths;
 mod solve_matches;
 mod table;
@@ -10,5 +12,6 @@ mod words;
 
 pub use command::{Command, parse};
 pub use fault::WordsFault;
+pub use limits::Limits;
 pub use paths::{Paths, paths_of};
 pub use words::Words;

@@ -31,7 +31,7 @@ pub fn paths_of(alloc: Global, words: &Words) -> Result<Paths, WordsFault>
                 model,
                 journal,
                 cert,
-                nodes: _,
+                limits: _,
                 upper: _,
             },
         ) => Ok(Paths {

@@ -2,7 +2,7 @@
 ghost use Rattle.std.specs.Prelude.{◌≡◌, ◌≢◌, [], IfOk, IsErrOf, map, false, string_bytes};
 ghost use Rattle.clap.specs.Words.{app_of, fault_of, rule_of, subcommand_of, subcommand_rows_of, with_rule, with_subcommand};
 ghost use Rattle.clap.specs.declared.Command.TheViews.{out-Command as fields_of};
-ghost use Rattle.command_words.specs.Table.{commands, no_commands, solve_command, with_paths, path as path_rule, number as number_rule};
+ghost use Rattle.command_words.specs.Table.{commands, no_commands, solve_command, with_limits, with_paths, path as path_rule, number as number_rule};
 
 use crate::fault::WordsFault;
 use clap::builder::ValueParser;
@@ -56,12 +56,21 @@ fn with_model_journal_cert<'a>(
     with_arg(command, path(alloc, "CERT"))
 }
 
+// The limits of a search.
+fn with_limits<'a>(alloc: Global, command: Command<'a>) -> Result<Command<'a>, AllocError>
+    ensures app { IfOk result (λ c. app_of c ≡ with_limits (app_of command.entry)) }
+    ensures local { IfOk result (λ c. (fields_of c).has_globals ≡ (fields_of command.entry).has_globals) }
+{
+    let command = with_arg(command, number(alloc, "nodes", 1, 1_000_000_000))?;
+    with_arg(command, number(alloc, "cuts", 0, 256))
+}
+
 fn solve<'a>(alloc: Global) -> Result<Command<'a>, AllocError>
     ensures app { IfOk result (λ c. app_of c ≡ solve_command) }
     ensures local { IfOk result (λ c. (fields_of c).has_globals ≡ false) }
 {
     let command = with_model_journal_cert(alloc, Command::new(alloc, "solve"))?;
-    let command = with_arg(command, number(alloc, "nodes", 1, 1_000_000_000))?;
+    let command = with_limits(alloc, command)?;
     with_arg(command, number(alloc, "upper", 0, 1_000_000_000))
 }
 

@@ -9,8 +9,7 @@ use Rattle.event_core.specs.States.{State}
 use Rattle.event_core.specs.After.{after}
 use Rattle.event_core.specs.Histories.{state_from}
 use Rattle.event_core.specs.Rooms.{Recorded}
-use Rattle.event_core.specs.Lemmas.Running.{state_from-append}
-use Rattle.event_core.specs.Lemmas.Running.{after-problem}
+use Rattle.event_core.specs.Lemmas.Running.{state_from-append, from-problem}
 use Rattle.core_search.specs.Entries.{IsOfWorker, IsGreatestIfClaim, AreGreatestClaims, ExtendsHistory}
 
 abbrev entry : Event → Entry
@@ -45,9 +44,5 @@ joined a b c h k = record {
 }
 
 -- the problem stays
-pub from-problem : (s : State) (es : List Entry) → (state_from s es).problem ≡ s.problem
-from-problem s [] = refl
-from-problem s (e ∷ es) = from-problem (after s e.worker e.event) es ∙ after-problem s e.worker e.event
-
 pub same_problem : (a b : Recorded) → ExtendsHistory a b → b.state.problem ≡ a.state.problem
 same_problem a b h = ap (λ (s : State). s.problem) h.state ∙ from-problem a.state h.entries

@@ -1,5 +1,5 @@
 -- The list of the open nodes, step by step.
-use Rattle.std.specs.Prelude.{◌≡◌, ◌⊎◌, ◌<◌, ◌≤◌, ◌+◌, ◌-◌, ℕ, ℤ, pos, ◌+ℤ◌, true, false, List, [], ◌∷◌, ◌++◌, length, All, Option, Some, slice_set, option_to_list, refl}
+use Rattle.std.specs.Prelude.{◌≡◌, ◌⊎◌, ◌<◌, ◌≤◌, ◌+◌, ◌-◌, ℕ, ℤ, pos, ◌+ℤ◌, true, false, List, [], ◌∷◌, ◌++◌, length, All, Option, Some, slice_set, option_to_list, IfSome, None, refl}
 use Rattle.std.proofs.Common.{sym, ap, ◌∙◌, subst, inl, inr, arith, length-append}
 use Rattle.std.proofs.lemmas.Bool.{cases_lt}
 use Rattle.std.proofs.lemmas.List.{length-set, length_push}
@@ -12,7 +12,11 @@ use Rattle.event_core.specs.States.{State, tree_of, is_open, box_of, open_count}
 use Rattle.event_core.specs.After.{after_claim, after_split, after_close, after_offer}
 use Rattle.event_core.specs.Lemmas.Ended.{is_left, left_kept, left_prefix, left_within}
 use Rattle.core_search.specs.declared.open_node.OpenNode.{OpenNode}
-use Rattle.core_search.specs.OpenNodes.{IsOpenNode, HaveRisingNumbers, IsAmong, AreOpenNodes, children}
+use Rattle.derivation_book.specs.declared.cut.Cut.{Cut}
+use Rattle.fraction.specs.Rational.{ℚ}
+use Rattle.pseudo_cost.specs.declared.side.Side.{Side}
+use Rattle.pseudo_cost.specs.declared.side.Side.TheVariants.{Down, Up}
+use Rattle.core_search.specs.OpenNodes.{IsOpenNode, HaveRisingNumbers, IsAmong, AreOpenNodes, origin_of, children}
 use Rattle.core_search.proofs.StillOpen.{not_left, left_before, first_left, second_left, which_left, none_open}
 
 abbrev Below : ℕ → OpenNode → Type 0
@@ -85,7 +89,7 @@ module _ (s : State) (os : List OpenNode) (o : OpenNode) (h : AreOpenNodes s (os
   pub closed_nodes : AreOpenNodes (after_close s o.number) os
   closed_nodes = record {
     nodes = All-weaker (λ (p : OpenNode). IsOpenNode s p × (p.number < o.number)) (IsOpenNode (after_close s o.number))
-        (λ p q. record { opened = left_kept s.ended o.number p.number (λ e. omega (arith, q.1, e)) q.0.opened; area = q.0.area }) os others;
+        (λ p q. record { opened = left_kept s.ended o.number p.number (λ e. omega (arith, q.1, e)) q.0.opened; area = q.0.area; origin = q.0.origin }) os others;
     rising = rising.0;
     listed = λ k q. elim (which k (left_before s.ended o.number k q)) [
       | inl a ↦ a
@@ -94,7 +98,7 @@ module _ (s : State) (os : List OpenNode) (o : OpenNode) (h : AreOpenNodes s (os
   }
 
   -- ---- the last node is split
-  module _ (j : ℕ) (b : ℤ) (size : length s.ended ≡ length s.nodes) (split : IsSplitAt (tree_of s) o.number j b) where
+  module _ (j : ℕ) (b : ℤ) (value : Option ℚ) (size : length s.ended ≡ length s.nodes) (split : IsSplitAt (tree_of s) o.number j b) (within : j < length s.problem.spans) where
     abbrev n : ℕ
     n = length s.nodes
 
@@ -102,7 +106,7 @@ module _ (s : State) (os : List OpenNode) (o : OpenNode) (h : AreOpenNodes s (os
     after = after_split s o.number j b
 
     abbrev two : List OpenNode
-    two = children n o.area j b
+    two = children n o.area j b value
 
     long : length (slice_set s.ended o.number true) ≡ n
     long = length-set s.ended o.number true ∙ size
@@ -116,24 +120,43 @@ module _ (s : State) (os : List OpenNode) (o : OpenNode) (h : AreOpenNodes s (os
         record {
           opened = left_prefix (slice_set s.ended o.number true) (false ∷ false ∷ []) p.number (left_kept s.ended o.number p.number (λ e. omega (arith, q.1, e)) q.0.opened);
           area = q.0.area ∙ sym (split.box_kept p.number (there p.number q.0.opened));
+          origin = q.0.origin;
         }) os others
 
-    left_half : IsOpenNode after (record { number = n; area = cut_high o.area j b })
-    left_half = record { opened = first_left (slice_set s.ended o.number true) (false ∷ []) n long; area = ap (λ ss. cut_high ss j b) last_node.area ∙ sym split.left }
+    abbrev left : OpenNode
+    left = record { number = n; area = cut_high o.area j b; origin = origin_of j Down value }
 
-    right_half : IsOpenNode after (record { number = n + 1; area = cut_low o.area j (b +ℤ pos 1) })
-    right_half = record { opened = second_left (slice_set s.ended o.number true) n long; area = ap (λ ss. cut_low ss j (b +ℤ pos 1)) last_node.area ∙ sym split.right }
+    abbrev right : OpenNode
+    right = record { number = n + 1; area = cut_low o.area j (b +ℤ pos 1); origin = origin_of j Up value }
+
+    made_within : (side : Side) (v : Option ℚ) → IfSome (origin_of j side v) (λ g. g.column < length s.problem.spans)
+    made_within side None = tt
+    made_within side (Some v) = within
+
+    left_half : IsOpenNode after left
+    left_half = record {
+      opened = first_left (slice_set s.ended o.number true) (false ∷ []) n long;
+      area = ap (λ ss. cut_high ss j b) last_node.area ∙ sym split.left;
+      origin = made_within Down value;
+    }
+
+    right_half : IsOpenNode after right
+    right_half = record {
+      opened = second_left (slice_set s.ended o.number true) n long;
+      area = ap (λ ss. cut_low ss j (b +ℤ pos 1)) last_node.area ∙ sym split.right;
+      origin = made_within Up value;
+    }
 
     pub split_nodes : AreOpenNodes after (os ++ two)
     split_nodes = record {
       nodes = All-append (IsOpenNode after) os two old_boxes
-          (All-cons (IsOpenNode after) (record { number = n; area = cut_high o.area j b }) (record { number = n + 1; area = cut_low o.area j (b +ℤ pos 1) } ∷ []) left_half
-          (All-cons (IsOpenNode after) (record { number = n + 1; area = cut_low o.area j (b +ℤ pos 1) }) [] right_half (All-nil (IsOpenNode after))));
+          (All-cons (IsOpenNode after) left (right ∷ []) left_half
+          (All-cons (IsOpenNode after) right [] right_half (All-nil (IsOpenNode after))));
       rising = rising_push os two n rising.0
           (All-weaker (λ (p : OpenNode). IsOpenNode s p × (p.number < o.number)) (Below n) (λ p q. there p.number q.0.opened) os others)
-          (All-cons (λ (p : OpenNode). n < p.number) (record { number = n + 1; area = cut_low o.area j (b +ℤ pos 1) }) [] (omega arith) (All-nil (λ (p : OpenNode). n < p.number)), (All-nil (λ (p : OpenNode). n + 1 < p.number), tt))
-          (All-cons (λ (u : OpenNode). n ≤ u.number) (record { number = n; area = cut_high o.area j b }) (record { number = n + 1; area = cut_low o.area j (b +ℤ pos 1) } ∷ []) (omega arith)
-          (All-cons (λ (u : OpenNode). n ≤ u.number) (record { number = n + 1; area = cut_low o.area j (b +ℤ pos 1) }) [] (omega arith) (All-nil (λ (u : OpenNode). n ≤ u.number))));
+          (All-cons (λ (p : OpenNode). n < p.number) right [] (omega arith) (All-nil (λ (p : OpenNode). n < p.number)), (All-nil (λ (p : OpenNode). n + 1 < p.number), tt))
+          (All-cons (λ (u : OpenNode). n ≤ u.number) left (right ∷ []) (omega arith)
+          (All-cons (λ (u : OpenNode). n ≤ u.number) right [] (omega arith) (All-nil (λ (u : OpenNode). n ≤ u.number))));
       listed = λ k q. elim (which_left (slice_set s.ended o.number true) n k long q) [
         | inl a ↦ elim (which k (left_before s.ended o.number k a)) [
           | inl m ↦ among_first os two k m
@@ -145,10 +168,14 @@ module _ (s : State) (os : List OpenNode) (o : OpenNode) (h : AreOpenNodes s (os
 
 -- ---- states that differ in holds and incumbents
 pub claimed_nodes : (s : State) (w : Option ℕ) (i : ℕ) (os : List OpenNode) → AreOpenNodes s os → AreOpenNodes (after_claim s w i) os
-claimed_nodes s w i os h = record { nodes = λ k d l. let b = h.nodes k d l in record { opened = b.opened; area = b.area }; rising = h.rising; listed = h.listed }
+claimed_nodes s w i os h = record { nodes = λ k d l. let b = h.nodes k d l in record { opened = b.opened; area = b.area; origin = b.origin }; rising = h.rising; listed = h.listed }
 
 pub offered_nodes : (s : State) (x : List ℤ) (os : List OpenNode) → AreOpenNodes s os → AreOpenNodes (after_offer s x) os
-offered_nodes s x os h = record { nodes = λ k d l. let b = h.nodes k d l in record { opened = b.opened; area = b.area }; rising = h.rising; listed = h.listed }
+offered_nodes s x os h = record { nodes = λ k d l. let b = h.nodes k d l in record { opened = b.opened; area = b.area; origin = b.origin }; rising = h.rising; listed = h.listed }
+
+-- cuts are no matter of nodes
+pub cut_nodes : (s : State) (cs : List Cut) (os : List OpenNode) → AreOpenNodes s os → AreOpenNodes (record s { cuts = cs }) os
+cut_nodes s cs os h = record { nodes = λ k d l. let b = h.nodes k d l in record { opened = b.opened; area = b.area; origin = b.origin }; rising = h.rising; listed = h.listed }
 
 -- ---- less work is left
 pub less_closed : (budget n : ℕ) (os : List OpenNode) (o : OpenNode) → budget - n + length os < budget - n + length (os ++ o ∷ [])

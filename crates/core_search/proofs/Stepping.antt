@@ -1,27 +1,22 @@
 -- What a step does to the state and to the list of the open nodes.
-use Rattle.std.specs.Prelude.{◌≡◌, ◌<◌, ◌≤◌, ◌+◌, ◌^◌, ℕ, ℤ, pos, ◌+ℤ◌, ◌≤ℤ◌, ◌<ℤ◌, nat_abs, Bool, true, false, List, [], ◌∷◌, ◌++◌, length, max, All, Option, Some, None, slice_get, slice_index_or, Result, Ok, Err, OnOk, OnErr, refl}
+use Rattle.std.specs.Prelude.{◌≡◌, ◌<◌, ◌≤◌, ◌+◌, ◌-◌, ◌^◌, ℕ, ℤ, pos, ◌+ℤ◌, ◌≤ℤ◌, ◌<ℤ◌, nat_abs, Bool, true, false, List, [], ◌∷◌, ◌++◌, length, max, All, Option, Some, None, slice_get, slice_index_or, Result, Ok, Err, OnOk, OnErr, refl}
 use Rattle.std.specs.Option.{ForSome}
 use Rattle.std.proofs.Common.{sym, ap, ◌∙◌, subst, arith, to_z, of_z, w64}
 use Rattle.std.proofs.Math.Nat.{le-max_left, le-max_right, max-le}
-use Rattle.std.proofs.lemmas.Int.{ints, to_z-of_z}
+use Rattle.std.proofs.lemmas.Int.{ints}
 use Rattle.std.proofs.lemmas.List.Elements.{All-get_or}
-use Rattle.std.proofs.lemmas.Option.{same_Some, slice_get_within, get_or_from_slice_get, slice_get-get_or}
-use Rattle.fraction.specs.Rational.{ℚ, floor_div}
+use Rattle.std.proofs.lemmas.Option.{slice_get-get_or}
+use Rattle.fraction.specs.Rational.{ℚ}
 use Rattle.problem_box.specs.declared.span.Span.{Span}
-use Rattle.problem_box.specs.Changes.{IsFirstFree}
-use Rattle.problem.specs.Limited.{IsModestSpan, IsLimited}
-use Rattle.problem.specs.Feasible.{objective_at}
-use Rattle.row_activity.specs.declared.verdict.Verdict.{Verdict}
-use Rattle.row_activity.specs.declared.verdict.Verdict.TheVariants.{Empty, Refuted, Priced, Point as OnePoint, Unsettled}
-use Rattle.row_activity.specs.Lemmas.Laws.{verdict_tells}
 use Rattle.problem.specs.Problem.{Problem}
-use Rattle.row_activity.specs.Verdicts.{verdict}
-use Rattle.row_activity.specs.Meaning.{Tells}
+use Rattle.problem.specs.Limited.{IsModestSpan}
+use Rattle.problem.specs.Feasible.{objective_at}
 use Rattle.node_tree.specs.Trees.{IsTree}
 use Rattle.node_tree.specs.Lemmas.Splitting.{length-split, splits_share}
 use Rattle.node_events.specs.declared.proof.Proof.{Proof}
 use Rattle.node_events.specs.declared.event.Event.TheVariants.{Split}
 use Rattle.derivation_book.specs.Legal.{is_legal_proof}
+use Rattle.dual_simplex.specs.Prepared.{IsRelaxationOf}
 use Rattle.event_core.specs.declared.admit.Admit.TheVariants.{Yes, NotOpen, NotYours, BadSplit, BadReason}
 use Rattle.event_core.specs.States.{State, tree_of, is_open, box_of, cutoff}
 use Rattle.event_core.specs.Judging.{judged}
@@ -32,25 +27,26 @@ use Rattle.event_core.specs.Laws.{unheld}
 use Rattle.event_core.specs.Lemmas.Passing.{passing}
 use Rattle.event_core.specs.Lemmas.Boxes.{both_within, both_tells}
 use Rattle.event_core.specs.Lemmas.Ended.{left_within}
-use Rattle.core_search.specs.declared.finding.Branching.{Branching}
-use Rattle.core_search.specs.Findings.{IsBetterPoint, IsBranching}
+use Rattle.expand.specs.declared.settlement.Branching.{Branching}
+use Rattle.expand.specs.Settlements.{IsBetterPoint, IsBranching}
+use Rattle.expand.specs.Lemmas.Bounds.{kept_bound}
+use Rattle.expand.specs.Lemmas.Events.{split_legal}
+use Rattle.core_search.specs.declared.worker.Worker.{Worker}
+use Rattle.core_search.specs.Deciding.{IsSameButCuts}
+use Rattle.core_search.specs.Workers.{IsPrepared}
+use Rattle.derivation_book.specs.declared.cut.Cut.{Cut}
 use Rattle.core_search.specs.declared.open_node.OpenNode.{OpenNode}
 use Rattle.core_search.specs.Holding.{IsHeldAlone}
-use Rattle.core_search.specs.OpenNodes.{IsOpenNode, AreOpenNodes, children}
-use Rattle.core_search.specs.Closing.{IsNumbered}
+use Rattle.core_search.specs.OpenNodes.{IsOpenNode, AreOpenNodes, children, work_left}
 use Rattle.core_search.specs.Entries.{IsGreatest}
 use Rattle.core_search.specs.Processing.{EndsNode, IsExhausted, ProcessesNode}
-use Rattle.core_search.proofs.Acting.{claimed, given_back, split_legal}
-use Rattle.core_search.proofs.OpenLists.{closed_nodes, split_nodes, offered_nodes, less_closed, less_split}
+use Rattle.core_search.proofs.Acting.{yours, claimed, given_back}
+use Rattle.core_search.proofs.OpenLists.{closed_nodes, split_nodes, offered_nodes, cut_nodes, less_closed, less_split}
 
 -- ---- results
-pub on_err : {A E P Q : Type 0} (r : Result A E) → (P → Q) → OnErr r P → OnErr r Q
-on_err (Ok x) f h = tt
-on_err (Err e) f h = f h
-
-pub on_ok : {A E P Q : Type 0} (r : Result A E) → (P → Q) → OnOk r P → OnOk r Q
-on_ok (Ok x) f h = f h
-on_ok (Err e) f h = tt
+pub on_any_ok : {A E P : Type 0} (r : Result A E) → P → OnOk r P
+on_any_ok (Ok x) h = h
+on_any_ok (Err e) h = tt
 
 pub on_any_err : {A E P : Type 0} (r : Result A E) → P → OnErr r P
 on_any_err (Ok x) h = tt
@@ -84,20 +80,6 @@ held_at s t i e h = subst (λ (u : State). IsHeldAlone u i) (sym e) h
 
 pub held_offered : (s t : State) (x : List ℤ) (i : ℕ) → t ≡ after_offer s x → IsHeldAlone s i → IsHeldAlone t i
 held_offered s t x i e h = subst (λ (u : State). IsHeldAlone u i) (sym e) (record { held = h.held; opened = h.opened })
-
--- ---- verdicts
-pub same_verdict : (p q : Problem) (box : List Span) (c d : Option ℚ) (v : Verdict) → p ≡ q → c ≡ d → v ≡ verdict p box c → v ≡ verdict q box d
-same_verdict p q box c d v a b e = e ∙ (λ k. verdict (a k) box (b k))
-
-pub verdict_meaning : (p : Problem) (box : List Span) (c : Option ℚ) (v : Verdict) → v ≡ verdict p box c → Tells p box c v
-verdict_meaning p box c v e = subst (Tells p box c) (sym e) (verdict_tells p box c)
-
-pub verdict_numbered : (p : Problem) (box : List Span) (c : Option ℚ) (v : Verdict) → IsLimited p → length box ≡ length p.spans → Tells p box c v → IsNumbered v
-verdict_numbered p box c (Empty j) l e t = let k = slice_get_within box j t.0.span t.0.there in omega (arith, k, e, l.few_columns)
-verdict_numbered p box c (Refuted i s) l e t = let k = slice_get_within p.rows i t.row t.there in omega (arith, k, l.few_rows)
-verdict_numbered p box c Priced l e t = tt
-verdict_numbered p box c OnePoint l e t = tt
-verdict_numbered p box c Unsettled l e t = tt
 
 -- ---- closings
 pub closes : (s : State) (o : OpenNode) (v proof : Proof) → IsOpenNode s o → proof ≡ v → is_legal_proof s.problem s.cuts o.area (cutoff s) v ≡ true
@@ -136,7 +118,7 @@ module _ (s : State) (o : OpenNode) (open_node : IsOpenNode s o) (b : Branching)
   reason = ap (λ ss. is_reason s.problem s.cuts ss (cutoff s) b.place.column b.place.bound b.reason) (sym open_node.area) ∙ h.holds
 
   pub split_is_legal : IsHeldAlone s o.number → IsLegal s (Some 0) (Split o.number b.place.column b.place.bound b.reason)
-  split_is_legal held = split_legal s o.number b.place.column b.place.bound b.reason held both reason
+  split_is_legal held = split_legal s 0 o.number open_node.opened (yours s o.number held) b.place.column b.place.bound b.reason both reason
 
   split_admitted : judged s None (Split o.number b.place.column b.place.bound b.reason) ≡ Yes
   split_admitted =
@@ -161,20 +143,6 @@ exhausted_unheld budget s t e h = subst (IsExhausted budget) (sym e) (
   record { node = h.1.node; opened = h.1.opened; greatest = h.1.greatest; column = h.1.column; bound = h.1.bound; reason = h.1.reason; admitted = h.1.admitted },
 )
 
--- the span of the first free column, where it was read
-module _ (ss : List Span) (j : ℕ) (free : IsFirstFree ss j) (s : Span) (there : slice_get ss j ≡ Some s) where
-  pub same_span : free.span ≡ s
-  same_span = same_Some free.span s (sym free.there ∙ there)
-
-  pub span_free : s.lo <ℤ s.hi
-  span_free = subst (λ (t : Span). t.lo <ℤ t.hi) same_span free.free
-
-  pub span_modest : All IsModestSpan ss → IsModestSpan s
-  span_modest m = subst IsModestSpan (get_or_from_slice_get ss j s s there) (All-get_or IsModestSpan ss j s (slice_get_within ss j s there) m)
-
-  pub middle_is : (b : ℤ) → b ≡ floor_div (s.lo +ℤ s.hi) 2 → b ≡ floor_div (free.span.lo +ℤ free.span.hi) 2
-  middle_is b e = e ∙ ap (λ (t : Span). floor_div (t.lo +ℤ t.hi) 2) (sym same_span)
-
 -- what the two children of a split ask of its box
 module _ (ss : List Span) (j : ℕ) (b : ℤ) (h : has_both (slice_get ss j) b ≡ true) where
   pub left_at : ForSome (slice_get ss j) (λ s. (s.lo ≤ℤ b) × (b <ℤ s.hi))
@@ -191,26 +159,23 @@ module _ (ss : List Span) (j : ℕ) (b : ℤ) (h : has_both (slice_get ss j) b �
       let n = All-get_or IsModestSpan ss j no_span l m in
       omega (arith, ints, k.0, k.1, n.0, n.1)
 
--- the bound as the code keeps it
-pub kept_bound : (b : ℤ) → nat_abs b ≤ 10 ^ 9 → to_z w64 (of_z w64 b) ≡ b
-kept_bound b h = grind (arith, ints, to_z-of_z, h)
-
 module _ (s : State) (box : List Span) (b : Branching) (h : IsBranching s box b) (m : All IsModestSpan box) where
   pub kept_is : to_z w64 (of_z w64 b.place.bound) ≡ b.place.bound
   kept_is = kept_bound b.place.bound (bound_modest box b.place.column b.place.bound h.both m)
 
-  pub kept_branching : IsBranching s box (record { place = record { column = b.place.column; bound = to_z w64 (of_z w64 b.place.bound) }; reason = b.reason })
-  kept_branching = subst (λ y. IsBranching s box (record { place = record { column = b.place.column; bound = y }; reason = b.reason })) (sym kept_is) (record { both = h.both; holds = h.holds })
+  pub kept_branching : IsBranching s box (record { place = record { column = b.place.column; bound = to_z w64 (of_z w64 b.place.bound) }; reason = b.reason; value = b.value })
+  kept_branching = subst (λ y. IsBranching s box (record { place = record { column = b.place.column; bound = y }; reason = b.reason; value = b.value })) (sym kept_is) (record { both = h.both; holds = h.holds })
 
-pub ends_split : (budget : ℕ) (s t : State) (os us : List OpenNode) (o : OpenNode) (j : ℕ) (b : ℤ) → t ≡ after_split s o.number j b → us ≡ os ++ children (length s.nodes) o.area j b
-    → IsHeldAlone s o.number → AreOpenNodes s (os ++ o ∷ []) → IsTree (tree_of s) → length s.ended ≡ length s.nodes → length s.nodes + 2 ≤ budget → EndsNode budget s (os ++ o ∷ []) t us
-ends_split budget s t os us o j b e q h boxes tree size l =
+pub ends_split : (budget : ℕ) (s t : State) (os us : List OpenNode) (o : OpenNode) (j : ℕ) (b : ℤ) (value : Option ℚ) → t ≡ after_split s o.number j b → us ≡ os ++ children (length s.nodes) o.area j b value
+    → IsHeldAlone s o.number → AreOpenNodes s (os ++ o ∷ []) → IsTree (tree_of s) → length s.ended ≡ length s.nodes → j < length s.problem.spans → length s.nodes + 2 ≤ budget
+    → EndsNode budget s (os ++ o ∷ []) t us
+ends_split budget s t os us o j b value e q h boxes tree size within l =
     let there : o.number < length s.nodes = omega (arith, left_within s.ended o.number h.opened, size) in
-    let two = children (length s.nodes) o.area j b in
+    let two = children (length s.nodes) o.area j b value in
     subst (λ (u : State). EndsNode budget s (os ++ o ∷ []) u us) (sym e)
     (subst (λ vs. EndsNode budget s (os ++ o ∷ []) (after_split s o.number j b) vs) (sym q) (record {
       unheld = given_back s o.number h;
-      nodes = split_nodes s os o boxes j b size (splits_share (tree_of s) tree o.number j b there);
+      nodes = split_nodes s os o boxes j b value size (splits_share (tree_of s) tree o.number j b there) within;
       less = less_split budget (length s.nodes) (length (after_split s o.number j b).nodes) os two o refl (length-split (tree_of s) o.number j b) l;
     }))
 
@@ -218,6 +183,60 @@ ends_split budget s t os us o j b e q h boxes tree size l =
 pub held_claimed : (s t : State) (i : ℕ) → t ≡ after_claim s (Some 0) i → s.holds ≡ [] → is_open s i ≡ true → IsHeldAlone t i
 held_claimed s t i e h o = subst (λ (u : State). IsHeldAlone u i) (sym e) (claimed s i h o)
 
--- where it wasn't ended, the state is as before
-pub not_ended : (budget : ℕ) (s t : State) (before after : List OpenNode) (more : Bool) → ProcessesNode budget s before t after more → more ≡ false → (t ≡ s) × IsExhausted budget s
+pub prepared_claimed : (s t : State) (i : ℕ) (w : Worker) → t ≡ after_claim s (Some 0) i → IsPrepared s w → IsPrepared t w
+prepared_claimed s t i w e h = subst (λ (u : State). IsPrepared u w) (sym e) (record { all_cuts = h.all_cuts; prepared = h.prepared; costs = h.costs; limit = h.limit })
+
+-- what the worker keeps, where problem and cuts stay
+pub still_prepared : (s t : State) (w : Worker) → t.problem ≡ s.problem → t.cuts ≡ s.cuts → IsPrepared s w → IsPrepared t w
+still_prepared s t w p c h = record {
+  all_cuts = h.all_cuts ∙ ap length (sym c);
+  prepared = subst (λ (q : Problem). IsRelaxationOf q t.cuts w.relaxation) (sym p) (subst (λ (cs : List Cut). IsRelaxationOf s.problem cs w.relaxation) (sym c) h.prepared);
+  costs = h.costs ∙ ap (λ (q : Problem). length q.spans) (sym p);
+  limit = h.limit;
+}
+
+-- ---- states that differ in cuts
+pub same_cuts : (s t : State) → t ≡ s → IsSameButCuts s t
+same_cuts s t e = e ∙ ap (λ cs. record s { cuts = cs }) (ap (λ (u : State). u.cuts) (sym e))
+
+pub joined_cuts : (s t u : State) → IsSameButCuts s t → IsSameButCuts t u → IsSameButCuts s u
+joined_cuts s t u h k = k ∙ ap (λ (v : State). record v { cuts = u.cuts }) h
+
+pub held_cuts : (s t : State) (i : ℕ) → IsSameButCuts s t → IsHeldAlone s i → IsHeldAlone t i
+held_cuts s t i e h = subst (λ (u : State). IsHeldAlone u i) (sym e) (record { held = h.held; opened = h.opened })
+
+pub node_cuts : (s t : State) (o : OpenNode) → IsSameButCuts s t → IsOpenNode s o → IsOpenNode t o
+node_cuts s t o e h = subst (λ (u : State). IsOpenNode u o) (sym e) (record { opened = h.opened; area = h.area; origin = h.origin })
+
+pub nodes_cuts : (s t : State) (os : List OpenNode) → IsSameButCuts s t → AreOpenNodes s os → AreOpenNodes t os
+nodes_cuts s t os e h = subst (λ (u : State). AreOpenNodes u os) (sym e) (cut_nodes s t.cuts os h)
+
+-- the budget, from before the cuts
+pub after_cuts_within : (budget : ℕ) (s t u : State) → IsSameButCuts s t → length u.nodes ≤ max budget (length t.nodes) → length u.nodes ≤ max budget (length s.nodes)
+after_cuts_within budget s t u e h = between_within budget s t u u (ap (λ (v : State). v.nodes) e) h refl
+
+-- what ends a node after cuts were made ends it
+pub ends_after_cuts : (budget : ℕ) (s t u : State) (before after : List OpenNode) → IsSameButCuts s t → EndsNode budget t before u after → EndsNode budget s before u after
+ends_after_cuts budget s t u before after e h = record {
+  unheld = h.unheld;
+  nodes = h.nodes;
+  less = subst (λ n. work_left budget u after < budget - n + length before) (ap (λ (v : State). length v.nodes) e) h.less;
+}
+
+pub closed_after_cuts : (budget : ℕ) (s t u : State) (os : List OpenNode) (o : OpenNode) → IsSameButCuts s t → u ≡ after_close t o.number → IsHeldAlone s o.number → AreOpenNodes s (os ++ o ∷ [])
+    → EndsNode budget s (os ++ o ∷ []) u os
+closed_after_cuts budget s t u os o c e h b =
+    ends_after_cuts budget s t u (os ++ o ∷ []) os c (ends_closed budget t u os o e (held_cuts s t o.number c h) (nodes_cuts s t (os ++ o ∷ []) c b))
+
+pub point_after_cuts : (budget : ℕ) (s t u : State) (x : List ℤ) (os : List OpenNode) (o : OpenNode) → IsSameButCuts s t → u ≡ after_close (after_offer t x) o.number → IsHeldAlone s o.number
+    → AreOpenNodes s (os ++ o ∷ []) → EndsNode budget s (os ++ o ∷ []) u os
+point_after_cuts budget s t u x os o c e h b =
+    ends_after_cuts budget s t u (os ++ o ∷ []) os c (ends_point budget t u x os o e (held_cuts s t o.number c h) (nodes_cuts s t (os ++ o ∷ []) c b))
+
+pub processed_after_cuts : (budget : ℕ) (s t u : State) (before after : List OpenNode) (ended : Bool) → IsSameButCuts s t → ProcessesNode budget t before u after ended → ProcessesNode budget s before u after ended
+processed_after_cuts budget s t u before after true e h = ends_after_cuts budget s t u before after e h
+processed_after_cuts budget s t u before after false e h = (joined_cuts s t u e h.0, h.1)
+
+-- where the node wasn't ended
+pub not_ended : (budget : ℕ) (s t : State) (before after : List OpenNode) (more : Bool) → ProcessesNode budget s before t after more → more ≡ false → IsSameButCuts s t × IsExhausted budget t
 not_ended budget s t before after more h e = subst (ProcessesNode budget s before t after) e h

@@ -30,7 +30,7 @@ use Rattle.event_core.specs.Lemmas.Boxes.{both_tells}
 use Rattle.event_core.specs.Lemmas.Ended.{is_left, left_within, count, count-ended, count-two}
 use Rattle.problem_box.specs.PointCount.{point_count}
 use Rattle.core_search.specs.Laws.{SplitsHavePoints}
-use Rattle.core_search.proofs.Entering.{from-problem}
+use Rattle.event_core.specs.Lemmas.Running.{from-problem}
 use Rattle.problem_box.specs.Lemmas.PointCount.{AreHalves, are_halves}
 use Rattle.core_search.proofs.Growing.{AreDownwards, still_downwards, box_kept, left_box, right_box}
 

@@ -1,8 +1,8 @@
 pub mod OpenNodes
 pub mod Holding
 pub mod Entries
-pub mod Closing
-pub mod Findings
+pub mod Workers
+pub mod Deciding
 pub mod Endings
 pub mod Processing
 pub mod Laws

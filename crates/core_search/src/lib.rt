@@ -1,18 +1,14 @@
-//! A search by one worker, as events of a state: the open node of greatest number is next, and what the verdict on its box leaves open is settled by
-//! its linear program.
+//! A search by one worker, as events of a state: the open node of greatest number is next. What is found of it is settled, and where that are cuts, it
+//! is looked at again.
 #![tactic(auto)]
 
-mod branching;
-mod closing;
-mod corners;
+mod deciding;
 mod events;
-mod finding;
 pub mod laws;
 mod node_loop;
 mod open_node;
-mod optimum;
 mod process;
-mod relaxing;
 mod step;
+mod worker;
 
 pub use node_loop::{Ending, search};

@@ -5,12 +5,14 @@ ghost use Rattle.problem.specs.Limited.{IsModestSpan};
 ghost use Rattle.node_tree.specs.Trees.{IsTree};
 ghost use Rattle.event_core.specs.States.{tree_of};
 ghost use Rattle.event_core.specs.Sound.{IsSound};
-ghost use Rattle.core_search.specs.OpenNodes.{children, IsOpenNode, AreOpenNodes};
-ghost use Rattle.core_search.specs.Closing.{IsPart, VerdictsClose};
+ghost use Rattle.expand.specs.Verdicts.{IsPart};
+ghost use Rattle.core_search.specs.OpenNodes.{origin_of, children, IsOpenNode, AreOpenNodes};
 
-use derivation_book::laws::{prices_bound, proofs_are_decided};
-use event_core::State;
+use event_core::{SplitPlace, State};
+use expand::Origin;
+use fraction::Frac;
 use problem_box::IntBox;
+use pseudo_cost::Side;
 use std::alloc::{AllocError, Global};
 
 /// An open node with its box. The box is kept, since it would take a walk to node 0 to make it again.
@@ -20,6 +22,8 @@ pub struct OpenNode {
     pub number: u32,
     /// The node's box.
     pub area: IntBox,
+    /// The split that made the node, where this search made it by a fractional optimum.
+    pub origin: Option<Origin>,
 }
 
 /// The open nodes of a state, by rising number. The one error is want of memory.
@@ -34,41 +38,68 @@ pub fn open_nodes(alloc: Global, state: &State) -> Result<Vec<OpenNode>, AllocEr
     for number in 0..count {
         if state.is_open(number) {
             let area = tree.box_of(alloc, number)?;
-            nodes.push(OpenNode { number, area })?;
+            nodes.push(OpenNode {
+                number,
+                area,
+                origin: None,
+            })?;
         }
     }
     Ok(nodes)
 }
 
-/// Adds the two children of a node that is split: the left one has this number, and the right one the next. The one error is want of memory.
+/// The origin of a child on this side of a split in a column, where the parent's optimal value is known.
+fn origin_of(column: u32, side: Side, value: &Option<Frac>) -> Option<Origin>
+    ensures { result ≡ origin_of column side value.now }
+{
+    match value {
+        Some(value) => Some(Origin {
+            column: column as usize,
+            side,
+            value: *value,
+        }),
+        None => None,
+    }
+}
+
+/// Adds the two children of a node that is split: the left one has this number, and the right one the next. The parent's optimal value is told where
+/// it is known. The one error is want of memory.
 pub fn push_children(
     alloc: Global,
     nodes: &mut Vec<OpenNode>,
     number: u32,
     area: IntBox,
-    column: usize,
-    bound: i64,
+    place: SplitPlace,
+    value: Option<Frac>,
 ) -> Result<(), AllocError>
     requires room { number + 1 < 2 ^ 32 }
-    requires column { column < length area }
-    requires left { ForSome (slice_get area column) (λ s. (s.lo ≤ℤ bound) × (bound <ℤ s.hi)) }
-    requires right { ForSome (slice_get area column) (λ s. (s.lo <ℤ (bound +ℤ pos 1)) × ((bound +ℤ pos 1) ≤ℤ s.hi)) }
-    requires bound { nat_abs bound ≤ 10 ^ 9 }
-    ensures { OnOk result (nodes.new.items ≡ nodes.old.items ++ children number area column bound) }
+    requires column { place.column < length area }
+    requires left { ForSome (slice_get area place.column) (λ s. (s.lo ≤ℤ place.bound) × (place.bound <ℤ s.hi)) }
+    requires right { ForSome (slice_get area place.column) (λ s. (s.lo <ℤ (place.bound +ℤ pos 1)) × ((place.bound +ℤ pos 1) ≤ℤ s.hi)) }
+    requires bound { nat_abs place.bound ≤ 10 ^ 9 }
+    ensures { OnOk result (nodes.new.items ≡ nodes.old.items ++ children number area place.column place.bound value) }
 {
+    let column = place.column as usize;
+    let left_origin = origin_of(place.column, Side::Down, &value);
+    let right_origin = origin_of(place.column, Side::Up, &value);
     let mut right = area.copy(alloc)?;
-    right.cut_low(column, bound + 1);
+    right.cut_low(column, place.bound + 1);
     let mut left = area;
-    left.cut_high(column, bound);
-    nodes.push(OpenNode { number, area: left })?;
+    left.cut_high(column, place.bound);
+    nodes.push(OpenNode {
+        number,
+        area: left,
+        origin: left_origin,
+    })?;
     nodes.push(OpenNode {
         number: number + 1,
         area: right,
+        origin: right_origin,
     })?;
     Ok(())
 }
 
-/// What is true of an open node and of the verdicts on its box. This computes nothing: its contract is for callers' proofs.
+/// What is true of an open node. This computes nothing: its contract is for callers' proofs.
 pub fn node_conditions_hold(state: &State, node: &OpenNode)
     requires { IsOpenNode state.now.state node.now }
     ensures sound { IsSound state.now.state }
@@ -77,12 +108,8 @@ pub fn node_conditions_hold(state: &State, node: &OpenNode)
     ensures few { length node.now.area ≤ 1000 }
     ensures modest { All IsModestSpan node.now.area }
     ensures part { IsPart state.now.state.problem node.now.area }
-    ensures closes { VerdictsClose state.now.state.problem state.now.state.cuts node.now.area }
 {
     let problem = state.problem();
-    let book = state.book();
     state.conditions_hold();
     problem.limits_hold();
-    proofs_are_decided(problem, book);
-    prices_bound(problem, book);
 }

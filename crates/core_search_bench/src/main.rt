@@ -1,5 +1,5 @@
-//! A program for bench/search.sh. With no word it searches small knapsacks. With the words `search MODEL BUDGET` it times the search of a model, and
-//! with `claims COUNT` it claims and releases a node so many times, which tells how much memory an event takes.
+//! A program for bench/search.sh. With no word it searches small knapsacks. With the words `search MODEL BUDGET CUTS` it times the search of a model,
+//! and with `claims COUNT` it claims and releases a node so many times, which tells how much memory an event takes.
 #![tactic(auto)]
 
 mod claims;
@@ -18,10 +18,12 @@ use std::{env, fs};
 
 /// What is done with no word.
 fn show<R: Print>(rt: &R, alloc: Global) -> Result<()> {
-    show_search(rt, alloc, 10, 1, 1000)?;
-    show_search(rt, alloc, 10, 2, 1000)?;
-    show_search(rt, alloc, 30, 3, 1000)?;
-    show_search(rt, alloc, 30, 3, 10)
+    show_search(rt, alloc, 10, 1, 1000, 0)?;
+    show_search(rt, alloc, 10, 2, 1000, 0)?;
+    show_search(rt, alloc, 30, 3, 1000, 0)?;
+    show_search(rt, alloc, 30, 3, 10, 0)?;
+    show_search(rt, alloc, 10, 1, 1000, 256)?;
+    show_search(rt, alloc, 30, 3, 1000, 256)
 }
 
 /// Claims and releases the one node of a search so many times, and prints how many events the history has.
@@ -32,6 +34,14 @@ fn count<R: Print>(rt: &R, alloc: Global, claims: u32) -> Result<()> {
     Ok(())
 }
 
+/// The number that a word spells, 0 where there is none.
+fn number(word: Option<String>) -> u32 {
+    match word {
+        Some(word) => word.as_str().parse::<u32>().unwrap_or(0),
+        None => 0,
+    }
+}
+
 fn main(rt: HostRuntime) -> Result<()> {
     let alloc = rt.alloc();
     let mut words = env::args(&rt)?.skip(1);
@@ -39,16 +49,13 @@ fn main(rt: HostRuntime) -> Result<()> {
         return show(&rt, alloc);
     };
     let Some(word) = words.next() else {
-        bail!("search MODEL BUDGET, or claims COUNT");
+        bail!("search MODEL BUDGET CUTS, or claims COUNT");
     };
     if command.as_str() == "claims" {
-        return count(&rt, alloc, word.as_str().parse::<u32>().unwrap_or(0));
+        return count(&rt, alloc, number(Some(word)));
     }
-    let budget = match words.next() {
-        Some(word) => word.as_str().parse::<u32>().unwrap_or(0),
-        None => 0,
-    };
+    let (budget, cuts) = (number(words.next()), number(words.next()));
     let text = fs::read(&rt, word.as_str())?;
     let problem = problem_of(alloc, text.as_slice())?;
-    time_search(&rt, alloc, problem, budget)
+    time_search(&rt, alloc, problem, budget, cuts)
 }

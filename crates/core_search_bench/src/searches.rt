@@ -14,8 +14,10 @@ use std::time::Instant;
 // An event of a history takes at most 64 bytes beside the numbers that it carries.
 const _: () = prove!(size_of::<Entry>() <= 64);
 
-/// The greatest budget that a search may have.
+/// The greatest budget that a search may have, and the most cuts.
 const MOST_NODES: u32 = 1_000_000_000;
+
+const MOST_CUTS: u32 = 256;
 
 /// The word for an ending.
 fn word(ending: Ending) -> &'static str {
@@ -62,38 +64,55 @@ fn carried(history: &[Entry]) -> (usize, usize) {
     all
 }
 
-/// Searches a small knapsack, and prints the nodes, and how the search ended.
+/// Searches a small knapsack, and prints the nodes, the cuts, and how the search ended.
 pub(crate) fn show_search<R: Print>(
     rt: &R,
     alloc: Global,
     columns: u16,
     seed: u32,
     budget: u32,
+    cuts: u32,
 ) -> Result<()> {
     let mut state = State::new(alloc, small_knapsack(alloc, columns, seed)?)?;
-    let ending = search(alloc, &mut state, budget.min(MOST_NODES));
-    println!(rt; "{} nodes, {}", state.tree().len(), word(ending))?;
+    let ending = search(
+        alloc,
+        &mut state,
+        budget.min(MOST_NODES),
+        cuts.min(MOST_CUTS),
+    );
+    println!(rt;
+        "{} nodes, {} cuts, {}",
+        state.tree().len(),
+        state.book().len(),
+        word(ending)
+    )?;
     Ok(())
 }
 
-/// Searches a problem, and prints the nanoseconds, the nodes, how the search ended, the events, and how many multipliers and
+/// Searches a problem, and prints the nanoseconds, the nodes, the cuts, how the search ended, the events, and how many multipliers and
 /// coordinates these carry.
 pub(crate) fn time_search<R: Clock + Print>(
     rt: &R,
     alloc: Global,
     problem: Problem,
     budget: u32,
+    cuts: u32,
 ) -> Result<()> {
     let start = Instant::now(rt)?;
     let mut state = State::new(alloc, problem)?;
-    let ending = search(alloc, &mut state, budget.min(MOST_NODES));
+    let ending = search(
+        alloc,
+        &mut state,
+        budget.min(MOST_NODES),
+        cuts.min(MOST_CUTS),
+    );
     let time = start.elapsed(rt)?.as_nanos();
-    let nodes = state.tree().len();
+    let (nodes, made) = (state.tree().len(), state.book().len());
     let history = state.history();
     let events = history.len();
     let (multipliers, coordinates) = carried(history);
     println!(rt;
-        "{time} {nodes} {} {events} {multipliers} {coordinates}",
+        "{time} {nodes} {made} {} {events} {multipliers} {coordinates}",
         word(ending)
     )?;
     Ok(())

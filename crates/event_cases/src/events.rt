@@ -43,7 +43,7 @@ fn show_reason<R: Print>(rt: &R, reason: &Reason) -> io::Result<()> {
 }
 
 /// Prints an event.
-fn show_event<R: Print>(rt: &R, event: &Event) -> io::Result<()> {
+pub(crate) fn show_event<R: Print>(rt: &R, event: &Event) -> io::Result<()> {
     match event {
         Event::Claim { node } => println!(rt; "event claim {node}"),
         Event::Release { node } => println!(rt; "event release {node}"),

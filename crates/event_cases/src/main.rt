@@ -1,6 +1,7 @@
-//! Calls on events, incumbents and cuts that no whole run shows. The gate compares what it prints with `stdout`.
+//! Calls on events, their codes, incumbents and cuts that no whole run shows. The gate compares what it prints with `stdout`.
 #![tactic(auto)]
 
+mod codes;
 mod cuts;
 mod events;
 mod incumbents;
@@ -9,6 +10,7 @@ use anyhow::Result;
 
 fn main(rt: HostRuntime) -> Result<()> {
     events::show(&rt)?;
+    codes::show(&rt)?;
     incumbents::show(&rt)?;
     cuts::show(&rt)
 }

@@ -1,7 +1,7 @@
 -- The middle of the first free column of a box.
 use Rattle.std.specs.Prelude.{◌≡◌, ◌≤◌, ◌^◌, ℕ, ℤ, ◌≤ℤ◌, ◌<ℤ◌, ◌+ℤ◌, int_le, int_lt, nat_abs, true, ◌&&◌, List, All, Option, Some, slice_get}
-use Rattle.std.proofs.Common.{sym, ap, ◌∙◌, subst, arith, to_z, of_z, w64}
-use Rattle.std.proofs.lemmas.Int.{ints, to_z-of_z}
+use Rattle.std.proofs.Common.{sym, ap, ◌∙◌, subst, arith}
+use Rattle.std.proofs.lemmas.Int.{ints}
 use Rattle.std.proofs.lemmas.List.Elements.{All-get_or}
 use Rattle.std.proofs.lemmas.Option.{same_Some, slice_get_within, get_or_from_slice_get}
 use Rattle.fraction.specs.Rational.{floor_div}
@@ -43,10 +43,6 @@ module _ (ss : List Span) (j : ℕ) (free : IsFirstFree ss j) (b : ℤ) (middle 
     where
       within : (lo z hi : ℤ) → lo ≤ℤ z → z <ℤ hi → nat_abs lo ≤ 10 ^ 9 → nat_abs hi ≤ 10 ^ 9 → nat_abs z ≤ 10 ^ 9
       within lo z hi h k l m = omega (arith, ints, h, k, l, m)
-
--- a modest bound as the code keeps it
-pub kept_bound : (b : ℤ) → nat_abs b ≤ 10 ^ 9 → to_z w64 (of_z w64 b) ≡ b
-kept_bound b h = grind (arith, ints, to_z-of_z, h)
 
 -- the span of the first free column, where it was read
 module _ (ss : List Span) (j : ℕ) (free : IsFirstFree ss j) (s : Span) (there : slice_get ss j ≡ Some s) where

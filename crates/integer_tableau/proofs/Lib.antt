@@ -16,6 +16,7 @@ mod Expanded
 mod CompactPivot
 mod Programs
 mod Starting
+mod LowProducts
 mod Loops
 mod Sizes
 mod Lists

@@ -1,11 +1,11 @@
 -- The steps of the inner loop.
-use Rattle.std.proofs.Common.{◌≡◌, ◌≢◌, ℕ, ◌+◌, ◌-◌, ◌*◌, ◌^◌, ◌<◌, ◌≤◌, ℤ, pos, to_z, of_z, List, length, set, arith, ap, ◌∙◌, get_or-set_other, get_or-set_same, below_more, sym, inl, inr}
+use Rattle.std.proofs.Common.{◌≡◌, ◌≢◌, ℕ, ◌+◌, ◌-◌, ◌*◌, ◌%◌, ◌^◌, ◌<◌, ◌≤◌, ℤ, pos, to_z, of_z, List, length, set, arith, ap, ◌∙◌, get_or-set_other, get_or-set_same, below_more, sym, inl, inr}
 use Rattle.std.specs.Prelude.{nat_abs, neg_ℤ, ◌+ℤ◌, ◌-ℤ◌, ◌*ℤ◌}
 use Rattle.std.specs.Int.{w64, w128}
 use Rattle.std.proofs.lemmas.Int.{ints, to_z-of_z, fits_signed_from_abs}
 use Rattle.std.proofs.lemmas.List.{get_or_past}
 use Rattle.std.proofs.lemmas.Bool.{cases_lt}
-use Rattle.std.proofs.lemmas.Nat.{le_or_l, le_or_r}
+use Rattle.std.proofs.lemmas.Nat.{le_or_l, le_or_r, or_mod}
 use Rattle.std.specs.Int.Bits.{bit_or}
 use Rattle.std.proofs.Math.Nat.{mul-le-mul_right}
 use lib.IntN.{*ℤ_comm}
@@ -78,18 +78,33 @@ pub back_neg : (e : ℤ) → nat_abs e < 2 ^ 62 → to_z w64 (of_z w64 (pos 0 -�
 back_neg e h = omega (arith, ints)
 
 -- ---- with numbers of 64 bits
-pub narrow_more : (new row source : List ℤ) (i : ℕ) (t d m q : ℤ) (off more high far limit : ℕ) → i < length new
-    → (off ≡ 0 → high < limit → (k : ℕ) → k < i → IsDifferenceAt d m q row source new k)
-    → (more ≡ 0 → far < limit → t *ℤ d ≡ number_at source i *ℤ q -ℤ number_at row i *ℤ m)
-    → bit_or off more ≡ 0 → bit_or high far < limit → (k : ℕ) → k < i + 1 → IsDifferenceAt d m q row source (set new i t) k
-narrow_more new row source i t d m q off more high far limit l h o a b =
-    let z = or_zero off more a in
-    below_more (IsDifferenceAt d m q row source (set new i t)) i
-    (λ k n. let ne : k ≢ i = omega arith in ap (λ z. z *ℤ d) (get_or-set_other new i k t (pos 0) ne) ∙ h z.0 (omega (arith, b, le_or_l high far)) k n)
-    (ap (λ z. z *ℤ d) (get_or-set_same new i t (pos 0) l) ∙ o z.1 (omega (arith, b, le_or_r high far)))
+abbrev IsSumAt : ℤ → ℤ → ℤ → List ℤ → List ℤ → List ℤ → ℕ → Type 0
+IsSumAt d e q row source new k = number_at new k *ℤ d ≡ number_at row k *ℤ e +ℤ number_at source k *ℤ q
 
-pub fits_at : (s q x m : ℤ) (most top : ℕ) → nat_abs s ≤ most → nat_abs x ≤ top → most * nat_abs q + top * nat_abs m < 2 ^ 63 → nat_abs s * nat_abs q + nat_abs x * nat_abs m < 2 ^ 63
-fits_at s q x m most top h k l = omega (arith, l, mul-le-mul_right (nat_abs q) h, mul-le-mul_right (nat_abs m) k)
+pub summed_more : (new row source : List ℤ) (i : ℕ) (t d e q : ℤ) (high far limit zeros : ℕ) → i < length new
+    → (high < limit → high % 2 ^ zeros ≡ 0 → (k : ℕ) → k < i → IsSumAt d e q row source new k)
+    → (far < limit → far % 2 ^ zeros ≡ 0 → t *ℤ d ≡ number_at row i *ℤ e +ℤ number_at source i *ℤ q)
+    → bit_or high far < limit → bit_or high far % 2 ^ zeros ≡ 0 → (k : ℕ) → k < i + 1 → IsSumAt d e q row source (set new i t) k
+summed_more new row source i t d e q high far limit zeros l h o a b =
+    let z = or_zero (high % 2 ^ zeros) (far % 2 ^ zeros) (sym (or_mod high far zeros) ∙ b) in
+    below_more (IsSumAt d e q row source (set new i t)) i
+    (λ k n. let ne : k ≢ i = omega arith in ap (λ z. z *ℤ d) (get_or-set_other new i k t (pos 0) ne) ∙ h (omega (arith, a, le_or_l high far)) z.0 k n)
+    (ap (λ z. z *ℤ d) (get_or-set_same new i t (pos 0) l) ∙ o (omega (arith, a, le_or_r high far)) z.1)
 
-pub within_half : (t half d : ℕ) → t ≤ half → half * d < 2 ^ 63 → t * d < 2 ^ 63
-within_half t half d h k = omega (arith, k, mul-le-mul_right d h)
+pub all_summed : (new row source : List ℤ) (d e q : ℤ) → length new ≡ length row → length row ≡ length source
+    → ((k : ℕ) → k < length row → IsSumAt d e q row source new k) → (k : ℕ) → IsSumAt d e q row source new k
+all_summed new row source d e q l m h k = elim (cases_lt k (length row)) [
+  | inl p ↦ h k p
+  | inr p ↦ past k p
+]
+  where
+    past : (k : ℕ) → length row ≤ k → IsSumAt d e q row source new k
+    past k p =
+        ap (λ z. z *ℤ d) (get_or_past new k (pos 0) (omega arith)) ∙ zeros d e q
+        ∙ sym (λ i. get_or_past row k (pos 0) p i *ℤ e +ℤ get_or_past source k (pos 0) (omega arith) i *ℤ q)
+      where
+        zeros : (d e q : ℤ) → pos 0 *ℤ d ≡ pos 0 *ℤ e +ℤ pos 0 *ℤ q
+        zeros d e q = omega (arith, ints)
+
+pub fits_at : (x e s q : ℤ) (top most : ℕ) → nat_abs x ≤ top → nat_abs s ≤ most → most * nat_abs q + top * nat_abs e < 2 ^ 62 → nat_abs x * nat_abs e + nat_abs s * nat_abs q < 2 ^ 63
+fits_at x e s q top most h k l = omega (arith, l, mul-le-mul_right (nat_abs e) h, mul-le-mul_right (nat_abs q) k)

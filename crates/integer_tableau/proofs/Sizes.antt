@@ -1,9 +1,9 @@
 -- Sizes after a pivot.
-use Rattle.std.proofs.Common.{◌≡◌, ℕ, ◌+◌, ◌-◌, ◌*◌, ◌/◌, ◌^◌, ◌<◌, ◌≤◌, max, arith, ap, sym, ◌∙◌, refl, List, length, set, take, drop, ◌++◌, inl, inr, get_or-set_other, get_or-set_same}
+use Rattle.std.proofs.Common.{◌≡◌, ℕ, ◌+◌, ◌-◌, ◌*◌, ◌/◌, ◌^◌, ◌<◌, ◌≤◌, max, arith, ap, sym, subst, ◌∙◌, refl, List, length, set, take, drop, ◌++◌, inl, inr, get_or-set_other, get_or-set_same}
 use Rattle.std.specs.Prelude.{ℤ, pos, negsuc, neg_ℤ, nat_abs, ◌+ℤ◌, ◌*ℤ◌, ◌<ℤ◌}
 use Rattle.std.proofs.lemmas.Int.{ints, unsigned_abs-mul}
 use Rattle.std.proofs.lemmas.Bool.{cases_eq, cases_lt}
-use Rattle.std.proofs.lemmas.List.{length-set, get_or_past}
+use Rattle.std.proofs.lemmas.List.{length-set, get_or_past, set-get_or}
 use Rattle.std.proofs.Math.Seq.{take-append_seam}
 use Rattle.std.proofs.Math.Nat.{mul-le-mul_right, le-div_iff_mul-le}
 use Rattle.integer_tableau.specs.Numbers.{IsWithin, number_at}
@@ -72,3 +72,19 @@ step_from d e k source s l l' row m p q r h g t n = record {
   numbers = rw (r, ← p, ← q) t;
   width = rw (r, ← p) n;
 }
+
+-- the variable isn't in the row, and the denominator stays
+pub stays_from : (d e : ℤ) (k : ℕ) (source row new : List ℤ) → new ≡ row → number_at row k ≡ pos 0 → e ≡ d → IsWithin (2 ^ 62 - 1) new → IsSubstitutedRow d e k source row new
+stays_from d e k source row new same none is small = record {
+  before = subst (IsWithin (2 ^ 62 - 1)) same small;
+  after = small;
+  numbers = λ j.
+      ap (λ xs. number_at xs j *ℤ d) (same ∙ sym (ap (set row k) (sym none) ∙ set-get_or row k (pos 0)))
+      ∙ ap (λ z. number_at (set row k (pos 0)) j *ℤ z) (sym is)
+      ∙ and_none (number_at (set row k (pos 0)) j *ℤ e) (number_at source j)
+      ∙ ap (λ z. number_at (set row k (pos 0)) j *ℤ e +ℤ number_at source j *ℤ z) (sym none);
+  width = ap length same;
+}
+  where
+    and_none : (x s : ℤ) → x ≡ x +ℤ s *ℤ pos 0
+    and_none x s = omega (arith, ints)

@@ -1,104 +1,74 @@
 // The inner loop of a pivot where the numbers before the division have 64 bits.
 
-ghost use Rattle.std.specs.Prelude.{◌≡◌, ◌+◌, ◌*◌, ◌<◌, ◌≤◌, ◌^◌, nat_abs, ◌-ℤ◌, ◌*ℤ◌, length, IsTrue};
-ghost use Rattle.integer_tableau.specs.Numbers.{IsWithin};
-ghost use Rattle.integer_tableau.specs.Substitution.{IsDifference};
+ghost use Rattle.std.specs.Prelude.{◌≡◌, ℕ, ◌+◌, ◌*◌, ◌%◌, ◌<◌, ◌≤◌, ◌^◌, pos, nat_abs, ◌+ℤ◌, ◌*ℤ◌, length, IsTrue};
+ghost use Rattle.std.specs.Int.{w64, int_wrap};
+ghost use Rattle.integer_tableau.specs.Numbers.{number_at};
+ghost use Rattle.integer_tableau.specs.Substitution.{IsSubstituted};
 
-/// The product.
-#[inline(always)]
-fn product(a: i64, b: i64) -> i64
-    requires { nat_abs a * nat_abs b < 2 ^ 63 }
-    ensures value { result ≡ a *ℤ b }
-    ensures size { nat_abs result ≡ nat_abs a * nat_abs b }
-{
-    a * b
-}
-
-/// The difference.
-#[inline(always)]
-fn difference(a: i64, b: i64) -> i64
-    requires { nat_abs a + nat_abs b < 2 ^ 63 }
-    ensures { result ≡ a -ℤ b }
-{
-    a - b
-}
-
-/// `s * q - a * m`.
-#[inline(always)]
-fn determinant(a: i64, m: i64, s: i64, q: i64) -> i64
-    requires { nat_abs s * nat_abs q + nat_abs a * nat_abs m < 2 ^ 63 }
-    ensures { result ≡ s *ℤ q -ℤ a *ℤ m }
-{
-    difference(product(s, q), product(a, m))
-}
-
-/// The quotient by the number that ends in so many zeros, and whose rest has this inverse modulo 2^64, where the quotient is whole.
-#[inline(always)]
-fn trial_quotient(dividend: i64, zeros: u32, inverse: u64) -> i64 {
-    (dividend >> (zeros & 63))
-        .cast_unsigned()
-        .wrapping_mul(inverse)
-        .cast_signed()
-}
+use crate::divisor::Divisor;
 
 /// The product modulo 2^64.
 #[inline(always)]
 fn low_product(a: i64, b: i64) -> i64
-    ensures { nat_abs a * nat_abs b < 2 ^ 63 → result ≡ a *ℤ b }
+    ensures { result ≡ int_wrap w64 (a *ℤ b) }
 {
     a.wrapping_mul(b)
 }
 
-/// By how much two numbers differ modulo 2^64.
+/// `a * e + s * q` modulo 2^64.
 #[inline(always)]
-fn discrepancy(a: i64, b: i64) -> u64
-    ensures { result ≡ 0 → a ≡ b }
+fn low_sum(a: i64, e: i64, s: i64, q: i64) -> i64
+    ensures { result ≡ int_wrap w64 (a *ℤ e +ℤ s *ℤ q) }
 {
-    a.cast_unsigned().wrapping_sub(b.cast_unsigned())
+    a.wrapping_mul(e).wrapping_add(s.wrapping_mul(q))
 }
 
-/// A number below twice the limit only where the size of the quotient is at most the limit.
+/// The sum of the number and the reach modulo 2^64. It is below twice the reach only where the number's size is at most the reach. Where the
+/// reach is a multiple of a power of 2, the sum is one only where the number is.
 #[inline(always)]
-fn raised(quotient: i64, limit: u64) -> u64
-    requires { limit ≤ 2 ^ 62 }
-    ensures { result < 2 * limit → nat_abs quotient ≤ limit }
+fn raised(number: i64, reach: u64) -> u64
+    requires { reach ≤ 2 ^ 62 }
+    ensures size { result < 2 * reach → nat_abs number ≤ reach }
+    ensures whole { (k : ℕ) → k < 64 → reach % 2 ^ k ≡ 0 → result % 2 ^ k ≡ 0 → nat_abs number % 2 ^ k ≡ 0 }
 {
-    quotient.cast_unsigned().wrapping_add(limit)
+    number.cast_unsigned().wrapping_add(reach)
 }
 
-/// The source's numbers times their factor, less the row's times theirs, divided by the denominator; false where a division isn't exact, or
-/// a quotient is greater than the limit, which is a power of 2. The sizes bound the rows.
+/// The quotient by a power of 2, rounded down.
+#[inline(always)]
+fn shifted(number: i64, zeros: u32) -> i64
+    requires { zeros < 64 }
+    ensures { nat_abs number % 2 ^ zeros ≡ 0 → result *ℤ pos (2 ^ zeros) ≡ number }
+{
+    number >> zeros
+}
+
+/// The row's numbers times their factor, plus the source's times theirs, divided by the divisor; false where a division isn't exact, or a
+/// quotient is too large for the divisor's reach.
 ///
-/// It is a call of its own, as the wide one is.
+/// The factors are divided by the odd part first, modulo 2^64, so that a number of the row takes two multiplications. It is a call of its own,
+/// as the wide one is.
 #[inline(never)]
 pub(crate) fn substitute_narrow(
     row: &mut [i64],
     source: &[i64],
     row_factor: i64,
     source_factor: i64,
-    denominator: i64,
-    zeros: u32,
-    inverse: u64,
-    limit: u64,
-    row_size: u64,
-    source_size: u64,
+    divisor: Divisor,
 ) -> bool
     requires same_width { length row.old ≡ length source.now }
-    requires row_within { IsWithin row_size row.old }
-    requires source_within { IsWithin source_size source.now }
-    requires fits { source_size * nat_abs source_factor + row_size * nat_abs row_factor < 2 ^ 63 }
-    requires limit_small { limit ≤ 2 ^ 62 }
-    requires within { limit * nat_abs denominator < 2 ^ 63 }
-    ensures { IsTrue result → IsDifference denominator row_factor source_factor row.old source.now row.new }
+    requires fits { (k : ℕ) → nat_abs (number_at row.old k) * nat_abs row_factor + nat_abs (number_at source.now k) * nat_abs source_factor < 2 ^ 63 }
+    ensures { IsTrue result → IsSubstituted divisor.number row_factor source_factor row.old source.now row.new }
 {
-    let mut differences = 0;
-    let mut raised_quotients = 0;
+    let zeros = divisor.zeros;
+    let reach = divisor.reach;
+    let row_quotient = low_product(row_factor, divisor.inverse);
+    let source_quotient = low_product(source_factor, divisor.inverse);
+    let mut raised_sums = 0;
     for (i, number) in row.iter_mut().enumerate() {
-        let dividend = determinant(*number, row_factor, source[i], source_factor);
-        let quotient = trial_quotient(dividend, zeros, inverse);
-        differences |= discrepancy(low_product(quotient, denominator), dividend);
-        raised_quotients |= raised(quotient, limit);
-        *number = quotient;
+        let sum = low_sum(*number, row_quotient, source[i], source_quotient);
+        raised_sums |= raised(sum, reach);
+        *number = shifted(sum, zeros);
     }
-    differences == 0 && raised_quotients < 2 * limit
+    raised_sums < 2 * reach && raised_sums % (1 << zeros) == 0
 }

@@ -42,18 +42,7 @@ pub(crate) fn substitute(
     ensures { IsTrue result → IsSubstituted divisor.number row_factor source_factor row.old source.now row.new }
 {
     if is_narrow(row_size, row_factor, source_size, source_factor) {
-        substitute_narrow(
-            row,
-            source,
-            -row_factor,
-            source_factor,
-            divisor.number,
-            divisor.zeros,
-            divisor.inverse,
-            divisor.limit,
-            row_size,
-            source_size,
-        )
+        substitute_narrow(row, source, row_factor, source_factor, divisor)
     } else {
         substitute_wide(
             row,

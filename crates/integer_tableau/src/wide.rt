@@ -31,9 +31,9 @@ fn determinant(a: i64, m: i64, s: i64, q: i64) -> i128
 /// The quotient by the number that ends in so many zeros, and whose rest has this inverse modulo 2^64, where the quotient is whole and has
 /// 64 bits.
 #[inline(always)]
-pub(crate) fn trial_quotient(dividend: i128, zeros: u32, inverse: u64) -> i64 {
+pub(crate) fn trial_quotient(dividend: i128, zeros: u32, inverse: i64) -> i64 {
     let low = ((dividend >> (zeros & 63)).cast_unsigned() & LOW) as u64;
-    low.wrapping_mul(inverse).cast_signed()
+    low.cast_signed().wrapping_mul(inverse)
 }
 
 /// By how much the product of quotient and denominator differs from the dividend; 0 only where it doesn't.
@@ -58,7 +58,7 @@ pub(crate) fn substitute_wide(
     source_factor: i64,
     denominator: i64,
     zeros: u32,
-    inverse: u64,
+    inverse: i64,
 ) -> bool
     requires same_width { length row.old ≡ length source.now }
     requires row_small { IsWithin (2 ^ 62 - 1) row.old }

@@ -1,4 +1,4 @@
-//! Searches that go on with a greater budget: one with an optimum, and one of five nodes without a point.
+//! Searches that go on with a greater budget, without cuts and with them: one with an optimum, and one without a point.
 
 ghost use Rattle.std.specs.Prelude.{◌≡◌, ◌≤◌, []};
 
@@ -11,13 +11,13 @@ use std::io;
 
 /// Minimise -3a - 2b - 2c - d where 2a + 2b + c + d <= 2, with columns 0 or 1.
 ///
-/// At node 0 the linear program has its optimum at a = 1/2 and c = 1, so it is split in a; at node 2 it is the point a = 1, and at node 1 it reaches
-/// the cutoff.
+/// At node 0 the linear program has its optimum at a = 1/2 and c = 1, so without cuts it is split in a; at node 2 it is the point a = 1, and at node 1
+/// it reaches the cutoff. The cut a + b + c <= 1, which is half of the row and of d >= 0 and c <= 1, leaves the point a = 1 at node 0.
 const KNAPSACK: &[u8] =
     b"ROWS\n N o\n L r\nCOLUMNS\n m 'MARKER' 'INTORG'\n a o -3 r 2\n b o -2 r 2\n c o -2 r 1\n d o -1 r 1\nRHS\n r 2\nBOUNDS\n BV a\n BV b\n BV c\n BV d\nENDATA\n";
 
-/// No whole numbers give 4x + 2y = 7, x from 0 to 1 and y from 0 to 2. Node 0 is split in y at (1, 3/2), and node 2 in x at (3/4, 2); 4, 3 and 1 are
-/// refuted.
+/// No whole numbers give 4x + 2y = 7, x from 0 to 1 and y from 0 to 2. Without cuts node 0 is split in y at (1, 3/2), and node 2 in x at (3/4, 2);
+/// 4, 3 and 1 are refuted. The cuts 2x + y >= 4 and 2x + y <= 3 leave nothing of node 0.
 const PARITY: &[u8] =
     b"ROWS\n N o\n E r\nCOLUMNS\n m 'MARKER' 'INTORG'\n x r 4\n y r 2\nRHS\n r 7\nBOUNDS\n UP x 1\n UP y 2\nENDATA\n";
 
@@ -33,24 +33,27 @@ fn show_best<R: Print>(rt: &R, state: &State) -> io::Result<()> {
     }
 }
 
-/// Searches on to so many nodes, and prints how that ends.
+/// Searches on to so many nodes and cuts, and prints how that ends.
 fn show_search<R: Print + Alloc<A = Global>>(
     rt: &R,
     state: &mut State,
     budget: u32,
+    cuts: u32,
 ) -> io::Result<()>
     requires few { budget ≤ 1_000_000_000 }
+    requires few_cuts { cuts ≤ 256 }
     requires unheld { state.old.state.holds ≡ [] }
     ensures { state.new.state.holds ≡ [] }
 {
-    let ending = search(rt.alloc(), state, budget);
-    let (nodes, open, events) = (
+    let ending = search(rt.alloc(), state, budget, cuts);
+    let (nodes, made, open, events) = (
         state.tree().len(),
+        state.book().len(),
         state.open_count(),
         state.history().len(),
     );
     println!(rt;
-        "search to {budget} nodes: {ending:?}, nodes {nodes}, open {open}, events {events}"
+        "search to {budget} nodes and {cuts} cuts: {ending:?}, nodes {nodes}, cuts {made}, open {open}, events {events}"
     )?;
     show_best(rt, state)
 }
@@ -58,15 +61,19 @@ fn show_search<R: Print + Alloc<A = Global>>(
 /// The state after the search of the problem that no point satisfies.
 pub(crate) fn finished<R: Print + Alloc<A = Global>>(rt: &R) -> Result<State> {
     let mut state = State::new(rt.alloc(), problem_of(rt.alloc(), PARITY)?)?;
-    show_search(rt, &mut state, 4)?;
-    show_search(rt, &mut state, 5)?;
+    show_search(rt, &mut state, 4, 0)?;
+    show_search(rt, &mut state, 5, 0)?;
     Ok(state)
 }
 
 /// Prints how a search goes on.
 pub(crate) fn show<R: Print + Alloc<A = Global>>(rt: &R) -> Result<()> {
     let mut state = State::new(rt.alloc(), problem_of(rt.alloc(), KNAPSACK)?)?;
-    show_search(rt, &mut state, 2)?;
-    show_search(rt, &mut state, 3)?;
+    show_search(rt, &mut state, 2, 0)?;
+    show_search(rt, &mut state, 3, 0)?;
+    for model in [KNAPSACK, PARITY] {
+        let mut state = State::new(rt.alloc(), problem_of(rt.alloc(), model)?)?;
+        show_search(rt, &mut state, 1, 256)?;
+    }
     Ok(())
 }

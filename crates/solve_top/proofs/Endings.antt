@@ -15,7 +15,7 @@ use Rattle.solve_top.specs.declared.outcome.Refusal.TheVariants as refusal
 use Rattle.solve_top.specs.declared.status.Status.{Status}
 use Rattle.solve_top.specs.declared.status.Status.TheVariants as status
 use Rattle.solve_top.specs.Changes.{SinkChange, IsTold, Rises, Stays, Takes, TakesPrefix, TakesNothing}
-use Rattle.solve_top.specs.Commands.{budget_of, upper_of}
+use Rattle.solve_top.specs.Commands.{budget_of, cuts_of, upper_of}
 use Rattle.solve_top.specs.Statuses.{refused_line}
 use Rattle.solve_top.specs.Searches.{Search, end_of, HasSpent, HasTooFewNodes, IsSolved, certificate_text, lines_due}
 use Rattle.solve_top.specs.Steps.{IsReading, IsSolution, IsToldAs}
@@ -153,10 +153,15 @@ module _ (r : Run) (t : Status) (ends : EndsWith r t) (command : is_command r.wo
     outcome_promise (Err q) found reading h told = absurd h
 
     -- of a run whose text reads as a problem
-    pub promise_told : (upper : Option ℕ) (budget : ℕ) (o : Result Answer Refusal) → upper ≡ upper_of r.words → budget ≡ budget_of r.words
-        → AreLegal s.problem s.history → length (end_of s).nodes ≤ budget → IsReading r.model upper (Ok s.problem) → IsSolution budget s r.cert o
-        → IsToldAs r.out o t → KeepsPromise r
-    promise_told upper budget o same few legal within reading h told =
+    pub promise_told : (upper : Option ℕ) (budget cuts : ℕ) (o : Result Answer Refusal) → upper ≡ upper_of r.words → budget ≡ budget_of r.words
+        → cuts ≡ cuts_of r.words → AreLegal s.problem s.history → length (end_of s).nodes ≤ budget → length (end_of s).cuts ≤ cuts
+        → IsReading r.model upper (Ok s.problem) → IsSolution budget s r.cert o → IsToldAs r.out o t → KeepsPromise r
+    promise_told upper budget cuts o same few limit legal within few_cuts reading h told =
         let asked : IsReading r.model (upper_of r.words) (Ok s.problem) = subst (λ u. IsReading r.model u (Ok s.problem)) same reading in
-        let found : IsSearchOf r s = record { problem = asked.0; legal = legal; within = subst (λ n. length (end_of s).nodes ≤ n) few within } in
+        let found : IsSearchOf r s = record {
+          problem = asked.0;
+          legal = legal;
+          within = subst (λ n. length (end_of s).nodes ≤ n) few within;
+          few_cuts = subst (λ n. length (end_of s).cuts ≤ n) limit few_cuts;
+        } in
         outcome_promise o found asked (subst (λ n. IsSolution n s r.cert o) few h) told

@@ -38,6 +38,16 @@ within_budget first r budget some begins within stands =
     let one : length first.nodes ≡ 1 = ap (λ (s : State). length s.nodes) begins in
     subst (λ (s : State). length s.nodes ≤ budget) stands (at_most (length r.state.nodes) budget some (subst (λ n. length r.state.nodes ≤ max budget n) one within))
 
+none_before : (n b : ℕ) → n ≤ max b 0 → n ≤ b
+none_before n b l = grind arith
+
+-- a search that begins without cuts keeps to their limit
+pub within_cuts : (first : State) (r : Recorded) (limit : ℕ) → first ≡ first_state first.problem → length r.state.cuts ≤ max limit (length first.cuts)
+    → r.state ≡ state_of r.state.problem r.history → length (end_of (search_of r)).cuts ≤ limit
+within_cuts first r limit begins within stands =
+    let none : length first.cuts ≡ 0 = ap (λ (s : State). length s.cuts) begins in
+    subst (λ (s : State). length s.cuts ≤ limit) stands (none_before (length r.state.cuts) limit (subst (λ n. length r.state.cuts ≤ max limit n) none within))
+
 -- ---- what is handed back
 module _ (r : Recorded) (stands : r.state ≡ state_of r.state.problem r.history) where
   due_at : lines_at r.state ≡ lines_due (search_of r)

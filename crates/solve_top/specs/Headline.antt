@@ -8,7 +8,7 @@ use Rattle.command_words.specs.Commands.{is_command}
 use Rattle.solve_top.specs.declared.status.Status.{Status}
 use Rattle.solve_top.specs.declared.status.Status.TheVariants as status
 use Rattle.solve_top.specs.Changes.{SourceChange, SinkChange, Rises, Stays, Takes, TakesPrefix, TakesNothing, IsTold, BreaksOff}
-use Rattle.solve_top.specs.Commands.{budget_of, upper_of}
+use Rattle.solve_top.specs.Commands.{budget_of, cuts_of, upper_of}
 use Rattle.solve_top.specs.Searches.{Search, end_of, HasFinished, HasSpent, HasTooFewNodes, IsSolved, certificate_text, lines_due}
 use Rattle.solve_top.specs.Statuses.{exit_number, refused_line}
 
@@ -30,12 +30,13 @@ EndsWith r s = r.number ≡ exit_number s
 abbrev pub HasProblem : Run → Type 0
 HasProblem r = (p : Problem) × Reads r.model.text (upper_of r.words) p
 
--- The search is one of the problem that the text reads as, where the source tells its text. Its events are legal in turn, and its tree has at most
--- as many nodes as the words ask for.
+-- The search is one of the problem that the text reads as, where the source tells its text. Its events are legal in turn, and it has at most as many
+-- nodes and cuts as the words ask for.
 pub record IsSearchOf (r : Run) (s : Search) : Type 0 where
   pub problem : r.model.tells ≡ true → Reads r.model.text (upper_of r.words) s.problem
   pub legal : AreLegal s.problem s.history
   pub within : length (end_of s).nodes ≤ budget_of r.words
+  pub few_cuts : length (end_of s).cuts ≤ cuts_of r.words
 
 -- the run hands back a search, of which that is true
 abbrev pub HandsBack : Run → (Search → Type 0) → Type 0

@@ -2,7 +2,7 @@
 ghost use Rattle.std.specs.Prelude.{◌≡◌, ◌≤◌, ◌^◌, true, IfOk, IfErr};
 ghost use Rattle.mps_reader.specs.Refusals.{IsModestUpper};
 ghost use Rattle.command_words.specs.Commands.{HasRanges, asked, is_command};
-ghost use Rattle.solve_top.specs.Commands.{budget_of, nodes_asked, upper_asked, upper_of};
+ghost use Rattle.solve_top.specs.Commands.{budget_of, cuts_of, limits_asked, upper_asked, upper_of};
 ghost use Rattle.solve_top.specs.Steps.{RefusesWords};
 
 use crate::outcome::Refusal;
@@ -14,25 +14,29 @@ use std::alloc::Global;
 pub struct Limits {
     // The most nodes.
     pub budget: u32,
+    // The most cuts.
+    pub cuts: u32,
     // The upper bound of each column that has none.
     pub upper: Option<u32>,
 }
 
 // The limits that this command asks for.
 fn limits_in(command: &Command) -> Limits
-    ensures budget { result.budget ≡ nodes_asked (Some (asked command.now)) }
+    ensures budget { result.budget ≡ (limits_asked (Some (asked command.now))).nodes }
+    ensures cuts { result.cuts ≡ (limits_asked (Some (asked command.now))).cuts }
     ensures upper { result.upper ≡ upper_asked (Some (asked command.now)) }
-    ensures ranges { HasRanges command.now → (1 ≤ result.budget) × (result.budget ≤ 10 ^ 9) × IsModestUpper result.upper }
+    ensures ranges { HasRanges command.now → (1 ≤ result.budget) × (result.budget ≤ 10 ^ 9) × (result.cuts ≤ 256) × IsModestUpper result.upper }
 {
     match command {
         Command::Solve {
             model: _,
             journal: _,
             cert: _,
-            nodes,
+            limits,
             upper,
         } => Limits {
-            budget: *nodes,
+            budget: limits.nodes,
+            cuts: limits.cuts,
             upper: *upper,
         },
     }
@@ -42,9 +46,11 @@ fn limits_in(command: &Command) -> Limits
 pub fn limits_of(alloc: Global, words: &Words) -> Result<Limits, Refusal>
     ensures command { IfOk result (λ l. is_command words.now ≡ true) }
     ensures budget { IfOk result (λ l. l.budget ≡ budget_of words.now) }
+    ensures cuts { IfOk result (λ l. l.cuts ≡ cuts_of words.now) }
     ensures upper { IfOk result (λ l. l.upper ≡ upper_of words.now) }
     ensures some { IfOk result (λ l. 1 ≤ l.budget) }
     ensures few { IfOk result (λ l. l.budget ≤ 10 ^ 9) }
+    ensures few_cuts { IfOk result (λ l. l.cuts ≤ 256) }
     ensures modest { IfOk result (λ l. IsModestUpper l.upper) }
     ensures refused { IfErr result (RefusesWords words.now) }
 {

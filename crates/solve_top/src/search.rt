@@ -63,21 +63,25 @@ fn certify<C: Sink>(
     }
 }
 
-// Searches on as worker 0, in at most so many nodes, or in those that are there, and writes the certificate of a search that is finished.
+// Searches on as worker 0, in at most so many nodes and with at most so many cuts, or in those that are there, and writes the certificate of a
+// search that is finished.
 pub fn solve<C: Sink>(
     alloc: Global,
     state: &mut State,
     budget: u32,
+    cuts: u32,
     cert: &mut C,
 ) -> Result<Answer, Refusal>
     requires names { All IsWord state.old.state.problem.names }
     requires few { budget ≤ 10 ^ 9 }
+    requires few_cuts { cuts ≤ 256 }
     requires unheld { state.old.state.holds ≡ [] }
     ensures problem { state.new.state.problem ≡ state.old.state.problem }
     ensures within { length state.new.state.nodes ≤ max budget (length state.old.state.nodes) }
+    ensures within_cuts { length state.new.state.cuts ≤ max cuts (length state.old.state.cuts) }
     ensures solution { IsSolution budget (search_of state.new) (sink_change C.tells C.taken C.faults cert.old cert.new) result }
 {
-    match search(alloc, state, budget) {
+    match search(alloc, state, budget, cuts) {
         Ending::Finished => certify(alloc, state, budget, cert),
         Ending::Spent => {
             state.conditions_hold();

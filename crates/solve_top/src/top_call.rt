@@ -53,8 +53,9 @@ impl<D> Ran<D> {
 /// - The model is read. 5: it can't be read, which its source counted; `fault read`. 3: it has a fault;
 ///   `refused model LINE KIND`, with the number of the first line at fault, 0 where it stands at none, and the name of
 ///   a `Kind` of `mps_reader`. Columns without a bound get the one that the words give.
-/// - It is searched by worker 0. 8: the search isn't finished, and its next split would pass the number of nodes that the
-///   words ask for; `spent`, `nodes n`, `cuts c` and `open k`. No certificate is begun.
+/// - It is searched by worker 0, with at most as many cuts as the words ask for. 8: the search isn't finished, and its
+///   next split would pass the number of nodes that the words ask for; `spent`, `nodes n`, `cuts c` and `open k`. No
+///   certificate is begun.
 /// - The certificate is written. 7: it can't be, which its sink counted; `fault sink`.
 /// - The lines are written: `optimal z` or `infeasible`, `nodes n` and `cuts c`. 7: these or the lines of 8 can't be,
 ///   which their sink counted; they then end where it failed. 0: all is written.
@@ -90,7 +91,7 @@ pub fn run_one<B: BuildHasher + Drop, S: Source, D: Disk, C: Sink, O: Sink>(
         Ok(state) => state,
         Err(refusal) => return Ran::new(tell_outcome(alloc, Err(refusal), out), disk, None),
     };
-    let outcome = solve(alloc, &mut state, limits.budget, cert);
+    let outcome = solve(alloc, &mut state, limits.budget, limits.cuts, cert);
     state.conditions_hold();
     Ran::new(tell_outcome(alloc, outcome, out), disk, Some(state))
 }

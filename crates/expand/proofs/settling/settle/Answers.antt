@@ -5,7 +5,8 @@ use Rattle.expand.specs.declared.settlement.Settlement.{Settlement}
 use Rattle.event_core.specs.States.{cutoff}
 use Rattle.std.specs.Prelude.{ℤ}
 use Rattle.expand.specs.Findings.{IsLoose, Holds}
-use Rattle.expand.proofs.Middles.{middle_modest, kept_bound}
+use Rattle.expand.specs.Lemmas.Bounds.{kept_bound}
+use Rattle.expand.proofs.Middles.{middle_modest}
 use Rattle.expand.specs.Settlements.{IsSettlement}
 use Rattle.expand.specs.Settling.{improved_or_closed, settled}
 use Rattle.expand.proofs.Nodes.{IsNodeBox, node_box, few_columns}

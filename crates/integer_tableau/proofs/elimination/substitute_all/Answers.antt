@@ -1,4 +1,5 @@
-use Rattle.std.proofs.Common.{[], arith, refl, w64, to_z, of_z}
+use Rattle.std.proofs.Common.{[], arith, get_or, refl, subst, w64, to_z, of_z}
+use Rattle.std.proofs.lemmas.Int.{to_z-of_z}
 use Rattle.std.proofs.lemmas.List.{get_or_default}
 use Rattle.integer_tableau.proofs.Lists.{each_more, others_more}
 use Rattle.integer_tableau.specs.Substitution.{IsSubstitutedIfFull}
@@ -14,3 +15,6 @@ loop-row-preserved c =
           (rw (← e, ← d) (c.if-not-substitute_if_full.ensures refl));
       left = others_more [] c.args.rows.now c.loop-row.rows i c.substitute_if_full.new.self c.loop-row.invariant.left;
     }
+
+pub returns : goal.returns
+returns c = λ _ v h. subst (λ e. IsSubstitutedIfFull c.args.divisor.number e c.args.column c.args.source.now (get_or c.args.rows.now v []) (get_or c.loop-row.rows v [])) (to_z-of_z w64 c.args.pivot_size c.ranges.pivot_size) (c.loop-row.invariant.done v (omega arith))

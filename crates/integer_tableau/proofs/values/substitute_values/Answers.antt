@@ -22,3 +22,6 @@ loop-v-preserved c =
           c.in-Some.ensures);
       left = others_more (pos 0) c.args.values.now c.loop-v.values i (to_z w64 (of_z w64 c.in-Some.after)) c.loop-v.invariant.left;
     }
+
+pub returns : goal.returns
+returns c = let d = c.ranges.nonbasic_value in let m = c.ranges.pivot_size in let q = c.ranges.entering in λ _ v h. simp to_z-of_z at (c.loop-v.invariant.done v (omega arith))

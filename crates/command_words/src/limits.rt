@@ -1,0 +1,41 @@
+// The limits of a search.
+ghost use Rattle.std.specs.Prelude.{◌≡◌, ◌≤◌, Some, None, IfErr, IfOk};
+ghost use Rattle.clap.specs.Words.{found_of, rows_of};
+ghost use Rattle.command_words.specs.Commands.{AreInRange, limits_of as limits_of_rows};
+
+use crate::fault::WordsFault;
+use crate::options::number_in;
+use clap::ArgMatches;
+
+// The most nodes where the words don't say, and the largest number of them.
+const NODES: u32 = 1_000_000;
+
+const MOST_NODES: u32 = 1_000_000_000;
+
+// The most cuts: the largest number of them, and also that where the words don't say.
+const MOST_CUTS: u32 = 256;
+
+/// The limits of a search.
+#[derive(Clone, Copy, Debug, PartialEq, Eq)]
+pub struct Limits {
+    /// The most nodes of the search, 1 to 1,000,000,000; 1,000,000 where the words don't say.
+    pub nodes: u32,
+    /// The most cuts of the search, 0 to 256; 256 where the words don't say.
+    pub cuts: u32,
+}
+
+/// The limits that the matches of a command ask for.
+///
+/// `Usage`: a number isn't in its range.
+pub(crate) fn limits_of(matches: &ArgMatches<'_>) -> Result<Limits, WordsFault>
+    ensures asked { IfOk result (λ l. limits_of_rows (rows_of (found_of matches.now)) ≡ Some l) }
+    ensures range { IfOk result AreInRange }
+    ensures usage { IfErr result (λ fault. (fault ≡ WordsFault.Usage) × (limits_of_rows (rows_of (found_of matches.now)) ≡ None)) }
+{
+    let nodes = number_in(matches, "nodes", 1, MOST_NODES)?;
+    let cuts = number_in(matches, "cuts", 0, MOST_CUTS)?;
+    Ok(Limits {
+        nodes: nodes.unwrap_or(NODES),
+        cuts: cuts.unwrap_or(MOST_CUTS),
+    })
+}

@@ -1,0 +1,63 @@
+-- The limit on cuts is kept.
+use Rattle.std.specs.Prelude.{◌≡◌, ◌≤◌, ◌+◌, ◌-◌, max, ℕ, List, ◌∷◌, length, take, Option, Some, None, refl}
+use Rattle.std.proofs.Common.{sym, subst, arith}
+use Rattle.std.proofs.lemmas.List.{length-take, length_push}
+use Rattle.problem_box.specs.declared.span.Span.{Span}
+use Rattle.problem.specs.declared.row.Row.{Row}
+use Rattle.problem.specs.Linear.{Multipliers}
+use Rattle.node_events.specs.declared.event.Event.TheVariants.{Cut}
+use Rattle.derivation_book.specs.Rounded.{rounded_row}
+use Rattle.event_core.specs.States.{State}
+use Rattle.event_core.specs.After.{after, after_cut}
+use Rattle.expand.specs.declared.finding.Finding.{Finding}
+use Rattle.expand.specs.declared.finding.Finding.TheVariants.{Cuts, Shut, Whole, Solved, Loose}
+use Rattle.expand.specs.declared.settlement.Settlement.{Settlement}
+use Rattle.expand.specs.declared.settlement.Settlement.TheVariants.{Separated, Closed, Improved, Branched}
+use Rattle.expand.specs.Settling.{settled}
+use Rattle.expand.specs.Lemmas.Rooms.{IsNotSeparated, without_cuts}
+use Rattle.core_search.specs.Deciding.{KeepsToLimit}
+
+-- ---- what is to be made
+no_cuts_fit : (limit : ℕ) (s : State) (g : Settlement) → IsNotSeparated g → KeepsToLimit limit s g
+no_cuts_fit limit s (Separated mults) n = absurd (n mults refl)
+no_cuts_fit limit s (Closed proof) n = tt
+no_cuts_fit limit s (Improved x proof) n = tt
+no_cuts_fit limit s (Branched b) n = tt
+
+room_left : (limit made more : ℕ) → more ≤ limit - made → made + more ≤ max limit made
+room_left limit made more h = grind arith
+
+first_fit : (limit : ℕ) (s : State) (mults : List Multipliers) → length s.cuts + length (take (limit - length s.cuts) mults) ≤ max limit (length s.cuts)
+first_fit limit s mults =
+    let n = length-take (limit - length s.cuts) mults in
+    room_left limit (length s.cuts) (length (take (limit - length s.cuts) mults)) (grind (arith, n))
+
+pub settled_fits : (limit : ℕ) (s : State) (box : List Span) (f : Finding) → KeepsToLimit limit s (settled s box limit f)
+settled_fits limit s box (Cuts mults) = first_fit limit s mults
+settled_fits limit s box (Shut proof) = tt
+settled_fits limit s box (Whole x) = no_cuts_fit limit s _ (without_cuts s box limit (Whole x) (λ mults e. cc))
+settled_fits limit s box (Solved k x mult v column) = no_cuts_fit limit s _ (without_cuts s box limit (Solved k x mult v column) (λ mults e. cc))
+settled_fits limit s box (Loose reason j b) = no_cuts_fit limit s _ (without_cuts s box limit (Loose reason j b) (λ mults e. cc))
+
+-- ---- what is made
+made_few : (s : State) (mult : Multipliers) (o : Option Row) → length (after_cut s mult o).cuts ≤ length s.cuts + 1
+made_few s mult None = omega arith
+made_few s mult (Some r) = let n = length_push s.cuts (record { row = r; mult = mult }) in omega (arith, n)
+
+pub few_still : (s t : State) (mult : Multipliers) (mults : List Multipliers) (most : ℕ) → t ≡ after s (Some 0) (Cut mult)
+    → length s.cuts + length (mult ∷ mults) ≤ most → length t.cuts + length mults ≤ most
+few_still s t mult mults most e h =
+    let n : length t.cuts ≤ length s.cuts + 1 = subst (λ (u : State). length u.cuts ≤ length s.cuts + 1) (sym e) (made_few s mult (rounded_row s.problem s.cuts mult)) in
+    omega (arith, n, h)
+
+-- where nothing was made
+pub same_few : (s t : State) (limit : ℕ) → t ≡ s → length t.cuts ≤ max limit (length s.cuts)
+same_few s t limit e = subst (λ (u : State). length u.cuts ≤ max limit (length s.cuts)) (sym e) (grind arith)
+
+-- one after the other
+pub joined_few : (limit a b c : ℕ) → b ≤ max limit a → c ≤ max limit b → c ≤ max limit a
+joined_few limit a b c h k = grind arith
+
+-- where two of three changes make no cut
+pub between_few : (limit : ℕ) (s a t u : State) → a.cuts ≡ s.cuts → length t.cuts ≤ max limit (length a.cuts) → u.cuts ≡ t.cuts → length u.cuts ≤ max limit (length s.cuts)
+between_few limit s a t u e h f = subst (λ cs. length cs ≤ max limit (length s.cuts)) (sym f) (subst (λ cs. length t.cuts ≤ max limit (length cs)) e h)

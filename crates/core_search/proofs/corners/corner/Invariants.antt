@@ -1,6 +1,0 @@
-use Rattle.std.proofs.Common.{◌≡◌, take}
-use Rattle.core_search.specs.Closing.{corner}
-use Rattle.core_search.proofs.corners.corner.Given as goal
-
-abbrev pub invariant-loop-column : goal.invariant-loop-column
-invariant-loop-column l = l.items.items ≡ take l.column (corner l.area)

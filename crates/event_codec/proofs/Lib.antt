@@ -1,0 +1,14 @@
+pub mod Numbers
+pub mod Binds
+pub mod Fields
+pub mod Fractions
+pub mod Combined
+pub mod Lists
+pub mod Parts
+pub mod Events
+pub mod Records
+pub mod Factors
+pub mod Loops
+pub mod Elements
+pub mod Typed
+pub mod Lowest

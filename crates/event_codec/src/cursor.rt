@@ -1,0 +1,113 @@
+//! A reader of fields, from left to right.
+
+ghost use Rattle.std.specs.Prelude.{◌≡◌};
+ghost use Rattle.event_codec.specs.Places.{beginning};
+ghost use Rattle.event_codec.specs.Steps.{Reads};
+ghost use Rattle.event_codec.specs.Reading.{bytes_at, byte_at, u32_at, i64_at, i128_at, flag_at};
+
+use crate::fault::CodecFault;
+use std::marker::Model;
+
+/// A place in a payload, with the bytes from there on. Each field that is read moves it behind the field.
+#[derive(Drop)]
+pub(crate) struct Cursor<'a> {
+    at: usize,
+    rest: &'a [u8],
+}
+
+impl<'a> Model for Cursor<'a> {
+    ghost use Rattle.std.specs.Prelude.{◌+◌, ◌<◌, ◌^◌, length};
+    ghost use Rattle.event_codec.specs.Places.{Place, code_Place};
+
+    ghost Value = { Place };
+
+    ghost coded = { code_Place };
+
+    ghost view = { λ c. record { at = c.at; rest = c.rest.now } };
+
+    ghost invariant = { λ c. c.at + length c.rest.now < 2 ^ 64 };
+}
+
+impl<'a> Cursor<'a> {
+    /// The first place.
+    pub(crate) fn new(bytes: &'a [u8]) -> Cursor<'a>
+        ensures { result ≡ beginning bytes.now }
+    {
+        Cursor { at: 0, rest: bytes }
+    }
+
+    /// How many bytes were read.
+    pub(crate) fn at(&self) -> usize
+        ensures { result ≡ self.now.at }
+    {
+        self.at
+    }
+
+    /// The bytes that weren't read yet.
+    pub(crate) fn rest(&self) -> &'a [u8]
+        ensures { result.now ≡ self.now.rest }
+    {
+        self.rest
+    }
+
+    /// The next N bytes.
+    #[tactic(auto, unfolding(crate::specs::Reading::bytes_at))]
+    fn bytes<const N: usize>(&mut self) -> Result<[u8; N], CodecFault>
+        ensures { Reads result self.new (bytes_at N self.old) }
+    {
+        if self.rest.len() < N {
+            return Err(CodecFault::Short { at: self.at });
+        }
+        let (front, rest) = self.rest.split_at(N);
+        let mut bytes = [0; N];
+        bytes.copy_from_slice(front);
+        self.at += N;
+        self.rest = rest;
+        Ok(bytes)
+    }
+
+    /// One byte.
+    #[tactic(auto, unfolding(crate::specs::Reading::byte_at))]
+    pub(crate) fn byte(&mut self) -> Result<u8, CodecFault>
+        ensures { Reads result self.new (byte_at self.old) }
+    {
+        Ok(u8::from_le_bytes(self.bytes()?))
+    }
+
+    /// A number of 32 bits.
+    #[tactic(auto, unfolding(crate::specs::Reading::u32_at))]
+    pub(crate) fn u32(&mut self) -> Result<u32, CodecFault>
+        ensures { Reads result self.new (u32_at self.old) }
+    {
+        Ok(u32::from_le_bytes(self.bytes()?))
+    }
+
+    /// A signed number of 64 bits.
+    #[tactic(auto, unfolding(crate::specs::Reading::i64_at))]
+    pub(crate) fn i64(&mut self) -> Result<i64, CodecFault>
+        ensures { Reads result self.new (i64_at self.old) }
+    {
+        Ok(i64::from_le_bytes(self.bytes()?))
+    }
+
+    /// A signed number of 128 bits.
+    #[tactic(auto, unfolding(crate::specs::Reading::i128_at))]
+    pub(crate) fn i128(&mut self) -> Result<i128, CodecFault>
+        ensures { Reads result self.new (i128_at self.old) }
+    {
+        Ok(i128::from_le_bytes(self.bytes()?))
+    }
+
+    /// A flag: 0 is false, and 1 is true.
+    #[tactic(auto, unfolding(crate::specs::Reading::flag_at))]
+    pub(crate) fn flag(&mut self) -> Result<bool, CodecFault>
+        ensures { Reads result self.new (flag_at self.old) }
+    {
+        let at = self.at;
+        let flag = self.byte()?;
+        if flag >= 2 {
+            return Err(CodecFault::BadValue { at });
+        }
+        Ok(flag == 1)
+    }
+}

@@ -1,0 +1,18 @@
+//! Events of a search and the model's record as bytes: the payloads of a journal. `docs/JOURNAL.md` has the format.
+#![tactic(auto)]
+
+mod cursor;
+mod decoding;
+mod encoding;
+mod fault;
+pub mod laws;
+mod model;
+mod put;
+mod read_event;
+mod read_lists;
+mod tags;
+
+pub use decoding::decode;
+pub use encoding::encode;
+pub use fault::{CodecError, CodecFault};
+pub use model::{ModelRecord, decode_model, encode_model};
