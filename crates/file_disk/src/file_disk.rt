@@ -2,11 +2,10 @@
 ghost use Rattle.std.specs.Prelude.{◌≡◌, is_err};
 ghost use Rattle.outside.specs.Faults.{Counts};
 
+use crate::entry::sync_entry;
+use crate::opened::Opened;
 use outside::{Disk, Failed};
-use std::fs::{File, OpenOptions};
-use std::io::ErrorKind;
-use std::os::unix::fs::FileExt;
-use std::path::Path;
+use std::fs::File;
 use std::rt::Files;
 
 /// What is known of the file.
@@ -16,17 +15,22 @@ enum Place {
     Unseen,
     /// There was no file, and none was made.
     Missing,
-    Open(File),
+    Open(Opened),
 }
 
-/// A file as a disk. It is opened at the first call, for reading and writing, and made at the first write where there is
-/// none; until then it is empty. Where it is made, its entry in its folder is synced too. Without a path each call fails.
+/// A plain file as a disk. It is opened at the first call, and made at the first write where there is none; until then it is empty. Without a
+/// path each call fails.
 ///
-/// Reads and writes are at their places, whole, and a sync is the file's `sync_all`. Nobody else may write the file.
+/// Reading takes nothing from others. The first write or cut takes the file for writing until the disk is dropped, and fails where that can't
+/// be. A sync is the file's `sync_all`, and the first one that succeeds has synced its entry in its folder too.
 pub struct FileDisk<'a, R: Files<File = File>> {
     files: &'a R,
     path: &'a Option<String>,
     place: Place,
+    /// Whether the file's entry in its folder was synced.
+    entered: bool,
+    /// Whether a sync has failed. The system may then have dropped what it couldn't write, and tell so only once.
+    unsynced: bool,
     count: u64,
 }
 
@@ -36,47 +40,11 @@ impl<'a, R: Files<File = File>> Drop for FileDisk<'a, R> {
             files: _,
             path: _,
             place: _,
+            entered: _,
+            unsynced: _,
             count: _,
         } = self;
     }
-}
-
-/// The file at a path, if there is one.
-fn opened<R: Files<File = File>>(files: &R, path: &str) -> Result<Place, Failed> {
-    match OpenOptions::new().read(true).write(true).open(files, path) {
-        Ok(file) => Ok(Place::Open(file)),
-        Err(error) if error.kind() == ErrorKind::NotFound => Ok(Place::Missing),
-        Err(_) => Err(Failed),
-    }
-}
-
-/// Makes sure that the entry of a file in its folder outlives a crash.
-fn sync_entry<R: Files<File = File>>(files: &R, path: &str) -> Result<(), Failed> {
-    let folder = match Path::new(path).parent() {
-        Some(folder) if !folder.as_os_str().is_empty() => folder,
-        _ => Path::new("."),
-    };
-    let Ok(folder) = File::open(files, folder) else {
-        return Err(Failed);
-    };
-    match folder.sync_all() {
-        Ok(()) => Ok(()),
-        Err(_) => Err(Failed),
-    }
-}
-
-/// Makes the file at a path.
-fn made<R: Files<File = File>>(files: &R, path: &str) -> Result<Place, Failed> {
-    let Ok(file) = OpenOptions::new()
-        .read(true)
-        .write(true)
-        .create(true)
-        .open(files, path)
-    else {
-        return Err(Failed);
-    };
-    sync_entry(files, path)?;
-    Ok(Place::Open(file))
 }
 
 impl<'a, R: Files<File = File>> FileDisk<'a, R> {
@@ -88,6 +56,8 @@ impl<'a, R: Files<File = File>> FileDisk<'a, R> {
             files,
             path,
             place: Place::Unseen,
+            entered: false,
+            unsynced: false,
             count: 0,
         }
     }
@@ -100,7 +70,10 @@ impl<'a, R: Files<File = File>> FileDisk<'a, R> {
             return Err(Failed);
         };
         if let Place::Unseen = self.place {
-            self.place = opened(self.files, path.as_str())?;
+            self.place = match Opened::at(self.files, path.as_str())? {
+                Some(opened) => Place::Open(opened),
+                None => Place::Missing,
+            };
         }
         Ok(())
     }
@@ -114,7 +87,7 @@ impl<'a, R: Files<File = File>> FileDisk<'a, R> {
             return Err(Failed);
         };
         if let Place::Missing = self.place {
-            self.place = made(self.files, path.as_str())?;
+            self.place = Place::Open(Opened::made(self.files, path.as_str())?);
         }
         Ok(())
     }
@@ -123,12 +96,9 @@ impl<'a, R: Files<File = File>> FileDisk<'a, R> {
         ensures { self.new.count ≡ self.old.count }
     {
         self.look()?;
-        let Place::Open(file) = &self.place else {
-            return Ok(0);
-        };
-        match file.metadata() {
-            Ok(data) => Ok(data.len()),
-            Err(_) => Err(Failed),
+        match &self.place {
+            Place::Open(opened) => Ok(opened.metadata()?.len()),
+            _ => Ok(0),
         }
     }
 
@@ -136,12 +106,10 @@ impl<'a, R: Files<File = File>> FileDisk<'a, R> {
         ensures { self.new.count ≡ self.old.count }
     {
         self.look()?;
-        let Place::Open(file) = &self.place else {
-            return if buf.is_empty() { Ok(()) } else { Err(Failed) };
-        };
-        match file.read_exact_at(buf, at) {
-            Ok(()) => Ok(()),
-            Err(_) => Err(Failed),
+        match &self.place {
+            Place::Open(opened) => opened.read(at, buf),
+            _ if buf.is_empty() => Ok(()),
+            _ => Err(Failed),
         }
     }
 
@@ -149,12 +117,9 @@ impl<'a, R: Files<File = File>> FileDisk<'a, R> {
         ensures { self.new.count ≡ self.old.count }
     {
         self.make()?;
-        let Place::Open(file) = &self.place else {
-            return Err(Failed);
-        };
-        match file.write_all_at(bytes, at) {
-            Ok(()) => Ok(()),
-            Err(_) => Err(Failed),
+        match &mut self.place {
+            Place::Open(opened) => opened.write(at, bytes),
+            _ => Err(Failed),
         }
     }
 
@@ -162,26 +127,39 @@ impl<'a, R: Files<File = File>> FileDisk<'a, R> {
         ensures { self.new.count ≡ self.old.count }
     {
         self.look()?;
-        let Place::Open(file) = &self.place else {
-            return if size == 0 { Ok(()) } else { Err(Failed) };
-        };
-        match file.set_len(size) {
-            Ok(()) => Ok(()),
-            Err(_) => Err(Failed),
+        match &mut self.place {
+            Place::Open(opened) => opened.cut(size),
+            _ if size == 0 => Ok(()),
+            _ => Err(Failed),
         }
     }
 
-    fn try_sync(&mut self) -> Result<(), Failed>
+    /// Syncs the file, and its entry. Where there is no file, nothing has to be synced.
+    fn sync_both(&mut self) -> Result<(), Failed>
         ensures { self.new.count ≡ self.old.count }
     {
         self.look()?;
-        let Place::Open(file) = &self.place else {
+        let (Some(path), Place::Open(opened)) = (self.path, &self.place) else {
             return Ok(());
         };
-        match file.sync_all() {
-            Ok(()) => Ok(()),
-            Err(_) => Err(Failed),
+        opened.sync()?;
+        if !self.entered {
+            sync_entry(self.files, path, opened)?;
+            self.entered = true;
         }
+        Ok(())
+    }
+
+    /// Syncs, unless that has failed before.
+    fn try_sync(&mut self) -> Result<(), Failed>
+        ensures { self.new.count ≡ self.old.count }
+    {
+        if self.unsynced {
+            return Err(Failed);
+        }
+        let result = self.sync_both();
+        self.unsynced = result.is_err();
+        result
     }
 
     /// Counts a call's fault, if it failed.

@@ -5,7 +5,7 @@
 ghost use Rattle.std.specs.Prelude.{◌<◌, ◌^◌, length};
 
 use file_disk::FileDisk;
-use node_journal::{Journal, Payloads, scan};
+use node_journal::{Journal, Scanned, scan};
 use std::alloc::Global;
 use std::fs::{self, File};
 use std::io::{Error, ErrorKind};
@@ -22,9 +22,13 @@ fn opened<'a, R: Files<File = File>>(
     alloc: Global,
     path: &'a Option<String>,
 ) -> io::Result<Journal<FileDisk<'a, R>>> {
-    match Journal::start(alloc, FileDisk::new(rt, path)) {
+    let mut disk = FileDisk::new(rt, path);
+    let Ok(scanned) = scan(alloc, &mut disk) else {
+        return Err(Error::new(ErrorKind::Other, "the journal was not read"));
+    };
+    match Journal::recover(disk, scanned) {
         Ok(journal) => Ok(journal),
-        Err(_) => Err(Error::new(ErrorKind::Other, "the journal was not opened")),
+        Err(_) => Err(Error::new(ErrorKind::Other, "the journal was not recovered")),
     }
 }
 
@@ -33,10 +37,10 @@ fn scanned<R: Files<File = File>>(
     rt: &R,
     alloc: Global,
     path: &Option<String>,
-) -> io::Result<Payloads> {
+) -> io::Result<Scanned> {
     let mut disk = FileDisk::new(rt, path);
     match scan(alloc, &mut disk) {
-        Ok(payloads) => Ok(payloads),
+        Ok(scanned) => Ok(scanned),
         Err(_) => Err(Error::new(ErrorKind::Other, "the journal was not read")),
     }
 }
@@ -87,13 +91,13 @@ fn show<R: Files<File = File> + Print>(
     alloc: Global,
     path: &Option<String>,
 ) -> io::Result<()> {
-    let payloads = scanned(rt, alloc, path)?;
-    for number in 0..payloads.count() {
-        let place = payloads.place(number);
-        let size = payloads.payload(number).len();
+    let scanned = scanned(rt, alloc, path)?;
+    for number in 0..scanned.count() {
+        let place = scanned.place(number);
+        let size = scanned.payload(number).len();
         println!(rt; "{number} at {place}: {size} bytes")?;
     }
-    println!(rt; "end at {}", payloads.end())
+    println!(rt; "end at {}", scanned.end())
 }
 
 /// Adds a payload so often.
@@ -137,9 +141,9 @@ fn time_reading<R: Files<File = File> + Clock + Print>(
     path: &Option<String>,
 ) -> io::Result<()> {
     let start = Instant::now(rt)?;
-    let payloads = scanned(rt, alloc, path)?;
+    let scanned = scanned(rt, alloc, path)?;
     let time = start.elapsed(rt)?.as_nanos();
-    println!(rt; "{time} {}", payloads.count())
+    println!(rt; "{time} {}", scanned.count())
 }
 
 fn main(rt: HostRuntime) -> io::Result<()> {

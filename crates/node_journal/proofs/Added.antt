@@ -1,54 +1,57 @@
--- A file of payloads, and one more payload.
-use Rattle.std.specs.Prelude.{◌≡◌, ℕ, ◌+◌, ◌-◌, ◌<◌, ◌^◌, Bool, true, ◌&&◌, nat_lt, List, [], ◌∷◌, ◌++◌, length, take, drop, set, Result, OnOk, OnErr, refl}
+-- A disk that holds payloads whole, and one more payload.
+use Rattle.std.specs.Prelude.{◌≡◌, ℕ, ◌+◌, ◌<◌, ◌^◌, Bool, true, ◌&&◌, nat_lt, List, [], ◌∷◌, ◌++◌, length, take, refl}
 use Rattle.std.proofs.Common.{arith, ap, inl, subst, sym, ◌∙◌, append_assoc, length-append}
-use Rattle.std.proofs.Math.Seq.{set-append_seam}
 use Rattle.std.proofs.lemmas.Bool.Decides.{nat_tests}
-use Rattle.std.proofs.lemmas.List.{append-nil, take_at, drop_at}
+use Rattle.std.proofs.lemmas.List.{append-nil, take_at}
 use Rattle.std.proofs.lemmas.List.Folds.{list_all-append}
 use Rattle.std.specs.List.{list_all}
-use Rattle.node_journal.specs.Records.{mark, records}
-use Rattle.node_journal.specs.Frames.{frame, frames_of, file_of, places_from, payloads_at, end_of, tail_of, has_small_length}
-use Rattle.node_journal.proofs.Framing.{frames_of-append, places-append, payloads_are, records_closed}
-use Rattle.node_journal.specs.Gate.{IsBeforeOrWith}
+use Rattle.outside.specs.Images.{IsImage, LeavesOnly, resting}
+use Rattle.outside.specs.Lemmas.Passing.{started, weaker}
+use Rattle.outside.specs.declared.moment.Moment.{Moment}
+use Rattle.node_journal.specs.Records.{Holds, mark, payloads_held, records}
+use Rattle.node_journal.specs.Frames.{frame, frames_of, file_of, end_of, tail_of, has_small_length}
+use Rattle.node_journal.specs.Whole.{payloads_in, IsWhole}
+use Rattle.node_journal.proofs.Framing.{frames_of-append, head_length, records_closed}
+use Rattle.node_journal.specs.Gate.{IsBefore, IsBeforeOrWith}
+use Rattle.node_journal.specs.History.{SomeFrom}
 use Rattle.node_journal.specs.Appends.{IsWithOrWithout}
-use Rattle.node_journal.proofs.Ends.{adding, last_shut}
-use Rattle.node_journal.proofs.Either.{either, on_ok2}
+use Rattle.node_journal.proofs.Ends.{adding, before_records, last_shut}
+use Rattle.node_journal.proofs.HistoryLaws.{some_weaker}
+use Rattle.node_journal.proofs.Torn.{rested}
 
--- a file of payloads that are small, and the places of their gates
-pub record IsJournalFile (file places : List ℕ) : Type 0 where
-  pub whole : file ≡ file_of (payloads_at file places)
-  pub placed : places ≡ places_from 8 (payloads_at file places)
-  pub small : list_all has_small_length (payloads_at file places) ≡ true
+-- what a disk with the file of payloads holds
+pub payloads_in-file : (m : Moment) (ps : List (List ℕ)) → list_all has_small_length ps ≡ true → m ≡ resting (file_of ps) → payloads_in m ≡ ps
+unfolding payloads_in
+payloads_in-file m ps small is = ap (λ (n : Moment). payloads_held (records n.seen)) is ∙ ap payloads_held (records_closed ps (0 ∷ []) small (last_shut (0 ∷ []) (omega arith)))
+
+pub whole_file : (m : Moment) (ps : List (List ℕ)) (end : ℕ) → list_all has_small_length ps ≡ true → m ≡ resting (file_of ps) → end ≡ end_of ps → IsWhole m end
+whole_file m ps end small is at =
+    let held = sym (payloads_in-file m ps small is) in
+    record {
+      rests = is ∙ ap (λ (qs : List (List ℕ)). resting (file_of qs)) held;
+      end_is = at ∙ ap (λ (qs : List (List ℕ)). end_of qs) held;
+      small = ap (λ (qs : List (List ℕ)). list_all has_small_length qs) (sym held) ∙ small;
+    }
 
 -- a payload is added behind the last one, and its gate opened
-module _ (file places p : List ℕ) (whole : file ≡ file_of (payloads_at file places)) (placed : places ≡ places_from 8 (payloads_at file places))
-    (small : list_all has_small_length (payloads_at file places) ≡ true) (little : length p < 2 ^ 32) where
-  abbrev pub ps : List (List ℕ)
-  ps = payloads_at file places
-
-  abbrev pub tail : List ℕ
-  tail = tail_of p
-
+module _ (ps : List (List ℕ)) (p : List ℕ) (small : list_all has_small_length ps ≡ true) (little : length p < 2 ^ 32) where
   prefix_length : length (mark ++ frames_of ps) ≡ end_of ps
   prefix_length = omega (arith, length-append mark (frames_of ps))
 
-  pub length_is : length file ≡ end_of ps + 1
-  length_is = ap length whole ∙ omega (arith, prefix_length, length-append (mark ++ frames_of ps) (0 ∷ []))
+  prefix : take (end_of ps) (file_of ps) ≡ mark ++ frames_of ps
+  prefix = take_at (mark ++ frames_of ps) (0 ∷ []) (end_of ps) prefix_length
 
-  pub prefix : take (end_of ps) file ≡ mark ++ frames_of ps
-  prefix = ap (λ (l : List ℕ). take (end_of ps) l) whole ∙ take_at (mark ++ frames_of ps) (0 ∷ []) (end_of ps) prefix_length
+  more : frames_of (ps ++ p ∷ []) ≡ frames_of ps ++ frame p
+  more = frames_of-append ps (p ∷ []) ∙ ap (λ (l : List ℕ). frames_of ps ++ l) (append-nil (frame p))
 
-  pub new_file : (mark ++ frames_of ps) ++ 1 ∷ tail ≡ file_of (ps ++ p ∷ [])
+  new_file : (mark ++ frames_of ps) ++ 1 ∷ tail_of p ≡ file_of (ps ++ p ∷ [])
   new_file =
       ap (λ (l : List ℕ). (mark ++ frames_of ps) ++ l) opened
       ∙ sym (append_assoc (mark ++ frames_of ps) (frame p) (0 ∷ []))
       ∙ ap (λ (l : List ℕ). l ++ 0 ∷ []) (append_assoc mark (frames_of ps) (frame p) ∙ ap (λ (l : List ℕ). mark ++ l) (sym more))
     where
-      opened : 1 ∷ tail ≡ frame p ++ 0 ∷ []
+      opened : 1 ∷ tail_of p ≡ frame p ++ 0 ∷ []
       opened = refl
-
-      more : frames_of (ps ++ p ∷ []) ≡ frames_of ps ++ frame p
-      more = frames_of-append ps (p ∷ []) ∙ ap (λ (l : List ℕ). frames_of ps ++ l) (append-nil (frame p))
 
   pub all_small : list_all has_small_length (ps ++ p ∷ []) ≡ true
   all_small = list_all-append has_small_length ps (p ∷ []) ∙ both (list_all has_small_length ps) (has_small_length p) small (truth (length p) little)
@@ -59,67 +62,53 @@ module _ (file places p : List ℕ) (whole : file ≡ file_of (payloads_at file 
       both : (a b : Bool) → a ≡ true → b ≡ true → (a && (b && true)) ≡ true
       both a b x y = cc
 
-  -- the staged bytes, with the gate opened
-  pub opened_file : (staged : List ℕ) (size : ℕ) → staged ≡ file ++ tail → size ≡ length file → set staged (size - 1) 1 ≡ (mark ++ frames_of ps) ++ 1 ∷ tail
-  opened_file staged size is at =
-      ap (λ (l : List ℕ). set l (size - 1) 1) (is ∙ ap (λ (l : List ℕ). l ++ tail) whole ∙ append_assoc (mark ++ frames_of ps) (0 ∷ []) tail)
-      ∙ ap (λ (k : ℕ). set ((mark ++ frames_of ps) ++ 0 ∷ tail) k 1) gate
-      ∙ set-append_seam (mark ++ frames_of ps) 0 tail 1
-    where
-      gate : size - 1 ≡ length (mark ++ frames_of ps)
-      gate = omega (arith, at, length_is, prefix_length)
+  pub next_end : end_of (ps ++ p ∷ []) ≡ end_of ps + 5 + length p
+  next_end = omega (arith, ap length more, length-append (frames_of ps) (frame p), head_length p)
 
-  pub new_place : (places' : List ℕ) → places' ≡ places ++ (length file - 1) ∷ [] → places' ≡ places ++ end_of ps ∷ []
-  new_place places' is = is ∙ ap (λ (k : ℕ). places ++ k ∷ []) (omega (arith, length_is))
+  -- what the disk holds, and what a crash leaves while the payload is written
+  module _ {n : Moment} {end : ℕ} (rests : n ≡ resting (file_of ps)) (at : end ≡ end_of ps) where
+    seen_is : n.seen ≡ file_of ps
+    seen_is = ap (λ (m : Moment). m.seen) rests
 
-  -- the staged bytes, without what was staged
-  pub unstaged : (staged : List ℕ) (size : ℕ) → staged ≡ file ++ tail → size ≡ length file → take size staged ≡ file
-  unstaged staged size is at = ap (λ (l : List ℕ). take size l) is ∙ take_at file tail size (sym at)
+    written_file : {written : List ℕ} → written ≡ tail_of p → take end n.seen ++ 1 ∷ written ≡ file_of (ps ++ p ∷ [])
+    written_file {written = written} is =
+        ap (λ (k : ℕ). take k n.seen ++ 1 ∷ written) at
+        ∙ ap (λ (l : List ℕ). take (end_of ps) l ++ 1 ∷ written) seen_is
+        ∙ ap (λ (l : List ℕ). l ++ 1 ∷ written) prefix
+        ∙ ap (λ (l : List ℕ). (mark ++ frames_of ps) ++ 1 ∷ l) is
+        ∙ new_file
 
-  -- the bytes that are written behind the gate
-  pub written_tail : (staged : List ℕ) (size : ℕ) → staged ≡ file ++ tail → size ≡ length file → drop size staged ≡ tail
-  written_tail staged size is at = ap (λ (l : List ℕ). drop size l) is ∙ drop_at file tail size (sym at)
+    pub written_rests : {m : Moment} {written : List ℕ} → m ≡ resting (take end n.seen ++ 1 ∷ written) → written ≡ tail_of p → m ≡ resting (file_of (ps ++ p ∷ []))
+    written_rests done is = done ∙ ap resting (written_file is)
 
-  rests_at : take (length file - 1) file ++ 1 ∷ tail ≡ (mark ++ frames_of ps) ++ 1 ∷ tail
-  rests_at = let e : length file - 1 ≡ end_of ps = omega (arith, length_is) in ap (λ (k : ℕ). take k file ++ 1 ∷ tail) e ∙ ap (λ (l : List ℕ). l ++ 1 ∷ tail) prefix
+    leaves : (written c : List ℕ) → written ≡ tail_of p → IsBeforeOrWith n.seen end written c → IsWithOrWithout ps p c
+    leaves written c is left =
+        adding ps p (file_of ps) c (end_of ps) all_small small refl prefix new_file
+        (subst (λ (k : ℕ). IsBeforeOrWith (file_of ps) k (tail_of p) c) at (subst (λ (l : List ℕ). IsBeforeOrWith (file_of ps) end l c) is (subst (λ (l : List ℕ). IsBeforeOrWith l end written c) seen_is left)))
 
-  pub opened_bytes : {file' : List ℕ} → file' ≡ set (file ++ tail) (length file - 1) 1 → file' ≡ take (length file - 1) file ++ 1 ∷ tail
-  opened_bytes a = a ∙ opened_file (file ++ tail) (length file) refl refl ∙ sym rests_at
+    pub leaves_with : {past : List Moment} {past' : List Moment} {now' : Moment} {written : List ℕ} → written ≡ tail_of p → LeavesOnly past n past' now' (IsBeforeOrWith n.seen end written) → LeavesOnly past n past' now' (IsWithOrWithout ps p)
+    leaves_with {past = past} {past' = past'} {now' = now'} {written = written} is run = weaker past n past' now' (IsBeforeOrWith n.seen end written) (IsWithOrWithout ps p) (λ c left. leaves written c is left) run
 
-  -- what a crash leaves while the payload is written
-  pub leaves : (seen frame c : List ℕ) (end : ℕ) → seen ≡ file → frame ≡ tail → end + 1 ≡ length file → IsBeforeOrWith seen end frame c → IsWithOrWithout ps p c
-  leaves seen frame c end same bytes at is =
-      let e : end ≡ end_of ps = omega (arith, at, length_is) in
-      adding ps p file c (end_of ps) all_small small whole prefix new_file (subst (λ (k : ℕ). IsBeforeOrWith file k tail c) e (subst (λ (l : List ℕ). IsBeforeOrWith file end l c) bytes (subst (λ (l : List ℕ). IsBeforeOrWith l end frame c) same is)))
+    pub can_leave : (from : ℕ) (past' : List Moment) → SomeFrom from past' (IsBefore n.seen) → SomeFrom from past' (λ c. records c ≡ Holds ps)
+    can_leave from past' some = some_weaker from past' (IsBefore n.seen) (λ c. records c ≡ Holds ps) (λ c left. before_records ps n.seen c small seen_is left) some
 
-  pub leaves_before : (c : List ℕ) → c ≡ file → IsWithOrWithout ps p c
-  leaves_before c e = inl (ap records (e ∙ whole) ∙ records_closed ps (0 ∷ []) small (last_shut (0 ∷ []) (omega arith)))
+    -- nothing was written yet
+    pub leaves_none : (past : List Moment) → LeavesOnly past n past n (IsWithOrWithout ps p)
+    leaves_none past = started past n (IsWithOrWithout ps p) (λ c is. inl (before_records ps n.seen c small seen_is ([], held c is ∙ sym (append-nil n.seen))))
+      where
+        held : (c : List ℕ) → IsImage n c → c ≡ n.seen
+        held c is = rested n.seen c (subst (λ m. IsImage m c) (rests ∙ ap resting (sym seen_is)) is)
 
-  module _ (file' places' : List ℕ) (is_file : file' ≡ (mark ++ frames_of ps) ++ 1 ∷ tail) (are : places' ≡ places ++ end_of ps ∷ []) where
-    new_places : places' ≡ places_from 8 (ps ++ p ∷ [])
-    new_places = are ∙ ap (λ (l : List ℕ). l ++ end_of ps ∷ []) placed ∙ sym (places-append 8 ps p)
+-- what a disk holds whole, after a payload was added
+module _ {n : Moment} {end : ℕ} (p : List ℕ) {n' : Moment} (whole : IsWhole n end) (little : length p < 2 ^ 32) (is : n' ≡ resting (file_of (payloads_in n ++ p ∷ []))) where
+  pub added_in : payloads_in n' ≡ payloads_in n ++ p ∷ []
+  added_in = payloads_in-file n' (payloads_in n ++ p ∷ []) (all_small (payloads_in n) p whole.small little) is
 
-    pub holds : payloads_at file' places' ≡ ps ++ p ∷ []
-    holds = ap (λ (l : List ℕ). payloads_at l places') (is_file ∙ new_file) ∙ ap (λ (l : List ℕ). payloads_at (file_of (ps ++ p ∷ [])) l) new_places ∙ payloads_are mark (ps ++ p ∷ []) (0 ∷ []) 8 refl all_small
+  pub added_rests : n' ≡ resting (file_of (payloads_in n'))
+  added_rests = is ∙ ap (λ (qs : List (List ℕ)). resting (file_of qs)) (sym added_in)
 
-    pub now_whole : file' ≡ file_of (payloads_at file' places')
-    now_whole = is_file ∙ new_file ∙ sym (ap file_of holds)
+  pub added_whole : {end' : ℕ} → end' ≡ end + 5 + length p → IsWhole n' end'
+  added_whole {end' = end'} at = whole_file n' (payloads_in n ++ p ∷ []) end' (all_small (payloads_in n) p whole.small little) is (omega (arith, at, whole.end_is, next_end (payloads_in n) p whole.small little))
 
-    pub now_placed : places' ≡ places_from 8 (payloads_at file' places')
-    now_placed = new_places ∙ sym (ap (λ (l : List (List ℕ)). places_from 8 l) holds)
-
-    pub now_small : list_all has_small_length (payloads_at file' places') ≡ true
-    now_small = ap (λ (l : List (List ℕ)). list_all has_small_length l) holds ∙ all_small
-
-  -- a call that adds the payload, or leaves all as it was
-  module _ {T E : Type 0} (r : Result T E) (file' places' : List ℕ) (is_file : OnOk r (file' ≡ set (file ++ tail) (length file - 1) 1)) (are : OnOk r (places' ≡ places ++ (length file - 1) ∷ [])) where
-    opened : file' ≡ set (file ++ tail) (length file - 1) 1 → file' ≡ (mark ++ frames_of ps) ++ 1 ∷ tail
-    opened a = a ∙ opened_file (file ++ tail) (length file) refl refl
-
-    pub adds : OnOk r (payloads_at file' places' ≡ ps ++ p ∷ [])
-    adds = on_ok2 r _ _ _ is_file are (λ a b. holds file' places' (opened a) (new_place places' b))
-
-    pub still_file : OnErr r (file' ≡ file) → OnErr r (places' ≡ places) → IsJournalFile file' places'
-    still_file err err_places = either r _ _ _ _ _ is_file are err err_places
-        (λ a b. let o = opened a in let n = new_place places' b in record { whole = now_whole file' places' o n; placed = now_placed file' places' o n; small = now_small file' places' o n })
-        (λ x y. subst (λ (f : List ℕ). IsJournalFile f places') (sym x) (subst (λ (l : List ℕ). IsJournalFile file l) (sym y) record { whole = whole; placed = placed; small = small }))
+  pub added_count : {count count' : ℕ} → count ≡ length (payloads_in n) → count' ≡ count + 1 → count' ≡ length (payloads_in n')
+  added_count old new = omega (arith, old, new, ap length added_in, length-append (payloads_in n) (p ∷ []))

@@ -7,7 +7,7 @@ use Rattle.outside.specs.Images.{IsImage, Leaves, LeavesOnly, NoMomentPasses, On
 use Rattle.outside.specs.declared.moment.Moment.{Moment}
 use Rattle.node_journal.specs.Appends.{IsWithOrWithout}
 use Rattle.node_journal.specs.History.{first_of, count_of, BeginsWith, IsPrefixOf, Agree, Keeps, EachFrom, SomeFrom, Anything, ExtendsMoments, IsHistory, KeepsHistory}
-use Rattle.node_journal.specs.Records.{Records, Holds, Foreign, BrokenAt, records}
+use Rattle.node_journal.specs.Records.{Records, Holds, payloads_held, records}
 
 side : (i l : ℕ) → (i ≤ l) ⊎ (l < i)
 side i l = grind arith
@@ -32,12 +32,6 @@ leaves_at P [] i m c all at is = absurd (none-some m at)
 leaves_at P (x ∷ ms) zero m c all at is = all.0 c (subst (λ n. IsImage n c) (sym (same_Some x m at)) is)
 leaves_at P (x ∷ ms) (suc i) m c all at is = leaves_at P ms i m c all.1 at is
 
--- the payloads of a list
-list_of : Records → List (List ℕ)
-list_of (Holds ps) = ps
-list_of Foreign = []
-list_of (BrokenAt place) = []
-
 pub begins_all : (ps : List (List ℕ)) → BeginsWith [] (Holds ps)
 begins_all ps = refl
 
@@ -45,7 +39,7 @@ begins_more : (qs ps more : List (List ℕ)) → BeginsWith qs (Holds ps) → Be
 begins_more qs ps more is = ap Holds (take-append-le (length qs) ps more short ∙ same)
   where
     same : take (length qs) ps ≡ qs
-    same = unfold list_of in ap list_of is
+    same = ap payloads_held is
 
     short : length qs ≤ length ps
     short = omega (arith, length-take (length qs) ps, ap length same)

@@ -1,14 +1,12 @@
 pub mod Added
 pub mod Appending
-pub mod Either
 pub mod Ends
 pub mod Repairing
 pub mod Keeping
+pub mod Marked
 pub mod Rested
 pub mod Steps
 pub mod Torn
 pub mod Whole
-pub mod Written
 pub mod Framing
 pub mod HistoryLaws
-pub mod Resting

@@ -3,7 +3,7 @@ use Rattle.std.specs.Prelude.{◌≡◌, ℕ, ◌+◌, ◌≤◌, true, List, []
 use Rattle.std.proofs.Common.{arith, ap, subst, sym, ◌∙◌, inl, length-drop, take-append-drop}
 use Rattle.std.proofs.lemmas.List.{append-nil, drop_all}
 use Rattle.std.specs.List.{list_all}
-use Rattle.outside.specs.Images.{IsImage, AtRest, LeavesOnly, OneMomentPasses, Fails, moment_after_write, moment_after_cut, resting, moment_after_sync, overwritten}
+use Rattle.outside.specs.Images.{IsImage, LeavesOnly, OneMomentPasses, Fails, moment_after_write, moment_after_cut, resting, moment_after_sync, overwritten}
 use Rattle.outside.specs.Lemmas.Passing.{started, goes_on, fails_on, weaker, joined}
 use Rattle.outside.specs.declared.moment.Moment.{Moment}
 use Rattle.node_journal.specs.Gate.{IsBefore}
@@ -12,9 +12,8 @@ use Rattle.node_journal.specs.Frames.{has_small_length, end_of}
 use Rattle.node_journal.specs.Index.{ReadsTo, EndsAt}
 use Rattle.node_journal.specs.History.{SomeFrom, Anything}
 use Rattle.node_journal.specs.Repairs.{IsPrefixAndOne}
-use Rattle.node_journal.proofs.Ends.{reads_records, nil_of, short_holds, one_records, prefix_after}
+use Rattle.node_journal.proofs.Ends.{nil_of, short_holds, one_records, prefix_after}
 use Rattle.node_journal.proofs.HistoryLaws.{some_none, some_goes, some_fails, some_joined, can_seen}
-use Rattle.node_journal.proofs.Rested.{sync_fails, sync_goes}
 use Rattle.node_journal.proofs.Torn.{rested, same_prefix, outside_one}
 
 -- a crash before a call, in its midst, and at rest after it leaves bytes that have P
@@ -61,16 +60,9 @@ module _ {p : List Moment} {n done : Moment} {p1 : List Moment} {n1 : Moment} (s
 abbrev HasAll : List (List ℕ) → List ℕ → Type 0
 HasAll ps c = records c ≡ Holds ps
 
--- a sync of a disk that reads as these payloads, and then a repair of its end
-module _ {p : List Moment} {n : Moment} {p1 : List Moment} {n1 : Moment} (ps : List (List ℕ)) (small : list_all has_small_length ps ≡ true) (rests : AtRest n) (reads : ReadsTo n.seen ps) where
-  pub unsynced : Fails p n p1 n1 (moment_after_sync n) → LeavesOnly p n p1 n1 (HasAll ps)
-  unsynced f = sync_fails (HasAll ps) p n rests (reads_records n.seen ps small reads) p1 n1 f
-
-  pub then_ended : {p2 : List Moment} {n2 : Moment} → OneMomentPasses p n p1 n1 (moment_after_sync n) → LeavesOnly p1 n1 p2 n2 (HasAll ps) → LeavesOnly p n p2 n2 (HasAll ps)
-  then_ended {p2 = p2} {n2 = n2} g run = joined p p1 p2 n n1 n2 (HasAll ps) (sync_goes (HasAll ps) p n rests (reads_records n.seen ps small reads) p1 n1 g) run
-
-  pub then_renewed : {p2 : List Moment} {n2 : Moment} → length n.seen ≤ 9 → OneMomentPasses p n p1 n1 (moment_after_sync n) → LeavesOnly p1 n1 p2 n2 (λ c. length c ≤ 9) → LeavesOnly p n p2 n2 (HasAll ps)
-  then_renewed {p2 = p2} {n2 = n2} short g run = then_ended g (weaker p1 n1 p2 n2 (λ c. length c ≤ 9) (HasAll ps) (short_holds ps (nil_of n.seen ps reads short)) run)
+-- a disk of at most 9 bytes
+pub renewed : {p : List Moment} {n : Moment} {p1 : List Moment} {n1 : Moment} (ps : List (List ℕ)) → ReadsTo n.seen ps → length n.seen ≤ 9 → LeavesOnly p n p1 n1 (λ c. length c ≤ 9) → LeavesOnly p n p1 n1 (HasAll ps)
+renewed {p = p} {n = n} {p1 = p1} {n1 = n1} ps reads short run = weaker p n p1 n1 (λ c. length c ≤ 9) (HasAll ps) (short_holds ps (nil_of n.seen ps reads short)) run
 
 -- the closed gate, after what stood behind it was taken away
 pub shut_after : {p : List Moment} {n : Moment} {p1 : List Moment} {n1 : Moment} {p2 : List Moment} {n2 : Moment} {e : ℕ} (ps : List (List ℕ)) → list_all has_small_length ps ≡ true → EndsAt n.seen ps (end_of ps) → e ≡ end_of ps
@@ -82,11 +74,6 @@ shut_after {p = p} {n = n} {p1 = p1} {n1 = n1} {p2 = p2} {n2 = n2} {e = e} ps sm
 -- one run, and then another
 pub runs_may : {from : ℕ} {p1 : List Moment} {n1 : Moment} {p2 : List Moment} {n2 : Moment} {Q : List ℕ → Type 0} → LeavesOnly p1 n1 p2 n2 Q → SomeFrom from p1 Anything → SomeFrom (length p1) p2 Anything → SomeFrom from p2 Anything
 runs_may {from = from} {p1 = p1} {n1 = n1} {p2 = p2} {n2 = n2} {Q = Q} run first next = some_joined from p1 n1 p2 n2 Anything Q run first next
-
--- a sync, and then a run
-pub then_may : {p : List Moment} {n done : Moment} {p1 : List Moment} {n1 : Moment} {p2 : List Moment} {n2 : Moment} {Q : List ℕ → Type 0} → IsImage n n.seen → OneMomentPasses p n p1 n1 done
-    → LeavesOnly p1 n1 p2 n2 Q → SomeFrom (length p1) p2 Anything → SomeFrom (length p) p2 Anything
-then_may seen g run next = runs_may run (one_may_go seen g) next
 
 -- a write of 9 bytes over at most 9
 pub short_write : (file bytes c : List ℕ) → length file ≤ 9 → length bytes ≡ 9 → IsImage (moment_after_write 0 bytes (resting file)) c → length c ≤ 9

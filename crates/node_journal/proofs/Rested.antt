@@ -1,37 +1,54 @@
--- A sync of a disk that is at rest.
-use Rattle.std.specs.Prelude.{◌≡◌, ℕ, List, length}
-use Rattle.std.proofs.Common.{subst, sym, ◌∙◌}
-use Rattle.outside.specs.Images.{IsImage, AtRest, LeavesOnly, NoMomentPasses, OneMomentPasses, Fails, moment_after_sync}
-use Rattle.outside.specs.Lemmas.Passing.{started, goes_on, fails_on, weaker}
+-- A sync of a disk that is read as some payloads, and then calls at each moment of which a crash leaves these.
+use Rattle.std.specs.Prelude.{◌≡◌, ℕ, ◌+◌, List, [], ◌∷◌, ◌++◌, length, None, refl}
+use Rattle.std.proofs.Common.{arith, ap, subst, sym, ◌∙◌, length-append}
+use Rattle.outside.specs.Images.{IsImage, AtRest, LeavesOnly, OneMomentPasses, Fails, moment_after_sync}
+use Rattle.outside.specs.Lemmas.Passing.{started, goes_on, fails_on, joined, weaker}
 use Rattle.outside.specs.declared.moment.Moment.{Moment}
-use Rattle.node_journal.specs.History.{SomeFrom, Anything}
-use Rattle.node_journal.specs.Records.{Records, records}
-use Rattle.node_journal.proofs.HistoryLaws.{some_each}
+use Rattle.node_journal.specs.History.{EachFrom, SomeFrom, Anything, KeepsHistory}
+use Rattle.node_journal.specs.Records.{Holds, records}
+use Rattle.node_journal.proofs.HistoryLaws.{run_each, some_each, some_fails, some_goes, some_joined, some_none}
+use Rattle.node_journal.proofs.Keeping.{kept_opened}
 use Rattle.node_journal.proofs.Torn.{rested}
 
-module _ (P : List ℕ → Type 0) (p : List Moment) (n : Moment) (rests : AtRest n) (here : P n.seen) where
-  before : (c : List ℕ) → IsImage n c → P c
-  before c is = subst P (sym (rests c is)) here
+-- what a crash leaves before a sync of a disk at rest, and after it
+before : (n : Moment) → AtRest n → (c : List ℕ) → IsImage n c → records c ≡ records n.seen
+before n rests c is = ap records (rests c is)
 
-  after : (c : List ℕ) → IsImage (moment_after_sync n) c → P c
-  after c is = subst P (sym (rested n.seen c is)) here
+after : (n : Moment) (c : List ℕ) → IsImage (moment_after_sync n) c → records c ≡ records n.seen
+after n c is = ap records (rested n.seen c is)
 
-  pub sync_fails : (p1 : List Moment) (n1 : Moment) → Fails p n p1 n1 (moment_after_sync n) → LeavesOnly p n p1 n1 P
-  sync_fails p1 n1 f = fails_on p p p1 n n n1 (moment_after_sync n) P (started p n P before) f before after
+here : (n : Moment) → IsImage n n.seen → (c : List ℕ) × IsImage n c × (records c ≡ records n.seen)
+here n seen = (n.seen, seen, refl)
 
-  pub sync_goes : (p1 : List Moment) (n1 : Moment) → OneMomentPasses p n p1 n1 (moment_after_sync n) → LeavesOnly p n p1 n1 P
-  sync_goes p1 n1 g = goes_on p p p1 n n n1 (moment_after_sync n) P (started p n P before) g after
+-- the sync fails
+pub sync_fails : {p : List Moment} {n : Moment} {p1 : List Moment} {n1 : Moment} → AtRest n → Fails p n p1 n1 (moment_after_sync n) → LeavesOnly p n p1 n1 (λ c. records c ≡ records n.seen)
+sync_fails {p = p} {n = n} {p1 = p1} {n1 = n1} rests f =
+    fails_on p p p1 n n n1 (moment_after_sync n) (λ c. records c ≡ records n.seen) (started p n (λ c. records c ≡ records n.seen) (before n rests)) f (before n rests) (after n)
 
--- a run after a call that let no moment go by
-pub began : (past : List Moment) (now : Moment) (mid : List Moment) (between : Moment) (past' : List Moment) (now' : Moment) (P : List ℕ → Type 0) → NoMomentPasses past now mid between
-    → LeavesOnly mid between past' now' P → LeavesOnly past now past' now' P
-began past now mid between past' now' P stands run = subst (λ m. LeavesOnly past m past' now' P) stands.same (subst (λ l. LeavesOnly l between past' now' P) stands.none run)
+pub sync_may_fail : {p : List Moment} {n : Moment} {p1 : List Moment} {n1 : Moment} → IsImage n n.seen → Fails p n p1 n1 (moment_after_sync n) → SomeFrom (length p) p1 (λ c. records c ≡ records n.seen)
+sync_may_fail {p = p} {n = n} {p1 = p1} {n1 = n1} seen f =
+    some_fails (length p) p n p1 n1 (moment_after_sync n) (λ c. records c ≡ records n.seen) (some_none p (λ c. records c ≡ records n.seen)) (here n seen) f
 
--- a disk is read, which lets no moment go by, and then repaired as the payloads that it holds
-module _ {past : List Moment} {now : Moment} {mid : List Moment} {between : Moment} {past' : List Moment} {now' : Moment} {held : Records}
-    (stands : NoMomentPasses past now mid between) (reads : records now.seen ≡ held) (run : LeavesOnly mid between past' now' (λ c. records c ≡ held)) where
-  pub opening_leaves : LeavesOnly past now past' now' (λ c. records c ≡ records now.seen)
-  opening_leaves = weaker past now past' now' (λ c. records c ≡ held) (λ c. records c ≡ records now.seen) (λ c e. e ∙ sym reads) (began past now mid between past' now' (λ c. records c ≡ held) stands run)
+-- it succeeds, and the calls behind it are made
+module _ {p : List Moment} {n : Moment} {p1 : List Moment} {n1 : Moment} {p2 : List Moment} {n2 : Moment} (ps : List (List ℕ)) (held : records n.seen ≡ Holds ps)
+    (g : OneMomentPasses p n p1 n1 (moment_after_sync n)) (run : LeavesOnly p1 n1 p2 n2 (λ c. records c ≡ Holds ps)) where
+  same_run : LeavesOnly p1 n1 p2 n2 (λ c. records c ≡ records n.seen)
+  same_run = weaker p1 n1 p2 n2 (λ c. records c ≡ Holds ps) (λ c. records c ≡ records n.seen) (λ c e. e ∙ sym held) run
 
-  pub opening_may : SomeFrom (length mid) past' Anything → SomeFrom (length past) past' (λ c. records c ≡ records now.seen)
-  opening_may offers = some_each past now past' now' (λ c. records c ≡ records now.seen) opening_leaves (subst (λ (l : List Moment). SomeFrom (length l) past' Anything) stands.none offers)
+  pub all_leave : AtRest n → LeavesOnly p n p2 n2 (λ c. records c ≡ records n.seen)
+  all_leave rests = joined p p1 p2 n n1 n2 (λ c. records c ≡ records n.seen)
+      (goes_on p p p1 n n n1 (moment_after_sync n) (λ c. records c ≡ records n.seen) (started p n (λ c. records c ≡ records n.seen) (before n rests)) g (after n)) same_run
+
+  pub all_can : IsImage n n.seen → SomeFrom (length p1) p2 Anything → SomeFrom (length p) p2 (λ c. records c ≡ records n.seen)
+  all_can seen some = some_joined (length p) p1 n1 p2 n2 (λ c. records c ≡ records n.seen) (λ c. records c ≡ records n.seen) same_run
+      (some_goes (length p) p n p1 n1 (moment_after_sync n) (λ c. records c ≡ records n.seen) (some_none p (λ c. records c ≡ records n.seen)) (here n seen) g)
+      (some_each p1 n1 p2 n2 (λ c. records c ≡ records n.seen) same_run some)
+
+  pub opened_at : (t : ℕ) → t ≡ length p1 → t ≡ length p + 1
+  opened_at t at = at ∙ omega (arith, ap length g.passed, length-append p (n ∷ []))
+
+  pub leave_since : (t : ℕ) → t ≡ length p1 → EachFrom t (p2 ++ n2 ∷ []) (λ c. records c ≡ Holds ps)
+  leave_since t at = subst (λ (k : ℕ). EachFrom k (p2 ++ n2 ∷ []) (λ c. records c ≡ Holds ps)) (sym at) (run_each p1 n1 p2 n2 (λ c. records c ≡ Holds ps) run)
+
+  pub kept_since : (t : ℕ) → t ≡ length p1 → SomeFrom (length p1) p2 Anything → KeepsHistory t p2 n2 ps None
+  kept_since t at some = kept_opened t p1 n1 p2 n2 ps (Holds ps) refl at run (some_each p1 n1 p2 n2 (λ c. records c ≡ Holds ps) run some)

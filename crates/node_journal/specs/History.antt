@@ -58,7 +58,7 @@ pub record IsHistory (from : ℕ) (ms : List Moment) : Type 0 where
   -- what all crashes at one moment leave, all crashes at each later moment leave
   pub lasting : (i j : ℕ) (m n : Moment) (ps : List (List ℕ)) → from ≤ i → i ≤ j → slice_get ms i ≡ Some m → slice_get ms j ≡ Some n → Keeps ps m → Keeps ps n
 
--- What a journal keeps of its disk, from the moment on at which it began to open it. The last is the disk's count at the fault by which it failed.
+-- What a journal of these payloads keeps of its disk, from the moment of this number on. The last is the disk's count at the fault by which it failed.
 pub record KeepsHistory (from : ℕ) (past : List Moment) (now : Moment) (ps : List (List ℕ)) (fault : Option ℕ) : Type 0 where
   pub begun : from ≤ length past
   pub history : IsHistory from (past ++ now ∷ [])

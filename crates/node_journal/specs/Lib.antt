@@ -7,3 +7,4 @@ pub mod Index
 pub mod Records
 pub mod Repairs
 pub mod Views
+pub mod Whole

@@ -52,3 +52,9 @@ records file =
     if nat_le (length file) 9
     then Holds []
     else (if starts_with nat_eq file mark then read_frames (length file) 8 (drop 8 file) else Foreign)
+
+-- the payloads of what a file holds, none where it is no journal
+abbrev pub payloads_held : Records → List (List ℕ)
+payloads_held (Holds ps) = ps
+payloads_held Foreign = []
+payloads_held (BrokenAt place) = []

@@ -1,13 +1,19 @@
--- What a journal holds.
-use Rattle.std.specs.Prelude.{ℕ, Bool, true, false, List, Result, Ok, Err}
+-- What a scan found.
+use Rattle.std.specs.Prelude.{◌≡◌, ℕ, Bool, true, false, List, length, Result, Ok, Err}
 use Rattle.node_journal.specs.Frames.{payloads_at}
-use Rattle.node_journal.specs.declared.payloads.Payloads.{Payloads}
+use Rattle.node_journal.specs.Index.{ReadsTo}
+use Rattle.node_journal.specs.declared.scanned.Scanned.{Scanned}
 use Rattle.node_journal.specs.declared.fault.JournalFault.{JournalFault}
 use Rattle.node_journal.specs.declared.fault.JournalFault.TheVariants as fault
 
 -- the payloads, the oldest first
-abbrev pub payloads_of : Payloads → List (List ℕ)
-payloads_of p = payloads_at p.file.items p.places.items
+abbrev pub payloads_of : Scanned → List (List ℕ)
+payloads_of s = payloads_at s.file.items s.places.items
+
+-- A scan of a disk that holds these bytes finds this.
+pub record IsScanOf (file : List ℕ) (s : Scanned) : Type 0 where
+  pub size : s.size ≡ length file
+  pub reads : ReadsTo file (payloads_of s)
 
 -- the fault is the disk's
 abbrev pub is_disk : JournalFault → Bool

@@ -55,6 +55,7 @@ impl From<Failed> for JournalFault {
 pub enum AppendFault {
     /// The disk failed, in this call or an earlier one, and counted it.
     Disk,
-    /// There was no memory for the payload. The journal and its disk are as before.
+    /// There was no memory for the payload, or the file would have 2^63 bytes or more. The journal and its disk are as
+    /// before.
     Memory,
 }

@@ -1,67 +1,77 @@
 // A journal of payloads on a disk.
-ghost use Rattle.std.specs.Prelude.{◌≡◌, ◌⊎◌, ◌+◌, ◌<◌, ◌≤◌, ◌^◌, ◌++◌, ◌-◌, [], ◌∷◌, List, ℕ, true, false, length, take, IfOk, IfErr, OnOk, OnErr, IsErrOf, Some, None, slice_index, slice_index_or};
-ghost use Rattle.outside.specs.Faults.{Rose, Counts};
+ghost use Rattle.std.specs.Prelude.{◌≡◌, ◌+◌, ◌<◌, ◌≤◌, ◌^◌, ◌++◌, [], ◌∷◌, ℕ, true, length, IfOk, IfErr, OnOk, OnErr, IsErrOf, Some, None};
+ghost use Rattle.outside.specs.Faults.{Counts};
 ghost use Rattle.outside.specs.Images.{AtRest, LeavesOnly, NoMomentPasses, resting};
 ghost use Rattle.node_journal.specs.Records.{records, Holds};
 ghost use Rattle.node_journal.specs.History.{EachFrom, SomeFrom, ExtendsMoments, IsPrefixOf, Keeps, KeepsHistory};
-ghost use Rattle.node_journal.specs.Views.{payloads_of};
-ghost use Rattle.node_journal.specs.Frames.{file_of, tail_of, places_from};
+ghost use Rattle.node_journal.specs.Frames.{file_of};
+ghost use Rattle.node_journal.specs.Whole.{payloads_in, IsWhole};
 
-use crate::opening::open_disk;
-use crate::payloads::Payloads;
-use crate::{AppendFault, JournalFault};
+use crate::recovery::recover_disk;
+use crate::write_payload::write_payload;
+use crate::{AppendFault, Scanned};
 use outside::Disk;
 use std::alloc::Global;
 
 /// A journal: a list of payloads on a disk, to which more can be added. A crash at any moment leaves a disk that has
-/// each payload that was acknowledged.
+/// each payload that was acknowledged. The payloads themselves stand on the disk alone.
 pub struct Journal<D: Disk> {
     disk: D,
-    payloads: Payloads,
+    // How many payloads there are.
+    count: usize,
+    // The place of the closed gate at the end.
+    end: u64,
     fault: Option<u64>,
-    // The disk's clock before the journal was read.
+    // The disk's clock behind the sync with which the journal's recovery began.
     opened: u64,
-    ghost rest: { D.tells ≡ true → fault ≡ None → D.now disk ≡ resting payloads.file.items },
-    ghost kept: { D.tells ≡ true → KeepsHistory opened (D.past disk) (D.now disk) (payloads_of payloads) fault },
+    // What stands behind the gate of the payload that is being added. Each append uses it again.
+    frame: Vec<u8>,
+    ghost bound: { end < 2 ^ 63 },
+    ghost fewer: { count ≤ end },
+    ghost whole: { D.tells ≡ true → fault ≡ None → IsWhole (D.now disk) end },
+    ghost counts: { D.tells ≡ true → fault ≡ None → count ≡ length (payloads_in (D.now disk)) },
+    ghost kept: { D.tells ≡ true → KeepsHistory opened (D.past disk) (D.now disk) (payloads_in (D.now disk)) fault },
     ghost counted: { (n : ℕ) → fault ≡ Some n → D.count disk ≡ n },
 }
 
 impl<D: Disk> Journal<D> {
-    ghost use Rattle.node_journal.specs.Views.{is_disk};
+    ghost use Rattle.node_journal.specs.Views.{payloads_of, IsScanOf};
     ghost use Rattle.node_journal.specs.Failing.{fails_by_disk};
     ghost use Rattle.node_journal.specs.Appends.{IsWithOrWithout};
-    ghost use Rattle.node_journal.specs.Index.{Refuses};
 
-    /// Opens the journal of a disk at rest: reads it, makes its end a closed gate, and makes it anew where it is empty.
-    /// At each fault the disk comes back; `NotAJournal`, `Damaged` and `Memory` come before the first write.
-    pub fn start(alloc: Global, disk: D) -> Result<Journal<D>, (JournalFault, D)>
-        requires rest { D.tells ≡ true → AtRest (D.now disk) }
-        ensures read { D.tells ≡ true → IfOk result (λ j. records (D.now disk).seen ≡ Holds (payloads_of j.payloads)) }
-        ensures rests { D.tells ≡ true → IfOk result (λ j. D.now j.disk ≡ resting (file_of (payloads_of j.payloads))) }
+    /// Makes the journal of a disk that was scanned: its end becomes a closed gate, and an empty one is made anew. At a
+    /// fault, which the disk counted, the disk comes back.
+    pub fn recover(disk: D, scanned: Scanned) -> Result<Journal<D>, D>
+        requires { D.tells ≡ true → IsScanOf (D.now disk).seen scanned }
+        ensures read { D.tells ≡ true → records (D.now disk).seen ≡ Holds (payloads_of scanned) }
+        ensures holds { D.tells ≡ true → IfOk result (λ j. payloads_in (D.now j.disk) ≡ payloads_of scanned) }
+        ensures rests { D.tells ≡ true → IfOk result (λ j. D.now j.disk ≡ resting (file_of (payloads_of scanned))) }
+        ensures count { IfOk result (λ j. j.count ≡ length (payloads_of scanned)) }
         ensures fresh { IfOk result (λ j. j.fault ≡ None) }
-        ensures opened { D.tells ≡ true → IfOk result (λ j. j.opened ≡ length (D.past disk)) }
-        ensures refused { D.tells ≡ true → IfErr result (λ e. Refuses e.0 (records (D.now disk).seen)) }
-        ensures untouched { IfErr result (λ e. is_disk e.0 ≡ false → NoMomentPasses (D.past disk) (D.now disk) (D.past e.1) (D.now e.1)) }
-        // A crash at any moment of the call leaves the payloads that were there.
-        ensures any_moment { D.tells ≡ true → IfOk result (λ j. LeavesOnly (D.past disk) (D.now disk) (D.past j.disk) (D.now j.disk) (λ c. records c ≡ records (D.now disk).seen)) }
-        ensures any_moment_err { D.tells ≡ true → IfErr result (λ e. LeavesOnly (D.past disk) (D.now disk) (D.past e.1) (D.now e.1) (λ c. records c ≡ records (D.now disk).seen)) }
-        // At each of these moments a crash leaves them, as something always is left.
+        ensures opened { D.tells ≡ true → IfOk result (λ j. j.opened ≡ length (D.past disk) + 1) }
+        // Behind the first sync a crash leaves the payloads that were there.
+        ensures since { D.tells ≡ true → IfOk result (λ j. EachFrom j.opened (D.past j.disk ++ D.now j.disk ∷ []) (λ c. records c ≡ Holds (payloads_of scanned))) }
+        // Where the disk was at rest, a crash at any moment of the call leaves them.
+        ensures any_moment { D.tells ≡ true → AtRest (D.now disk) → IfOk result (λ j. LeavesOnly (D.past disk) (D.now disk) (D.past j.disk) (D.now j.disk) (λ c. records c ≡ records (D.now disk).seen)) }
+        ensures any_moment_err { D.tells ≡ true → AtRest (D.now disk) → IfErr result (λ d. LeavesOnly (D.past disk) (D.now disk) (D.past d) (D.now d) (λ c. records c ≡ records (D.now disk).seen)) }
+        // At each moment of the call a crash can leave them, whether the disk was at rest or not.
         ensures offers { D.tells ≡ true → IfOk result (λ j. SomeFrom (length (D.past disk)) (D.past j.disk) (λ c. records c ≡ records (D.now disk).seen)) }
-        ensures offers_err { D.tells ≡ true → IfErr result (λ e. SomeFrom (length (D.past disk)) (D.past e.1) (λ c. records c ≡ records (D.now disk).seen)) }
-        // The count rises exactly where `Disk` is answered.
+        ensures offers_err { D.tells ≡ true → IfErr result (λ d. SomeFrom (length (D.past disk)) (D.past d) (λ c. records c ≡ records (D.now disk).seen)) }
+        // The count rises exactly where the disk comes back.
         ensures cause { IfOk result (λ j. D.count j.disk ≡ D.count disk) }
-        ensures cause_err { IfErr result (λ e. Counts (D.count disk) (D.count e.1) (is_disk e.0)) }
+        ensures cause_err { IfErr result (λ d. Counts (D.count disk) (D.count d) true) }
     {
         let mut disk = disk;
-        let opened = disk.clock();
-        match open_disk(alloc, &mut disk) {
-            Ok(payloads) => Ok(Journal {
+        match recover_disk(&mut disk, &scanned) {
+            Ok(opened) => Ok(Journal {
                 disk,
-                payloads,
+                count: scanned.count(),
+                end: scanned.end(),
                 fault: None,
                 opened,
+                frame: Vec::new(*scanned.file.allocator()),
             }),
-            Err(fault) => Err((fault, disk)),
+            Err(_) => Err(disk),
         }
     }
 
@@ -69,18 +79,19 @@ impl<D: Disk> Journal<D> {
     /// has it. After `Disk` the journal is failed: it answers `Disk` from then on, and keeps the count that rose.
     pub fn append(&mut self, _alloc: Global, payload: &[u8]) -> Result<u64, AppendFault>
         requires small { length payload.now < 2 ^ 32 }
-        ensures number { IfOk result (λ n. n ≡ length (payloads_of self.old.payloads)) }
-        ensures added { OnOk result (payloads_of self.new.payloads ≡ payloads_of self.old.payloads ++ payload.now ∷ []) }
-        ensures kept { OnErr result (payloads_of self.new.payloads ≡ payloads_of self.old.payloads) }
+        ensures number { IfOk result (λ n. n ≡ self.old.count) }
+        ensures count { OnOk result (self.new.count ≡ self.old.count + 1) }
+        ensures count_err { OnErr result (self.new.count ≡ self.old.count) }
+        ensures added { D.tells ≡ true → OnOk result (payloads_in (D.now self.new.disk) ≡ payloads_in (D.now self.old.disk) ++ payload.now ∷ []) }
         ensures sound { OnOk result ((self.old.fault ≡ None) × (self.new.fault ≡ None)) }
-        ensures acknowledged { D.tells ≡ true → OnOk result (D.now self.new.disk ≡ resting (file_of (payloads_of self.new.payloads))) }
+        ensures acknowledged { D.tells ≡ true → OnOk result (D.now self.new.disk ≡ resting (file_of (payloads_in (D.now self.new.disk)))) }
         // A crash at any moment of the call leaves the payloads from before, or with the new one.
-        ensures any_moment { D.tells ≡ true → self.old.fault ≡ None → LeavesOnly (D.past self.old.disk) (D.now self.old.disk) (D.past self.new.disk) (D.now self.new.disk) (IsWithOrWithout (payloads_of self.old.payloads) payload.now) }
+        ensures any_moment { D.tells ≡ true → self.old.fault ≡ None → LeavesOnly (D.past self.old.disk) (D.now self.old.disk) (D.past self.new.disk) (D.now self.new.disk) (IsWithOrWithout (payloads_in (D.now self.old.disk)) payload.now) }
         // A crash at any moment since the journal was opened leaves a prefix of the payloads with the new one.
-        ensures since { D.tells ≡ true → self.old.fault ≡ None → EachFrom self.old.opened (D.past self.new.disk ++ D.now self.new.disk ∷ []) (λ c. IsPrefixOf (payloads_of self.old.payloads ++ payload.now ∷ []) (records c)) }
+        ensures since { D.tells ≡ true → self.old.fault ≡ None → EachFrom self.old.opened (D.past self.new.disk ++ D.now self.new.disk ∷ []) (λ c. IsPrefixOf (payloads_in (D.now self.old.disk) ++ payload.now ∷ []) (records c)) }
         ensures opened { self.new.opened ≡ self.old.opened }
         ensures continued { D.tells ≡ true → ExtendsMoments (D.past self.old.disk ++ D.now self.old.disk ∷ []) (D.past self.new.disk ++ D.now self.new.disk ∷ []) }
-        // The count rises exactly where a sound journal answers `Disk`.
+        // The count of faults rises exactly where a sound journal answers `Disk`.
         ensures cause { self.old.fault ≡ None → Counts (D.count self.old.disk) (D.count self.new.disk) (fails_by_disk result) }
         ensures fails { self.old.fault ≡ None → IsErrOf result AppendFault.Disk → self.new.fault ≡ Some (D.count self.new.disk) }
         ensures memory { IsErrOf result AppendFault.Memory → (self.old.fault ≡ None) × (self.new.fault ≡ None) }
@@ -92,9 +103,13 @@ impl<D: Disk> Journal<D> {
         if self.fault.is_some() {
             return Err(AppendFault::Disk);
         }
-        let number = self.payloads.count() as u64;
-        match self.payloads.write(&mut self.disk, payload) {
-            Ok(()) => Ok(number),
+        match write_payload(&mut self.disk, &mut self.frame, self.end, payload) {
+            Ok(end) => {
+                let number = self.count as u64;
+                self.count += 1;
+                self.end = end;
+                Ok(number)
+            }
             Err(AppendFault::Memory) => Err(AppendFault::Memory),
             Err(AppendFault::Disk) => {
                 self.fault = Some(self.disk.faults());
@@ -103,27 +118,12 @@ impl<D: Disk> Journal<D> {
         }
     }
 
-    /// How many payloads there are.
+    /// How many payloads there are. A failed journal keeps the count from before its fault.
     pub fn count(&self) -> usize
-        ensures { result ≡ length (payloads_of self.now.payloads) }
+        ensures count { result ≡ self.now.count }
+        ensures payloads { D.tells ≡ true → self.now.fault ≡ None → result ≡ length (payloads_in (D.now self.now.disk)) }
     {
-        self.payloads.count()
-    }
-
-    /// The payload of this number, from 0.
-    pub fn payload(&self, number: usize) -> &[u8]
-        requires { number < length (payloads_of self.now.payloads) }
-        ensures { result.now ≡ slice_index_or (payloads_of self.now.payloads) number [] }
-    {
-        self.payloads.payload(number)
-    }
-
-    /// The place of its gate, in bytes from the disk's front.
-    pub fn place(&self, number: usize) -> u64
-        requires { number < length (payloads_of self.now.payloads) }
-        ensures { result ≡ slice_index (places_from 8 (payloads_of self.now.payloads)) number }
-    {
-        self.payloads.place(number)
+        self.count
     }
 
     /// The disk's count at the fault by which the journal failed, if it is failed.
@@ -133,13 +133,22 @@ impl<D: Disk> Journal<D> {
         self.fault
     }
 
-    /// What each journal keeps, whatever calls led to it, from the moment on at which `start` was called. What all crashes at
-    /// one moment leave, all crashes at each later moment leave; so a payload that is acknowledged stays. Of any two
-    /// crashes one leaves the payloads that the other leaves, or more. A failed journal keeps the count that rose. This
-    /// computes nothing: its contract is for callers' proofs.
+    /// The disk, for its clock and its count of faults.
+    pub fn disk(&self) -> &D
+        ensures { result.now ≡ self.now.disk }
+    {
+        &self.disk
+    }
+
+    /// What each journal keeps, whatever calls led to it, from the moment on behind the sync with which its recovery
+    /// began. What all crashes at one moment leave, all crashes at each later moment leave; so a payload that is
+    /// acknowledged stays. Of any two crashes one leaves the payloads that the other leaves, or more. A failed journal
+    /// keeps the count that rose. This computes nothing: its contract is for callers' proofs.
     pub fn history_holds(&self)
-        ensures kept { D.tells ≡ true → KeepsHistory self.now.opened (D.past self.now.disk) (D.now self.now.disk) (payloads_of self.now.payloads) self.now.fault }
-        ensures held { D.tells ≡ true → self.now.fault ≡ None → Keeps (payloads_of self.now.payloads) (D.now self.now.disk) }
+        ensures kept { D.tells ≡ true → KeepsHistory self.now.opened (D.past self.now.disk) (D.now self.now.disk) (payloads_in (D.now self.now.disk)) self.now.fault }
+        ensures held { D.tells ≡ true → self.now.fault ≡ None → Keeps (payloads_in (D.now self.now.disk)) (D.now self.now.disk) }
+        ensures rests { D.tells ≡ true → self.now.fault ≡ None → D.now self.now.disk ≡ resting (file_of (payloads_in (D.now self.now.disk))) }
+        ensures counts { D.tells ≡ true → self.now.fault ≡ None → self.now.count ≡ length (payloads_in (D.now self.now.disk)) }
         ensures counted { (n : ℕ) → self.now.fault ≡ Some n → D.count self.now.disk ≡ n }
     {
         let _opened = self.opened;
@@ -151,9 +160,11 @@ impl<D: Disk> Journal<D> {
     {
         let Journal {
             disk,
-            payloads: _,
+            count: _,
+            end: _,
             fault: _,
             opened: _,
+            frame: _,
         } = self;
         disk
     }

@@ -6,10 +6,10 @@ mod fault;
 mod frame_at;
 mod gates;
 mod journal;
-mod opening;
-mod payloads;
 mod reading;
+mod recovery;
 mod repair;
+mod scanned;
 mod scanning;
 #[cfg(test)]
 mod tests;
@@ -18,5 +18,5 @@ mod write_payload;
 
 pub use fault::{AppendFault, JournalFault};
 pub use journal::Journal;
-pub use payloads::Payloads;
+pub use scanned::Scanned;
 pub use scanning::scan;

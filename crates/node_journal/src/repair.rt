@@ -1,16 +1,17 @@
 // A disk that reads as a journal is made into one whose end is a closed gate, and which is on the disk whole.
 ghost use Rattle.std.specs.Prelude.{◌≡◌, ◌+◌, ◌<◌, ◌^◌, ◌≤◌, ◌++◌, [], ◌∷◌, List, ℕ, true, length, take, OnOk, OnErr, is_err};
 ghost use Rattle.outside.specs.Faults.{Counts};
-ghost use Rattle.outside.specs.Images.{AtRest, LeavesOnly, OneMomentPasses, Fails, resting, moment_after_sync};
+ghost use Rattle.outside.specs.Images.{LeavesOnly, OneMomentPasses, Fails, resting, moment_after_sync};
 ghost use Rattle.node_journal.specs.Gate.{IsBefore};
 ghost use Rattle.node_journal.specs.Repairs.{IsPrefixAndOne};
 ghost use Rattle.node_journal.specs.Records.{records, Holds, mark};
 ghost use Rattle.node_journal.specs.Frames.{file_of, end_of};
 ghost use Rattle.node_journal.specs.History.{SomeFrom, Anything};
-ghost use Rattle.node_journal.specs.Index.{ReadsTo, EndsAt};
-ghost use Rattle.node_journal.specs.Views.{payloads_of};
+ghost use Rattle.node_journal.specs.Index.{EndsAt};
+ghost use Rattle.node_journal.specs.Views.{payloads_of, IsScanOf};
 
-use crate::payloads::{EMPTY, Payloads};
+use crate::Scanned;
+use crate::scanned::EMPTY;
 use outside::{Disk, Failed};
 
 /// Writes the mark and a closed gate over a disk of at most 9 bytes.
@@ -68,17 +69,17 @@ fn shut<D: Disk>(disk: &mut D, end: u64) -> Result<(), Failed>
 }
 
 /// Takes away what stands behind the closed gate at the end of the payloads, where there is something.
-fn trim<D: Disk>(disk: &mut D, payloads: &Payloads, size: u64) -> Result<(), Failed>
+fn trim<D: Disk>(disk: &mut D, scanned: &Scanned) -> Result<(), Failed>
     requires rest { D.tells ≡ true → D.now disk.old ≡ resting (D.now disk.old).seen }
-    requires sized { D.tells ≡ true → size ≡ length (D.now disk.old).seen }
-    requires ends { D.tells ≡ true → EndsAt (D.now disk.old).seen (payloads_of payloads.now) (end_of (payloads_of payloads.now)) }
-    ensures done { D.tells ≡ true → OnOk result (D.now disk.new ≡ resting (take (end_of (payloads_of payloads.now) + 1) (D.now disk.old).seen)) }
-    ensures any_moment { D.tells ≡ true → LeavesOnly (D.past disk.old) (D.now disk.old) (D.past disk.new) (D.now disk.new) (λ c. records c ≡ Holds (payloads_of payloads.now)) }
+    requires sized { D.tells ≡ true → scanned.now.size ≡ length (D.now disk.old).seen }
+    requires ends { D.tells ≡ true → EndsAt (D.now disk.old).seen (payloads_of scanned.now) (end_of (payloads_of scanned.now)) }
+    ensures done { D.tells ≡ true → OnOk result (D.now disk.new ≡ resting (take (end_of (payloads_of scanned.now) + 1) (D.now disk.old).seen)) }
+    ensures any_moment { D.tells ≡ true → LeavesOnly (D.past disk.old) (D.now disk.old) (D.past disk.new) (D.now disk.new) (λ c. records c ≡ Holds (payloads_of scanned.now)) }
     ensures offers { D.tells ≡ true → SomeFrom (length (D.past disk.old)) (D.past disk.new) Anything }
     ensures cause { Counts (D.count disk.old) (D.count disk.new) (is_err result) }
 {
-    let end = payloads.end();
-    if end + 1 < size {
+    let end = scanned.end();
+    if end + 1 < scanned.size {
         return cut_behind(disk, end);
     }
     Ok(())
@@ -86,35 +87,33 @@ fn trim<D: Disk>(disk: &mut D, payloads: &Payloads, size: u64) -> Result<(), Fai
 
 /// Makes the end of a disk of more than 9 bytes a closed gate. The cut has to be on the disk before the gate is written:
 /// behind a gate that is torn open, what stood there would count.
-fn repair_end<D: Disk>(disk: &mut D, payloads: &Payloads, size: u64) -> Result<(), Failed>
+fn repair_end<D: Disk>(disk: &mut D, scanned: &Scanned) -> Result<(), Failed>
     requires rest { D.tells ≡ true → D.now disk.old ≡ resting (D.now disk.old).seen }
-    requires sized { D.tells ≡ true → size ≡ length (D.now disk.old).seen }
-    requires ends { D.tells ≡ true → EndsAt (D.now disk.old).seen (payloads_of payloads.now) (end_of (payloads_of payloads.now)) }
-    ensures done { D.tells ≡ true → OnOk result (D.now disk.new ≡ resting (file_of (payloads_of payloads.now))) }
-    ensures any_moment { D.tells ≡ true → LeavesOnly (D.past disk.old) (D.now disk.old) (D.past disk.new) (D.now disk.new) (λ c. records c ≡ Holds (payloads_of payloads.now)) }
+    requires sized { D.tells ≡ true → scanned.now.size ≡ length (D.now disk.old).seen }
+    requires ends { D.tells ≡ true → EndsAt (D.now disk.old).seen (payloads_of scanned.now) (end_of (payloads_of scanned.now)) }
+    ensures done { D.tells ≡ true → OnOk result (D.now disk.new ≡ resting (file_of (payloads_of scanned.now))) }
+    ensures any_moment { D.tells ≡ true → LeavesOnly (D.past disk.old) (D.now disk.old) (D.past disk.new) (D.now disk.new) (λ c. records c ≡ Holds (payloads_of scanned.now)) }
     ensures offers { D.tells ≡ true → SomeFrom (length (D.past disk.old)) (D.past disk.new) Anything }
     ensures cause { Counts (D.count disk.old) (D.count disk.new) (is_err result) }
 {
-    trim(disk, payloads, size)?;
-    shut(disk, payloads.end())?;
+    trim(disk, scanned)?;
+    shut(disk, scanned.end())?;
     Ok(())
 }
 
-/// Makes the disk the file of these payloads, which it reads as, at rest.
-pub fn repair<D: Disk>(disk: &mut D, payloads: &Payloads, size: u64) -> Result<(), Failed>
-    requires rest { D.tells ≡ true → AtRest (D.now disk.old) }
-    requires sized { D.tells ≡ true → size ≡ length (D.now disk.old).seen }
-    requires reads { D.tells ≡ true → ReadsTo (D.now disk.old).seen (payloads_of payloads.now) }
-    ensures done { D.tells ≡ true → OnOk result (D.now disk.new ≡ resting (file_of (payloads_of payloads.now))) }
-    ensures any_moment { D.tells ≡ true → LeavesOnly (D.past disk.old) (D.now disk.old) (D.past disk.new) (D.now disk.new) (λ c. records c ≡ Holds (payloads_of payloads.now)) }
+/// Makes a disk at rest the file of the payloads that a scan found on it.
+pub fn repair<D: Disk>(disk: &mut D, scanned: &Scanned) -> Result<(), Failed>
+    requires rest { D.tells ≡ true → D.now disk.old ≡ resting (D.now disk.old).seen }
+    requires scanned { D.tells ≡ true → IsScanOf (D.now disk.old).seen scanned.now }
+    ensures done { D.tells ≡ true → OnOk result (D.now disk.new ≡ resting (file_of (payloads_of scanned.now))) }
+    ensures any_moment { D.tells ≡ true → LeavesOnly (D.past disk.old) (D.now disk.old) (D.past disk.new) (D.now disk.new) (λ c. records c ≡ Holds (payloads_of scanned.now)) }
     ensures offers { D.tells ≡ true → SomeFrom (length (D.past disk.old)) (D.past disk.new) Anything }
     ensures cause { Counts (D.count disk.old) (D.count disk.new) (is_err result) }
 {
-    disk.sync()?;
-    if size <= 9 {
+    if scanned.size <= 9 {
         renew(disk)?;
         return Ok(());
     }
-    repair_end(disk, payloads, size)?;
+    repair_end(disk, scanned)?;
     Ok(())
 }

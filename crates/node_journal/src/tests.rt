@@ -8,17 +8,19 @@ use std::test::Fail;
 const FILE: [u8; 27] = *b"BNCJRNL1\x01\x03\0\0\0one\x01\x05\0\0\0three\0";
 
 /// Adds `one` and `three` to an empty disk that stops at a call: how many were acknowledged, and the disk.
-#[tactic(auto, using(crate::proofs::Resting::resting_rests))]
 fn run(alloc: Global, stop: u64) -> Result<(usize, MemDisk), AllocError> {
-    let disk = MemDisk::stopping_at(alloc, b"", stop)?;
-    match Journal::start(alloc, disk) {
-        Ok(started) => {
-            let mut journal = started;
+    let mut disk = MemDisk::stopping_at(alloc, b"", stop)?;
+    let Ok(scanned) = scan(alloc, &mut disk) else {
+        return Ok((0, disk));
+    };
+    match Journal::recover(disk, scanned) {
+        Ok(recovered) => {
+            let mut journal = recovered;
             let first = journal.append(alloc, b"one").is_ok();
             let second = journal.append(alloc, b"three").is_ok();
             Ok((first as usize + second as usize, journal.into_disk()))
         }
-        Err((_, disk)) => Ok((0, disk)),
+        Err(disk) => Ok((0, disk)),
     }
 }
 
@@ -44,11 +46,18 @@ fn altered_files_read_as_the_format_says(rt: HostRuntime) -> Result<(), Fail> {
         }
         let mut disk = MemDisk::from_bytes(rt.alloc(), &bytes)?;
         let got = match scan(rt.alloc(), &mut disk) {
-            Ok(payloads) => Ok(payloads.count()),
+            Ok(scanned) => Ok(scanned.count()),
             Err(fault) => Err(fault),
         };
         assert_eq!(rt; got, want, "cut to {cut}, {byte} at {at}");
     }
+    Ok(())
+}
+
+#[test]
+fn a_foreign_file_is_refused_by_one_read(rt: HostRuntime) -> Result<(), Fail> {
+    let mut disk = MemDisk::stopping_at(rt.alloc(), b"not a journal", 2)?;
+    assert!(rt; matches!(scan(rt.alloc(), &mut disk), Err(JournalFault::NotAJournal)));
     Ok(())
 }
 
@@ -80,8 +89,8 @@ fn mixed(
 fn image_holds(alloc: Global, disk: &MemDisk, wish: &[u8], count: usize) -> Result<bool, Fail> {
     let image = disk.image(alloc, wish)?;
     let mut left = MemDisk::from_bytes(alloc, &image)?;
-    let payloads = scan(alloc, &mut left)?;
-    Ok(payloads.count() == count || payloads.count() == count.saturating_add(1))
+    let scanned = scan(alloc, &mut left)?;
+    Ok(scanned.count() == count || scanned.count() == count.saturating_add(1))
 }
 
 /// The same of the images of each size, which are new up to a place and old from there on.

@@ -1,72 +1,62 @@
-// A payload behind the last one: first in memory, then on the disk.
-ghost use Rattle.std.specs.Prelude.{◌≡◌, ◌+◌, ◌-◌, ◌<◌, ◌≤◌, ◌^◌, ◌++◌, [], ◌∷◌, List, ℕ, true, length, take, set, OnOk, OnErr, IsErrOf};
+// A payload behind the last one of a disk.
+ghost use Rattle.std.specs.Prelude.{◌≡◌, ◌+◌, ◌<◌, ◌^◌, ◌++◌, [], ◌∷◌, true, length, IfOk, OnOk, IsErrOf};
 ghost use Rattle.outside.specs.Faults.{Counts};
 ghost use Rattle.outside.specs.Images.{LeavesOnly, NoMomentPasses, resting};
-ghost use Rattle.node_journal.specs.Frames.{tail_of};
-ghost use Rattle.node_journal.specs.Gate.{IsBefore, IsBeforeOrWith};
-ghost use Rattle.node_journal.specs.History.{SomeFrom};
+ghost use Rattle.node_journal.specs.Appends.{IsWithOrWithout};
 ghost use Rattle.node_journal.specs.Failing.{fails_by_disk};
+ghost use Rattle.node_journal.specs.Frames.{file_of, tail_of};
+ghost use Rattle.node_journal.specs.History.{SomeFrom};
+ghost use Rattle.node_journal.specs.Records.{records, Holds};
+ghost use Rattle.node_journal.specs.Whole.{payloads_in, IsWhole};
 
 use crate::AppendFault;
 use crate::write_frame::open_behind;
 use outside::Disk;
 use std::alloc::AllocError;
 
-/// Puts the length, the payload and a closed gate behind the file, and the place of its gate behind the places, or does
-/// neither.
-fn stage(file: &mut Vec<u8>, places: &mut Vec<u64>, payload: &[u8]) -> Result<(), AllocError>
-    requires gate { 0 < length file.old.items }
-    requires small { length payload.now < 2 ^ 32 }
-    ensures file { OnOk result (file.new.items ≡ file.old.items ++ tail_of payload.now) }
-    ensures places { OnOk result (places.new.items ≡ places.old.items ++ (length file.old.items - 1) ∷ []) }
-    ensures err { OnErr result (file.new.items ≡ file.old.items) }
-    ensures err_places { OnErr result (places.new.items ≡ places.old.items) }
+/// A disk has fewer bytes than this.
+const SIZE_LIMIT: u64 = 1 << 63;
+
+/// Makes a buffer the length, the payload and a closed gate.
+fn stage(frame: &mut Vec<u8>, payload: &[u8]) -> Result<(), AllocError>
+    requires { length payload.now < 2 ^ 32 }
+    ensures { OnOk result (frame.new.items ≡ tail_of payload.now) }
 {
-    let gate = (file.len() - 1) as u64;
-    places.reserve(1)?;
-    file.reserve(payload.len() + 5)?;
-    file.extend_from_slice(&(payload.len() as u32).to_le_bytes())?;
-    file.extend_from_slice(payload)?;
-    file.push(0)?;
-    places.push(gate)?;
+    frame.clear();
+    frame.extend_from_slice(&(payload.len() as u32).to_le_bytes())?;
+    frame.extend_from_slice(payload)?;
+    frame.push(0)?;
     Ok(())
 }
 
-/// Adds a payload to the bytes of a journal, to the places of its gates, and to its disk.
+/// Adds a payload to a disk whose last gate is at a place, and answers the place of the last gate then. The buffer serves
+/// for the frame.
 pub fn write_payload<D: Disk>(
     disk: &mut D,
-    file: &mut Vec<u8>,
-    places: &mut Vec<u64>,
+    frame: &mut Vec<u8>,
+    end: u64,
     payload: &[u8],
-) -> Result<(), AppendFault>
-    requires rest { D.tells ≡ true → D.now disk.old ≡ resting file.old.items }
-    requires gate { 0 < length file.old.items }
+) -> Result<u64, AppendFault>
+    requires whole { D.tells ≡ true → IsWhole (D.now disk.old) end }
+    requires bound { end < 2 ^ 63 }
     requires small { length payload.now < 2 ^ 32 }
-    ensures file { OnOk result (file.new.items ≡ set (file.old.items ++ tail_of payload.now) (length file.old.items - 1) 1) }
-    ensures places { OnOk result (places.new.items ≡ places.old.items ++ (length file.old.items - 1) ∷ []) }
-    ensures err { OnErr result (file.new.items ≡ file.old.items) }
-    ensures err_places { OnErr result (places.new.items ≡ places.old.items) }
-    ensures done { D.tells ≡ true → OnOk result (D.now disk.new ≡ resting (take (length file.old.items - 1) file.old.items ++ 1 ∷ tail_of payload.now)) }
-    ensures any_moment { D.tells ≡ true → LeavesOnly (D.past disk.old) (D.now disk.old) (D.past disk.new) (D.now disk.new) (IsBeforeOrWith file.old.items (length file.old.items - 1) (tail_of payload.now)) }
-    ensures before { D.tells ≡ true → SomeFrom (length (D.past disk.old)) (D.past disk.new) (IsBefore file.old.items) }
+    ensures end { IfOk result (λ e. e ≡ end + 5 + length payload.now) }
+    ensures bound { IfOk result (λ e. e < 2 ^ 63) }
+    ensures done { D.tells ≡ true → OnOk result (D.now disk.new ≡ resting (file_of (payloads_in (D.now disk.old) ++ payload.now ∷ []))) }
+    ensures any_moment { D.tells ≡ true → LeavesOnly (D.past disk.old) (D.now disk.old) (D.past disk.new) (D.now disk.new) (IsWithOrWithout (payloads_in (D.now disk.old)) payload.now) }
+    ensures before { D.tells ≡ true → SomeFrom (length (D.past disk.old)) (D.past disk.new) (λ c. records c ≡ Holds (payloads_in (D.now disk.old))) }
     ensures memory { IsErrOf result AppendFault.Memory → NoMomentPasses (D.past disk.old) (D.now disk.old) (D.past disk.new) (D.now disk.new) }
     ensures cause { Counts (D.count disk.old) (D.count disk.new) (fails_by_disk result) }
 {
-    let count = places.len();
-    let size = file.len();
-    let end = size - 1;
-    if stage(file, places, payload).is_err() {
+    let next = end + 5 + payload.len() as u64;
+    if next >= SIZE_LIMIT {
         return Err(AppendFault::Memory);
     }
-    match open_behind(disk, end as u64, &file[size..]) {
-        Ok(()) => {
-            file[end] = 1;
-            Ok(())
-        }
-        Err(_) => {
-            file.truncate(size);
-            places.truncate(count);
-            Err(AppendFault::Disk)
-        }
+    if stage(frame, payload).is_err() {
+        return Err(AppendFault::Memory);
+    }
+    match open_behind(disk, end, frame.as_slice()) {
+        Ok(()) => Ok(next),
+        Err(_) => Err(AppendFault::Disk),
     }
 }

@@ -9,11 +9,14 @@ returns-clause-records c =
     let same = c.deref-2.ensures.value in
     let is = subst (λ (f : List ℕ). IsIndexed f c.in_ok-gates.gates.places.items c.in_ok-gates.gates.end) same c.in_ok-gates.ensures.indexed in
     let shut = subst (λ (f : List ℕ). is_gate_open (drop c.in_ok-gates.gates.end f) ≡ false) same c.in_ok-gates.ensures.closed in
-    closed c.args.file.items c.in_ok-gates.gates.places.items c.in_ok-gates.gates.end is shut ∙ sym (ap Holds c.in_ok-from_gates.ensures)
+    closed c.args.file.items c.in_ok-gates.gates.places.items c.in_ok-gates.gates.end is shut ∙ sym (ap Holds c.in_ok-from_gates.ensures.payloads)
 
-pub returns-clause-reads : goal.returns-clause-reads
-returns-clause-reads c =
+pub returns-clause-scanned : goal.returns-clause-scanned
+returns-clause-scanned c =
     let same = c.deref-2.ensures.value in
     let is = subst (λ (f : List ℕ). IsIndexed f c.in_ok-gates.gates.places.items c.in_ok-gates.gates.end) same c.in_ok-gates.ensures.indexed in
     let shut = subst (λ (f : List ℕ). is_gate_open (drop c.in_ok-gates.gates.end f) ≡ false) same c.in_ok-gates.ensures.closed in
-    subst (λ (ps : List (List ℕ)). ReadsTo c.args.file.items ps) (sym c.in_ok-from_gates.ensures) (inr (ends c.args.file.items c.in_ok-gates.gates.places.items c.in_ok-gates.gates.end is shut))
+    record {
+      size = c.in_ok-from_gates.ensures.size;
+      reads = subst (λ (ps : List (List ℕ)). ReadsTo c.args.file.items ps) (sym c.in_ok-from_gates.ensures.payloads) (inr (ends c.args.file.items c.in_ok-gates.gates.places.items c.in_ok-gates.gates.end is shut));
+    }
