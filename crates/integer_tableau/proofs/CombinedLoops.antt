@@ -1,7 +1,7 @@
 -- Steps of the loops over the columns of a combination.
 use Rattle.std.proofs.Common.{◌≡◌, ℕ, zero, suc, ◌+◌, ◌*◌, ◌-◌, ◌^◌, ◌<◌, ◌≤◌, arith, ap, sym, ◌∙◌, subst, List, [], length, get_or, set, drop, drop-cons, true, false, inl, inr, get_or-set_same, get_or-set_other}
 use Rattle.std.specs.Prelude.{ℤ, pos, nat_abs, nat_eq, ◌+ℤ◌, ◌*ℤ◌, ◌<ℤ◌, if◌then◌else◌}
-use Rattle.std.proofs.Math.Nat.{mul-le-mul_right}
+use Rattle.std.proofs.Math.Nat.{mul-le-mul_left, mul-le-mul_right}
 use Rattle.std.proofs.lemmas.Int.{ints, unsigned_abs-mul}
 use Rattle.std.proofs.lemmas.Bool.{cases_eq}
 use Rattle.std.proofs.lemmas.Bool.Decides.{nat_tests}
@@ -142,6 +142,19 @@ column_more d cs ss ls j k old new row all l m n e sum is =
   where
     assoc : (a b c : ℤ) → (a +ℤ b) +ℤ c ≡ a +ℤ (b +ℤ c)
     assoc a b c = omega (arith, ints)
+
+-- a column is added to a bound on the size of the whole sum
+pub bound_more : (d : ℕ) (cs : List ℤ) (ss : List Position) (ls : List (List ℤ)) (j k : ℕ) (row : List ℤ) (total bound next whole : ℕ) → j < length cs → j < length ss → j < length ls → row ≡ get_or ls j []
+    → whole ≤ total + nat_abs (combined d (drop j cs) (drop j ss) (drop j ls) k) → nat_abs (numerator_of d row (get_or ss j InBasis) k) ≤ bound → next ≡ total + nat_abs (number_at cs j) * bound
+    → whole ≤ next + nat_abs (combined d (drop (j + 1) cs) (drop (j + 1) ss) (drop (j + 1) ls) k)
+bound_more d cs ss ls j k row total bound next whole l m n e h b is =
+    let c = number_at cs j in
+    let x = numerator_of d (get_or ls j []) (get_or ss j InBasis) k in
+    let small : nat_abs x ≤ bound = subst (λ row. nat_abs (numerator_of d row (get_or ss j InBasis) k) ≤ bound) e b in
+    omega (arith, h, is, ap nat_abs (combined_unfolds d cs ss ls j k l m n), size (c *ℤ x) (combined d (drop (j + 1) cs) (drop (j + 1) ss) (drop (j + 1) ls) k), unsigned_abs-mul c x, mul-le-mul_left (nat_abs c) small)
+  where
+    size : (a b : ℤ) → nat_abs (a +ℤ b) ≤ nat_abs a + nat_abs b
+    size a b = omega (arith, ints)
 
 -- a product is added to one number of the sum
 pub product_more : (sum : List ℤ) (column k : ℕ) (next factor d : ℤ) → column < length sum → pos 0 <ℤ d → next ≡ number_at sum column +ℤ factor *ℤ d

@@ -205,16 +205,18 @@ row_from_numbers d cs ss ls xs e h = same_lists _ _ (e ∙ sym (length-numbers_f
     ∙ sym (number_at-numbers_from 0 (length ls) (combined d cs ss ls) j (omega (arith, m, e)))
     ∙ sym (get_or_default (combined_row d ss ls cs) j z (pos 0) (omega (arith, m, e, length-numbers_from 0 (length ls) (combined d cs ss ls)))))
 
+-- its numbers have at most the size of what is said of each column
+pub combined_row_within : (d most : ℕ) (cs : List ℤ) (ss : List Position) (ls : List (List ℤ)) → ((k : ℕ) → nat_abs (combined d cs ss ls k) ≤ most) → IsWithin most (combined_row d ss ls cs)
+combined_row_within d most cs ss ls h k = elim (cases_lt k (length ls)) [
+  | inl l ↦ subst (λ z. nat_abs z ≤ most) (sym (combined_row_in d cs ss ls k l)) (h k)
+  | inr l ↦ subst (λ z. nat_abs z ≤ most) (sym (get_or_past (combined_row d ss ls cs) k (pos 0) (omega (arith, l, length-numbers_from 0 (length ls) (combined d cs ss ls))))) (omega arith)
+]
+
 -- its numbers are small where the weight and the numbers of the columns are
 pub combination_small : (d weight : ℕ) (cs : List ℤ) (ss : List Position) (ls : List (List ℤ)) → total_size cs ≤ weight
     → (most : ℕ) × (d ≤ most) × ((v : ℕ) → v < length ls → IsWithin most (get_or ls v [])) × (weight * most < 2 ^ 62) → IsWithin (2 ^ 62 - 1) (combined_row d ss ls cs)
-combination_small d weight cs ss ls light (most, d_small, small, fits) k = elim (cases_lt k (length ls)) [
-  | inl l ↦ subst (λ z. nat_abs z ≤ 2 ^ 62 - 1)
-      (sym (combined_row_in d cs ss ls k l))
-      (below (total_size cs) weight most (nat_abs (combined d cs ss ls k)) light fits (combined_within d most k cs ss ls d_small each))
-  | inr l ↦ subst (λ z. nat_abs z ≤ 2 ^ 62 - 1)
-      (sym (get_or_past (combined_row d ss ls cs) k (pos 0) (omega (arith, l, length-numbers_from 0 (length ls) (combined d cs ss ls))))) (omega arith)
-]
+combination_small d weight cs ss ls light (most, d_small, small, fits) =
+    combined_row_within d (2 ^ 62 - 1) cs ss ls (λ k. below (total_size cs) weight most (nat_abs (combined d cs ss ls k)) light fits (combined_within d most k cs ss ls d_small each))
   where
     each : (j : ℕ) → IsWithin most (get_or ls j [])
     each j = elim (cases_lt j (length ls)) [

@@ -7,7 +7,7 @@ ghost use Rattle.integer_tableau.specs.Combined.{numerator_of, combined, value_n
 use crate::integer_row::IntegerRow;
 use crate::position::Position;
 use crate::program_row::ProgramRow;
-use crate::wide_numbers::product;
+use crate::wide_numbers::{product, sum};
 
 // ---- values
 
@@ -137,20 +137,20 @@ pub(crate) fn combined_number(
     total
 }
 
-/// `number + factor * other`, if it has 64 bits.
+/// `number + factor * other`, if it has 128 bits.
 #[inline(always)]
-fn multiple_sum(number: i64, factor: i64, other: i64) -> Option<i64>
+fn multiple_sum(number: i128, factor: i64, other: i64) -> Option<i128>
     ensures { IfSome result (λ z. z ≡ number +ℤ factor *ℤ other) }
 {
-    number.checked_add(factor.checked_mul(other)?)
+    sum(number, product(factor, other))
 }
 
-/// Adds a multiple of a row to a sum; false where a number has more than 64 bits.
-fn add_multiple(sum: &mut [i64], row: &[i64], factor: i64) -> bool
-    requires { length row.now ≡ length sum.old }
-    ensures { IsTrue result → (k : ℕ) → number_at sum.new k ≡ number_at sum.old k +ℤ factor *ℤ number_at row.now k }
+/// Adds a multiple of a row to sums; false where one has more than 128 bits.
+fn add_multiple(sums: &mut [i128], row: &[i64], factor: i64) -> bool
+    requires { length row.now ≡ length sums.old }
+    ensures { IsTrue result → (k : ℕ) → number_at sums.new k ≡ number_at sums.old k +ℤ factor *ℤ number_at row.now k }
 {
-    for (k, number) in sum.iter_mut().enumerate() {
+    for (k, number) in sums.iter_mut().enumerate() {
         match multiple_sum(*number, factor, row[k]) {
             Some(next) => *number = next,
             None => return false,
@@ -159,62 +159,62 @@ fn add_multiple(sum: &mut [i64], row: &[i64], factor: i64) -> bool
     true
 }
 
-/// Adds a product to the number in a column of a sum; false where it has more than 64 bits.
-fn add_product(sum: &mut [i64], column: usize, factor: i64, denominator: i64) -> bool
-    requires there { column < length sum.old }
+/// Adds a product to the sum of a column; false where it has more than 128 bits.
+fn add_product(sums: &mut [i128], column: usize, factor: i64, denominator: i64) -> bool
+    requires there { column < length sums.old }
     requires positive { pos 0 <ℤ denominator }
-    ensures { IsTrue result → (k : ℕ) → number_at sum.new k ≡ number_at sum.old k +ℤ factor *ℤ numerator_of (nat_abs denominator) [] (Position.InColumn column) k }
+    ensures { IsTrue result → (k : ℕ) → number_at sums.new k ≡ number_at sums.old k +ℤ factor *ℤ numerator_of (nat_abs denominator) [] (Position.InColumn column) k }
 {
-    match multiple_sum(sum[column], factor, denominator) {
+    match multiple_sum(sums[column], factor, denominator) {
         Some(next) => {
-            sum[column] = next;
+            sums[column] = next;
             true
         }
         None => false,
     }
 }
 
-/// Adds what a column says, times its coefficient, to a sum; false where a number has more than 64 bits, or a row hasn't the sum's width.
+/// Adds what a column says, times its coefficient, to the sums; false where one has more than 128 bits, or the row hasn't as many numbers.
 fn add_column(
-    sum: &mut [i64],
+    sums: &mut [i128],
     coefficient: i64,
     position: Position,
     row: &IntegerRow,
     denominator: i64,
 ) -> bool
     requires { pos 0 <ℤ denominator }
-    ensures { IsTrue result → (k : ℕ) → number_at sum.new k ≡ number_at sum.old k +ℤ coefficient *ℤ numerator_of (nat_abs denominator) row.now position k }
+    ensures { IsTrue result → (k : ℕ) → number_at sums.new k ≡ number_at sums.old k +ℤ coefficient *ℤ numerator_of (nat_abs denominator) row.now position k }
 {
     if coefficient == 0 {
         return true;
     }
     match position {
         Position::InBasis => {
-            row.width() == sum.len() && add_multiple(sum, row.numerators(), coefficient)
+            row.width() == sums.len() && add_multiple(sums, row.numerators(), coefficient)
         }
         Position::InColumn(column) => {
-            column < sum.len() && add_product(sum, column, coefficient, denominator)
+            column < sums.len() && add_product(sums, column, coefficient, denominator)
         }
     }
 }
 
-/// Adds up what the columns say, each times its coefficient; false where a number on the way has more than 64 bits, or a row hasn't the
-/// sum's width.
+/// Adds up what the columns say, each times its coefficient; false where a sum on the way has more than 128 bits, or a row hasn't as many
+/// numbers. The sums on the way are often larger than the whole ones.
 pub(crate) fn add_columns(
-    sum: &mut [i64],
+    sums: &mut [i128],
     coefficients: &[i64],
     positions: &[Position],
     rows: &[IntegerRow],
     denominator: i64,
 ) -> bool
-    requires zero { (k : ℕ) → number_at sum.old k ≡ pos 0 }
+    requires zero { (k : ℕ) → number_at sums.old k ≡ pos 0 }
     requires rows_there { length rows.now ≡ length coefficients.now }
     requires positions_there { length coefficients.now ≤ length positions.now }
     requires positive { pos 0 <ℤ denominator }
-    ensures { IsTrue result → (k : ℕ) → number_at sum.new k ≡ combined (nat_abs denominator) coefficients.now positions.now rows.now k }
+    ensures { IsTrue result → (k : ℕ) → number_at sums.new k ≡ combined (nat_abs denominator) coefficients.now positions.now rows.now k }
 {
     for (j, coefficient) in coefficients.iter().enumerate() {
-        if !add_column(sum, *coefficient, positions[j], &rows[j], denominator) {
+        if !add_column(sums, *coefficient, positions[j], &rows[j], denominator) {
             return false;
         }
     }

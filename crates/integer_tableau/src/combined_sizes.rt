@@ -1,10 +1,10 @@
 // The sizes of the rows that aren't kept.
 
-ghost use Rattle.std.specs.Prelude.{◌≡◌, ℕ, ◌+◌, ◌-◌, ◌*◌, ◌<◌, ◌≤◌, ◌^◌, [], pos, nat_abs, ◌<ℤ◌, length, slice_index_or, IsTrue};
+ghost use Rattle.std.specs.Prelude.{◌≡◌, ℕ, ◌+◌, ◌-◌, ◌*◌, ◌<◌, ◌≤◌, ◌^◌, [], pos, nat_abs, ◌<ℤ◌, length, slice_index_or, IsTrue, IfSome};
 ghost use Rattle.integer_tableau.specs.Numbers.{IsWithin, total_size};
-ghost use Rattle.integer_tableau.specs.Combined.{combined_row};
+ghost use Rattle.integer_tableau.specs.Combined.{combined, combined_row, numerator_of};
 
-use crate::integer_row::IntegerRow;
+use crate::integer_row::{IntegerRow, LIMIT};
 use crate::position::Position;
 use crate::program_row::ProgramRow;
 
@@ -37,6 +37,61 @@ fn are_bounds_small(weight: u64, rows: &[IntegerRow], denominator: i64) -> bool
     u128::from(weight) * u128::from(most) < 1 << 62
 }
 
+/// A bound on the sizes of what a column says.
+#[inline(always)]
+fn column_bound(position: Position, row: &IntegerRow, denominator: i64) -> u64
+    ensures { (k : ℕ) → nat_abs (numerator_of (nat_abs denominator) row.now position k) ≤ result }
+{
+    match position {
+        Position::InBasis => row.bound(),
+        Position::InColumn(_) => denominator.unsigned_abs(),
+    }
+}
+
+/// `total + size * bound`, if it has 64 bits.
+#[inline(always)]
+fn with_product(total: u64, size: u64, bound: u64) -> Option<u64>
+    ensures { IfSome result (λ t. t ≡ total + size * bound) }
+{
+    total.checked_add(size.checked_mul(bound)?)
+}
+
+/// A bound on the sizes in a combination of the columns, if it has 64 bits.
+fn combination_bound(
+    coefficients: &[i64],
+    positions: &[Position],
+    rows: &[IntegerRow],
+    denominator: i64,
+) -> Option<u64>
+    requires rows_there { length rows.now ≡ length coefficients.now }
+    requires positions_there { length coefficients.now ≤ length positions.now }
+    ensures { IfSome result (λ b. (k : ℕ) → nat_abs (combined (nat_abs denominator) coefficients.now positions.now rows.now k) ≤ b) }
+{
+    let mut total = 0;
+    for (j, coefficient) in coefficients.iter().enumerate() {
+        let bound = column_bound(positions[j], &rows[j], denominator);
+        total = with_product(total, coefficient.unsigned_abs(), bound)?;
+    }
+    Some(total)
+}
+
+/// Whether the bounds on the rows' sizes make the combination's numbers smaller than 2^62 in size.
+fn is_small_by_bounds(
+    coefficients: &ProgramRow,
+    positions: &[Position],
+    rows: &[IntegerRow],
+    denominator: i64,
+) -> bool
+    requires rows_there { length rows.now ≡ length coefficients.now }
+    requires positions_there { length coefficients.now ≤ length positions.now }
+    ensures { IsTrue result → IsWithin (2 ^ 62 - 1) (combined_row (nat_abs denominator) positions.now rows.now coefficients.now) }
+{
+    match combination_bound(coefficients.numerators(), positions, rows, denominator) {
+        Some(bound) => bound < LIMIT,
+        None => false,
+    }
+}
+
 /// Whether each combination that is basic has numbers below 2^62 in size.
 fn are_small_by_look(
     program_rows: &[ProgramRow],
@@ -53,6 +108,7 @@ fn are_small_by_look(
     let columns = rows.len();
     for (i, coefficients) in program_rows.iter().enumerate() {
         if positions[columns + i] == Position::InBasis
+            && !is_small_by_bounds(coefficients, positions, rows, denominator)
             && !spare.combine(coefficients, positions, rows, denominator)
         {
             return false;
@@ -61,8 +117,8 @@ fn are_small_by_look(
     true
 }
 
-/// Whether each combination that is basic has numbers below 2^62 in size: by bounds or, where these are too large, by a look at each. `spare`
-/// is of no use then.
+/// Whether each combination that is basic has numbers below 2^62 in size: by one bound for all, by a bound for each or, where that is too
+/// large, by a look at its numbers. `spare` is of no use then.
 pub(crate) fn are_combinations_small(
     program_rows: &[ProgramRow],
     weight: u64,

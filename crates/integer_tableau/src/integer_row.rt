@@ -48,6 +48,20 @@ pub(crate) fn greatest_size(row: &[i64]) -> u64
     size
 }
 
+/// Puts numbers in the place of others; false where one has more than 64 bits.
+fn put_narrowed(row: &mut [i64], numbers: &[i128]) -> bool
+    requires { length row.old ≡ length numbers.now }
+    ensures { IsTrue result → (k : ℕ) → number_at row.new k ≡ number_at numbers.now k }
+{
+    for (k, number) in row.iter_mut().enumerate() {
+        match i64::try_from(numbers[k]) {
+            Ok(narrowed) => *number = narrowed,
+            Err(_) => return false,
+        }
+    }
+    true
+}
+
 /// Turns each number's sign.
 fn negate(row: &mut [i64])
     requires { IsWithin (2 ^ 62 - 1) row.old }
@@ -240,13 +254,17 @@ impl IntegerRow {
         if self.fill(rows.len()).is_err() {
             return false;
         }
+        let Ok(mut sums) = Vec::from_elem(*self.numerators.allocator(), 0, rows.len()) else {
+            return false;
+        };
         if add_columns(
-            &mut self.numerators,
+            &mut sums,
             coefficients.numerators(),
             positions,
             rows,
             denominator,
-        ) {
+        ) && put_narrowed(&mut self.numerators, &sums)
+        {
             self.size = greatest_size(&self.numerators);
             self.is_small()
         } else {

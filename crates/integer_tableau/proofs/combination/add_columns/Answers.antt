@@ -16,7 +16,7 @@ loop-j-preserved c = λ k.
     let f : SFits w64 (get_or cs j (pos 0)) = search rules in
     let l : j < length cs = omega arith in
     let m : j < length c.args.rows.now = omega (arith, l, c.requires.rows_there) in
-    column_more d cs c.args.positions.now c.args.rows.now j k (number_at c.loop-j.sum k) (number_at c.add_column.new.sum k) c.index-rows-j.result
+    column_more d cs c.args.positions.now c.args.rows.now j k (number_at c.loop-j.sums k) (number_at c.add_column.new.sums k) c.index-rows-j.result
     (combined d cs c.args.positions.now c.args.rows.now k) l (omega (arith, l, c.requires.positions_there)) m
     (c.index-rows-j.is ∙ get_or_default c.args.rows.now j c.index-rows-j.result [] m) (c.loop-j.invariant k)
-    (c.if-not-add_column.ensures refl k ∙ (λ i. number_at c.loop-j.sum k +ℤ to_z-of_z w64 (get_or cs j (pos 0)) f i *ℤ numerator_of d c.index-rows-j.result (get_or c.args.positions.now j InBasis) k))
+    (c.if-not-add_column.ensures refl k ∙ (λ i. number_at c.loop-j.sums k +ℤ to_z-of_z w64 (get_or cs j (pos 0)) f i *ℤ numerator_of d c.index-rows-j.result (get_or c.args.positions.now j InBasis) k))

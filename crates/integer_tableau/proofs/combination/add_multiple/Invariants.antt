@@ -4,6 +4,6 @@ use Rattle.integer_tableau.proofs.combination.add_multiple.Given as goal
 
 abbrev pub invariant-loop-k : goal.invariant-loop-k
 invariant-loop-k l = record {
-  done : (i : ℕ) → i < l.k → number_at l.sum i ≡ number_at l.initial.sum i +ℤ l.factor *ℤ number_at l.row i;
-  left : (i : ℕ) → l.k ≤ i → number_at l.sum i ≡ number_at l.initial.sum i;
+  done : (i : ℕ) → i < l.k → number_at l.sums i ≡ number_at l.initial.sums i +ℤ l.factor *ℤ number_at l.row i;
+  left : (i : ℕ) → l.k ≤ i → number_at l.sums i ≡ number_at l.initial.sums i;
 }
