@@ -1,0 +1,4 @@
+pub mod Drawing
+pub mod Numbered
+pub mod Pieces
+pub mod Worked
