@@ -1,0 +1,100 @@
+-- What crashes leave of a pool's journal.
+use Rattle.std.specs.Prelude.{◌≡◌, ◌≤◌, ℕ, List, [], ◌∷◌, ◌++◌, length, take, Option, Some, None, slice_get, refl}
+use Rattle.std.proofs.Common.{sym, ap, ◌∙◌, subst, inl, arith, ⊎_elim, length-take}
+use Rattle.std.proofs.lemmas.List.{take_all}
+use Rattle.outside.specs.Images.{IsImage, Leaves, LeavesOnly, NoMomentPasses}
+use Rattle.outside.specs.Lemmas.Passing.{started}
+use Rattle.outside.specs.declared.moment.Moment.{Moment}
+use Rattle.node_events.specs.declared.event.Event.{Event}
+use Rattle.event_core.specs.declared.entry.Entry.{Entry}
+use Rattle.event_core.specs.Histories.{journaled}
+use Rattle.event_codec.specs.Codes.{code}
+use Rattle.node_journal.specs.Appends.{IsWithOrWithout}
+use Rattle.node_journal.specs.History.{first_of, count_of, BeginsWith, IsPrefixOf, Keeps, EachFrom, KeepsHistory}
+use Rattle.node_journal.specs.Records.{Records, Holds, payloads_held, records}
+use Rattle.node_journal.specs.Whole.{payloads_in}
+use Rattle.node_pool.specs.declared.halt.Halt.{Halt}
+use Rattle.node_pool.specs.declared.halt.Halt.TheVariants as halt
+use Rattle.node_pool.specs.Payloads.{codes, codes_given, model_in, IsJournalOf, LeavesPrefixes}
+
+-- ---- since the journal was opened
+-- while the journal is sound, each crash leaves a prefix of what stands on the disk
+pub leaves_sound : (from : ℕ) (past : List Moment) (now : Moment) (history : List Entry) (h : Option Halt) → KeepsHistory from past now (payloads_in now) None → IsJournalOf (payloads_in now) history
+    → codes_given history h ≡ codes (journaled history) → LeavesPrefixes from past now history h
+leaves_sound from past now history h kept stands given i m c ge at is =
+    subst (λ (ps : List (List ℕ)). IsPrefixOf ps (records c)) (stands ∙ ap (λ (l : List (List ℕ)). model_in (payloads_in now) ∷ l) (sym given)) (kept.prefixes refl i m c ge at is)
+
+-- where the disk failed while an event was added, perhaps with its code
+pub leaves_failed : (from : ℕ) (now : Moment) (past' : List Moment) (now' : Moment) (history : List Entry) (n : ℕ) (e : Event) (payload : List ℕ) → payload ≡ code e → IsJournalOf (payloads_in now) history
+    → model_in (payloads_in now') ≡ model_in (payloads_in now) → EachFrom from (past' ++ now' ∷ []) (λ c. IsPrefixOf (payloads_in now ++ payload ∷ []) (records c))
+    → LeavesPrefixes from past' now' history (Some (halt.Disk n e))
+leaves_failed from now past' now' history n e payload spelled stands same since i m c ge at is =
+    subst (λ (ps : List (List ℕ)). IsPrefixOf ps (records c)) moved (since i m c ge at is)
+  where
+    moved : payloads_in now ++ payload ∷ [] ≡ model_in (payloads_in now') ∷ (codes (journaled history) ++ code e ∷ [])
+    moved =
+        ap (λ (p : List ℕ). payloads_in now ++ p ∷ []) spelled
+        ∙ ap (λ (l : List (List ℕ)). l ++ code e ∷ []) stands
+        ∙ ap (λ (x : List ℕ). x ∷ (codes (journaled history) ++ code e ∷ [])) (sym same)
+
+-- no moment went by
+pub leaves_stands : (from : ℕ) (past : List Moment) (now : Moment) (past' : List Moment) (now' : Moment) (es : List Entry) (h : Option Halt) → NoMomentPasses past now past' now' → LeavesPrefixes from past now es h
+    → LeavesPrefixes from past' now' es h
+leaves_stands from past now past' now' es h stands all =
+    subst (λ (m : Moment). LeavesPrefixes from past' m es h) (sym stands.same) (subst (λ (l : List Moment). LeavesPrefixes from l now es h) (sym stands.none) all)
+
+-- ---- while one event is added
+-- a prefix of payloads that begins with all of them is all of them
+exact : (ps : List (List ℕ)) (r : Records) → IsPrefixOf ps r → BeginsWith ps r → r ≡ Holds ps
+exact ps r prefix begins = prefix ∙ ap Holds (sym (take_all (length ps) (take (count_of r) ps) short) ∙ whole)
+  where
+    short : length (take (count_of r) ps) ≤ length ps
+    short = omega (arith, length-take (count_of r) ps)
+
+    whole : take (length ps) (take (count_of r) ps) ≡ ps
+    whole = ap payloads_held (sym (ap (λ (x : Records). first_of (length ps) x) prefix) ∙ begins)
+
+get_seam : (xs : List Moment) (y : Moment) (ys : List Moment) → slice_get (xs ++ y ∷ ys) (length xs) ≡ Some y
+get_seam [] y ys = refl
+get_seam (x ∷ xs) y ys = get_seam xs y ys
+
+-- where no call is made, a crash leaves the payloads that are there
+pub none_added : (from : ℕ) (past : List Moment) (now : Moment) (fault : Option ℕ) (p : List ℕ) → KeepsHistory from past now (payloads_in now) fault → fault ≡ None → Keeps (payloads_in now) now
+    → LeavesOnly past now past now (IsWithOrWithout (payloads_in now) p)
+none_added from past now fault p kept sound keeps =
+    started past now (IsWithOrWithout (payloads_in now) p)
+    (λ c is. inl (exact (payloads_in now) (records c) (kept.prefixes sound (length past) now c kept.begun (get_seam past now []) is) (keeps c is)))
+
+-- the last moment of a run
+last_of : Moment → List Moment → Moment
+last_of m [] = m
+last_of m (n ∷ ns) = last_of n ns
+
+last_push : (d : Moment) (ms : List Moment) (n : Moment) → last_of d (ms ++ n ∷ []) ≡ n
+unfolding last_of
+last_push d [] n = refl
+last_push d (m ∷ ms) n = last_push m ms n
+
+last_behind : (d : Moment) (ms : List Moment) (n : Moment) (ns : List Moment) → last_of d (ms ++ n ∷ ns) ≡ last_of n ns
+unfolding last_of
+last_behind d [] n ns = refl
+last_behind d (m ∷ ms) n ns = last_behind m ms n ns
+
+leaves_last : (P : List ℕ → Type 0) (m : Moment) (ms : List Moment) → Leaves P (m ∷ ms) → (c : List ℕ) → IsImage (last_of m ms) c → P c
+unfolding last_of
+leaves_last P m [] all c is = all.0 c is
+leaves_last P m (n ∷ ns) all c is = leaves_last P n ns all.1 c is
+
+run_last : (past : List Moment) (now : Moment) (past' : List Moment) (now' : Moment) (P : List ℕ → Type 0) → LeavesOnly past now past' now' P → (c : List ℕ) → IsImage now' c → P c
+run_last past now past' now' P run c is =
+    leaves_last P now run.moments run.each c
+    (subst (λ (m : Moment). IsImage m c) (sym (last_push now past' now') ∙ ap (λ (l : List Moment). last_of now l) run.passed ∙ last_behind now past now run.moments) is)
+
+-- The model's record stays.
+module _ (past : List Moment) (now : Moment) (past' : List Moment) (now' : Moment) (history : List Entry) (p : List ℕ) (stands : IsJournalOf (payloads_in now) history) where
+  pub model_kept : LeavesOnly past now past' now' (IsWithOrWithout (payloads_in now) p) → IsImage now' now'.seen → model_in (payloads_in now') ≡ model_in (payloads_in now)
+  unfolding payloads_in
+  model_kept run is = ⊎_elim
+      (λ old. ap (λ (r : Records). model_in (payloads_held r)) old)
+      (λ new. ap (λ (r : Records). model_in (payloads_held r)) new ∙ ap (λ (l : List (List ℕ)). model_in (l ++ p ∷ [])) stands)
+      (run_last past now past' now' (IsWithOrWithout (payloads_in now) p) run now'.seen is)

@@ -1,0 +1,109 @@
+-- What a pool keeps where its state, its list or its halt changes, over plain values.
+use Rattle.std.specs.Prelude.{◌≡◌, ◌+◌, ℕ, false, List, [], ◌∷◌, ◌++◌, length, Option, Some, None, is_some, option_to_list, refl}
+use Rattle.std.specs.List.{AllByRecursion}
+use Rattle.std.proofs.Common.{sym, ap, ◌∙◌, subst, arith}
+use Rattle.outside.specs.declared.moment.Moment.{Moment}
+use Rattle.node_events.specs.declared.event.Event.{Event}
+use Rattle.node_events.specs.declared.event.Event.TheVariants as event
+use Rattle.event_core.specs.declared.entry.Entry.{Entry}
+use Rattle.event_core.specs.States.{State}
+use Rattle.event_core.specs.After.{after, after_claim}
+use Rattle.event_core.specs.Histories.{is_journaled, journaled}
+use Rattle.event_core.specs.Laws.{unheld}
+use Rattle.event_codec.specs.Codes.{code}
+use Rattle.node_journal.specs.Records.{records}
+use Rattle.node_journal.specs.History.{IsPrefixOf}
+use Rattle.node_journal.specs.Whole.{payloads_in}
+use Rattle.node_pool.specs.declared.halt.Halt.{Halt}
+use Rattle.node_pool.specs.declared.halt.Halt.TheVariants as halt
+use Rattle.node_pool.specs.declared.answers.Claim.{Claim}
+use Rattle.node_pool.specs.Answers.{IsClaim}
+use Rattle.node_pool.specs.Stored.{IsStored}
+use Rattle.node_pool.specs.Free.{AreFreeNodes}
+use Rattle.node_pool.specs.Halting.{IsHalt, IsNext, IsUnfailed, passes_budget}
+use Rattle.node_pool.specs.Payloads.{codes, codes_given, model_in, LeavesPrefixes}
+use Rattle.node_pool.proofs.FreeNodes.{claimed_nodes}
+use Rattle.node_pool.proofs.Journaling.{journaled-other}
+
+-- ---- halts
+-- states with the same nodes that differ in holds
+pub halts_moved : (faults budget count : ℕ) (fault : Option ℕ) (s t : State) (h : Option Halt) → unheld t ≡ unheld s → IsHalt faults budget count fault s h → IsHalt faults budget count fault t h
+halts_moved faults budget count fault s t None e i = i
+halts_moved faults budget count fault s t (Some halt.Memory) e i = i
+halts_moved faults budget count fault s t (Some (halt.Disk n f)) e i = record {
+  failed = i.failed;
+  counted = i.counted;
+  rose = i.rose;
+  next = subst (λ (u : State). IsNext u f) (sym e) i.next;
+  codable = i.codable;
+  typed = i.typed;
+  within = ap (λ (u : State). passes_budget budget (length u.nodes) f) e ∙ i.within;
+}
+halts_moved faults budget count fault s t (Some (halt.Budget f)) e i = record {
+  sound = i.sound;
+  next = subst (λ (u : State). IsNext u f) (sym e) i.next;
+  over = ap (λ (u : State). passes_budget budget (length u.nodes) f) e ∙ i.over;
+}
+
+-- ---- claims
+pub claim_open : (h : Option Halt) (s : State) (a : Claim) → is_some h ≡ false → IsClaim None s a → IsClaim h s a
+claim_open (Some h) s a e i = cc
+claim_open None s a e i = i
+
+-- one whose last node is taken
+pub last_taken : (s : State) (before rest : List ℕ) (o : Option ℕ) (n : ℕ) → before ≡ rest ++ option_to_list o → o ≡ Some n → AreFreeNodes s before → AreFreeNodes s (rest ++ n ∷ [])
+last_taken s before rest o n e f h = subst (AreFreeNodes s) (e ∙ ap (λ p. rest ++ option_to_list p) f) h
+
+pub claimed_listed : (s t : State) (w n : ℕ) (ns : List ℕ) → t ≡ after_claim s (Some w) n → AreFreeNodes s (ns ++ n ∷ []) → AreFreeNodes t ns
+claimed_listed s t w n ns e h = subst (λ (u : State). AreFreeNodes u ns) (sym e) (claimed_nodes s w n ns h)
+
+-- ---- what was given to the journal
+pub given_same : (es fs : List Entry) (h : Option Halt) → journaled fs ≡ journaled es → codes_given fs h ≡ codes_given es h
+given_same es fs None e = ap (λ (l : List Entry). codes l) e
+given_same es fs (Some halt.Memory) e = ap (λ (l : List Entry). codes l) e
+given_same es fs (Some (halt.Budget f)) e = ap (λ (l : List Entry). codes l) e
+given_same es fs (Some (halt.Disk n f)) e = ap (λ (l : List Entry). codes l ++ code f ∷ []) e
+
+pub leaves_given : (from : ℕ) (past : List Moment) (now : Moment) (es fs : List Entry) (h k : Option Halt) → codes_given fs k ≡ codes_given es h → LeavesPrefixes from past now es h → LeavesPrefixes from past now fs k
+leaves_given from past now es fs h k e all i m c ge at is =
+    subst (λ (l : List (List ℕ)). IsPrefixOf (model_in (payloads_in now) ∷ l) (records c)) (sym e) (all i m c ge at is)
+
+-- ---- a claim or a release
+module _ (s t : State) (es fs : List Entry) (w : Option ℕ) (e : Event) (other : is_journaled e ≡ false) (state : t ≡ after s w e) (history : fs ≡ es ++ record { worker = w; event = e } ∷ []) where
+  pub same_journaled : journaled fs ≡ journaled es
+  same_journaled = ap (λ (l : List Entry). journaled l) history ∙ journaled-other es w e other
+
+  pub same_count : (n : ℕ) → n ≡ length (journaled es) + 1 → n ≡ length (journaled fs) + 1
+  same_count n h = omega (arith, h, ap (λ (l : List Entry). length l) same_journaled)
+
+  pub same_stored : AllByRecursion IsStored (journaled es) → AllByRecursion IsStored (journaled fs)
+  same_stored all = subst (λ (l : List Entry). AllByRecursion IsStored l) (sym same_journaled) all
+
+  pub same_leaves : (from : ℕ) (past : List Moment) (now : Moment) (h : Option Halt) → LeavesPrefixes from past now es h → LeavesPrefixes from past now fs h
+  same_leaves from past now h all = leaves_given from past now es fs h h (given_same es fs h same_journaled) all
+
+unheld_other : (s : State) (w : Option ℕ) (e : Event) → is_journaled e ≡ false → unheld (after s w e) ≡ unheld s
+unheld_other s w (event.Claim i) j = refl
+unheld_other s w (event.Release i) j = refl
+unheld_other s w (event.Cut mult) j = cc
+unheld_other s w (event.Offer x) j = cc
+unheld_other s w (event.Split i k b r) j = cc
+unheld_other s w (event.Close i proof) j = cc
+
+pub halts_other : (faults budget count : ℕ) (fault : Option ℕ) (s t : State) (h : Option Halt) (w : Option ℕ) (e : Event) → is_journaled e ≡ false → t ≡ after s w e → IsHalt faults budget count fault s h
+    → IsHalt faults budget count fault t h
+halts_other faults budget count fault s t h w e other state i = halts_moved faults budget count fault s t h (ap unheld state ∙ unheld_other s w e other) i
+
+-- ---- the halt
+pub halts_same : (faults budget count : ℕ) (fault : Option ℕ) (s t : State) (h : Option Halt) → t ≡ s → IsHalt faults budget count fault s h → IsHalt faults budget count fault t h
+halts_same faults budget count fault s t h e i = halts_moved faults budget count fault s t h (ap unheld e) i
+
+pub none_if : (h : Option Halt) → is_some h ≡ false → h ≡ None
+none_if None e = refl
+none_if (Some h) e = cc
+
+pub unfailed : (faults budget count : ℕ) (fault : Option ℕ) (s : State) (h : Option Halt) → h ≡ None → IsHalt faults budget count fault s h → IsUnfailed faults count fault
+unfailed faults budget count fault s h e i = subst (λ (k : Option Halt). IsHalt faults budget count fault s k) e i
+
+pub halts_none : (faults budget count : ℕ) (fault : Option ℕ) (s : State) (h : Option Halt) → h ≡ None → IsUnfailed faults count fault → IsHalt faults budget count fault s h
+halts_none faults budget count fault s h e i = subst (λ (k : Option Halt). IsHalt faults budget count fault s k) (sym e) i

@@ -1,0 +1,33 @@
+-- The open nodes that nobody holds.
+use Rattle.std.specs.Prelude.{◌≡◌, ◌<◌, ◌+◌, ℕ, Bool, not, ◌&&◌, nat_eq, List, [], ◌∷◌}
+use Rattle.std.specs.List.{AllPairs, list_any}
+use Rattle.node_events.specs.declared.event.Event.{Event}
+use Rattle.node_events.specs.declared.event.Event.TheVariants.{Claim, Release, Cut, Offer, Split, Close}
+use Rattle.event_core.specs.States.{State, is_open}
+use Rattle.event_core.specs.Holds.{is_held}
+
+-- the node is open, and nobody holds it
+abbrev pub is_free : State → ℕ → Bool
+is_free s i = is_open s i && not (is_held s i)
+
+-- node i is one of these
+abbrev pub has_node : List ℕ → ℕ → Bool
+has_node ns i = list_any (λ n. nat_eq n i) ns
+
+-- each number is less than those behind it
+abbrev pub AreRising : List ℕ → Type 0
+AreRising ns = AllPairs (λ m n. m < n) ns
+
+-- the open nodes that nobody holds, by rising number
+pub record AreFreeNodes (s : State) (ns : List ℕ) : Type 0 where
+  pub rising : AreRising ns
+  pub listed : (i : ℕ) → has_node ns i ≡ is_free s i
+
+-- the children of the node that the event splits, where the next node has this number
+abbrev pub children_of : Event → ℕ → List ℕ
+children_of (Split i j b reason) n = n ∷ (n + 1) ∷ []
+children_of (Claim i) n = []
+children_of (Release i) n = []
+children_of (Cut mult) n = []
+children_of (Offer x) n = []
+children_of (Close i proof) n = []

@@ -1,0 +1,7 @@
+pub mod Payloads
+pub mod Stored
+pub mod Free
+pub mod Halting
+pub mod Answers
+pub mod Steps
+pub mod Lemmas

@@ -1,0 +1,150 @@
+// The state of a search with its journal.
+ghost use Rattle.std.specs.Prelude.{◌≡◌, ◌+◌, ◌≤◌, [], ℕ, true, length, vec_capacity, option_copied, unwrap_or, IfOk, IfErr, Some, None};
+ghost use Rattle.std.specs.List.{AllByRecursion};
+ghost use Rattle.event_core.specs.Histories.{journaled};
+ghost use Rattle.node_journal.specs.History.{KeepsHistory};
+ghost use Rattle.node_journal.specs.Whole.{payloads_in};
+ghost use Rattle.node_pool.specs.Free.{AreFreeNodes};
+ghost use Rattle.node_pool.specs.Halting.{IsHalt};
+ghost use Rattle.node_pool.specs.Payloads.{IsJournalOf, LeavesPrefixes};
+ghost use Rattle.node_pool.specs.Stored.{IsStored};
+ghost use Rattle.node_pool.specs.Lemmas.Props.{AllStored-prop, IsHalt-prop};
+
+use crate::Halt;
+use crate::free::free_nodes;
+use event_core::State;
+use node_journal::Journal;
+use outside::Disk;
+use std::alloc::Global;
+
+/// The state of a search with its journal. What is told of the one holds of the other, whatever crash comes.
+pub struct Pool<D: Disk> {
+    pub(crate) state: State,
+    pub(crate) journal: Journal<D>,
+    // The open nodes that nobody holds, by rising number: the last one is claimed next.
+    pub(crate) free: Vec<u32>,
+    // How many nodes the tree may have.
+    pub(crate) budget: u32,
+    pub(crate) halt: Option<Halt>,
+    // The disk's count of faults when the pool was made.
+    pub(crate) faults: u64,
+    ghost listed: { AreFreeNodes state.state free.items },
+    // A release takes no memory.
+    ghost room: { length state.state.nodes ≤ vec_capacity free },
+    ghost few: { budget ≤ 1_000_000_000 },
+    ghost counted: { journal.count ≡ length (journaled state.history) + 1 },
+    ghost stored: { AllByRecursion IsStored (journaled state.history) } by { AllStored-prop (journaled state.history) },
+    ghost stands: { D.tells ≡ true → journal.fault ≡ None → IsJournalOf (payloads_in (D.now journal.disk)) state.history },
+    ghost crashes: { D.tells ≡ true → LeavesPrefixes journal.opened (D.past journal.disk) (D.now journal.disk) state.history halt },
+    ghost halts: { IsHalt faults budget (D.count journal.disk) journal.fault state.state halt } by { IsHalt-prop faults budget (D.count journal.disk) journal.fault state.state halt },
+}
+
+impl<D: Disk> Pool<D> {
+    /// A pool of a state and the journal that stands for its history, by the model's record and the events that a journal has, each with a code and the
+    /// ranges of its type. The budget is how many nodes the tree may have. At want of memory, the one error, state and journal come back.
+    pub fn make(
+        alloc: Global,
+        state: State,
+        journal: Journal<D>,
+        budget: u32,
+    ) -> Result<Pool<D>, (State, Journal<D>)>
+        requires few { budget ≤ 1_000_000_000 }
+        requires unheld { state.state.holds ≡ [] }
+        requires sound { journal.fault ≡ None }
+        requires counted { journal.count ≡ length (journaled state.history) + 1 }
+        requires stored { AllByRecursion IsStored (journaled state.history) }
+        requires stands { D.tells ≡ true → IsJournalOf (payloads_in (D.now journal.disk)) state.history }
+        ensures state { IfOk result (λ p. p.state ≡ state) }
+        ensures journal { IfOk result (λ p. p.journal ≡ journal) }
+        ensures halt { IfOk result (λ p. p.halt ≡ None) }
+        ensures budget { IfOk result (λ p. p.budget ≡ budget) }
+        ensures faults { IfOk result (λ p. p.faults ≡ D.count journal.disk) }
+        ensures state_back { IfErr result (λ e. e.0 ≡ state) }
+        ensures journal_back { IfErr result (λ e. e.1 ≡ journal) }
+    {
+        let Ok(free) = free_nodes(alloc, &state) else {
+            return Err((state, journal));
+        };
+        let faults = journal.disk().faults();
+        Ok(Pool {
+            state,
+            journal,
+            free,
+            budget,
+            halt: None,
+            faults,
+        })
+    }
+
+    /// The state.
+    pub fn state(&self) -> &State
+        ensures { result.now ≡ self.now.state }
+    {
+        &self.state
+    }
+
+    /// Why the pool is halted, if it is.
+    pub fn halted(&self) -> Option<&Halt>
+        ensures { option_copied result ≡ self.now.halt }
+    {
+        self.halt.as_ref()
+    }
+
+    /// How many nodes the tree may have.
+    pub fn budget(&self) -> u32
+        ensures { result ≡ self.now.budget }
+    {
+        self.budget
+    }
+
+    /// Halts the pool for want of memory, unless it is halted already.
+    pub fn halt(&mut self)
+        ensures halt { self.new.halt ≡ Some (unwrap_or self.old.halt Halt.Memory) }
+        ensures state { self.new.state ≡ self.old.state }
+        ensures journal { self.new.journal ≡ self.old.journal }
+        ensures budget { self.new.budget ≡ self.old.budget }
+        ensures faults { self.new.faults ≡ self.old.faults }
+    {
+        if self.halt.is_some() {
+            return;
+        }
+        self.halt = Some(Halt::Memory);
+    }
+
+    /// What each pool keeps. This computes nothing: its contract is for callers' proofs.
+    pub fn history_holds(&self)
+        ensures counted { self.now.journal.count ≡ length (journaled self.now.state.history) + 1 }
+        ensures stored { AllByRecursion IsStored (journaled self.now.state.history) }
+        // While the journal is sound, the disk has the model's record and the codes of the history's events.
+        ensures stands { D.tells ≡ true → self.now.journal.fault ≡ None → IsJournalOf (payloads_in (D.now self.now.journal.disk)) self.now.state.history }
+        // Each crash since the journal was opened leaves a prefix of them, perhaps with the event in whose call the disk failed.
+        ensures crashes { D.tells ≡ true → LeavesPrefixes self.now.journal.opened (D.past self.now.journal.disk) (D.now self.now.journal.disk) self.now.state.history self.now.halt }
+        ensures halted { IsHalt self.now.faults self.now.budget (D.count self.now.journal.disk) self.now.journal.fault self.now.state.state self.now.halt }
+        ensures kept { D.tells ≡ true → KeepsHistory self.now.journal.opened (D.past self.now.journal.disk) (D.now self.now.journal.disk) (payloads_in (D.now self.now.journal.disk)) self.now.journal.fault }
+        ensures few { self.now.budget ≤ 1_000_000_000 }
+    {
+        self.journal.history_holds();
+    }
+
+    /// The state, the journal and the halt.
+    pub fn into_parts(self) -> (State, Journal<D>, Option<Halt>)
+        ensures state { result.0 ≡ self.state }
+        ensures journal { result.1 ≡ self.journal }
+        ensures halt { result.2 ≡ self.halt }
+        ensures counted { result.1.count ≡ length (journaled result.0.history) + 1 }
+        ensures stored { AllByRecursion IsStored (journaled result.0.history) }
+        ensures stands { D.tells ≡ true → result.1.fault ≡ None → IsJournalOf (payloads_in (D.now result.1.disk)) result.0.history }
+        ensures crashes { D.tells ≡ true → LeavesPrefixes result.1.opened (D.past result.1.disk) (D.now result.1.disk) result.0.history result.2 }
+        ensures halted { IsHalt self.faults self.budget (D.count result.1.disk) result.1.fault result.0.state result.2 }
+    {
+        let Pool {
+            state,
+            journal,
+            free: _,
+            budget: _,
+            halt,
+            faults: _,
+        } = self;
+        (state, journal, halt)
+    }
+}
