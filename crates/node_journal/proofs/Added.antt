@@ -16,8 +16,8 @@ use Rattle.node_journal.specs.Gate.{IsBefore, IsBeforeOrWith}
 use Rattle.node_journal.specs.History.{SomeFrom}
 use Rattle.node_journal.specs.Appends.{IsWithOrWithout}
 use Rattle.node_journal.proofs.Ends.{adding, before_records, last_shut}
-use Rattle.node_journal.proofs.HistoryLaws.{some_weaker}
-use Rattle.node_journal.proofs.Torn.{rested}
+use Rattle.node_journal.specs.Lemmas.Histories.{some_weaker}
+use Rattle.node_journal.specs.Lemmas.Resting.{rested}
 
 -- what a disk with the file of payloads holds
 pub payloads_in-file : (m : Moment) (ps : List (List ℕ)) → list_all has_small_length ps ≡ true → m ≡ resting (file_of ps) → payloads_in m ≡ ps

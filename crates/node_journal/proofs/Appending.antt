@@ -3,7 +3,7 @@ use Rattle.std.proofs.Common.{◌≡◌, ℕ, ◌+◌, List, [], ◌∷◌, leng
 use Rattle.std.proofs.lemmas.List.{append-nil}
 use Rattle.outside.specs.Lemmas.SeenIsImage.{rests}
 use Rattle.node_journal.specs.History.{SomeFrom}
-use Rattle.node_journal.proofs.HistoryLaws.{some_none, some_goes, some_fails}
+use Rattle.node_journal.specs.Lemmas.Histories.{some_none, some_goes, some_fails}
 use Rattle.node_journal.proofs.Torn.{wrote_behind}
 use Rattle.outside.specs.Images.{IsImage, LeavesOnly, OneMomentPasses, Fails, moment_after_write, resting, moment_after_sync, overwritten}
 use Rattle.node_journal.specs.Gate.{IsBefore, IsBeforeOrWith}

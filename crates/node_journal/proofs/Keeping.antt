@@ -11,10 +11,10 @@ use Rattle.outside.specs.declared.moment.Moment.{Moment}
 use Rattle.node_journal.specs.Appends.{IsWithOrWithout}
 use Rattle.node_journal.specs.Frames.{file_of, has_small_length}
 use Rattle.node_journal.specs.History.{EachFrom, SomeFrom, BeginsWith, IsPrefixOf, Keeps, KeepsHistory}
-use Rattle.node_journal.proofs.HistoryLaws.{prefix_more, longer, prefixes_grow, history_grows, prefixes_begin, history_begins, kept_stands, some_weaker}
+use Rattle.node_journal.specs.Lemmas.Histories.{prefix_more, longer, prefixes_grow, history_grows, prefixes_begin, history_begins, kept_stands, some_weaker}
 use Rattle.node_journal.specs.Records.{Records, Holds, records}
 use Rattle.node_journal.proofs.Ends.{before_records}
-use Rattle.node_journal.proofs.Torn.{rested}
+use Rattle.node_journal.specs.Lemmas.Resting.{rested}
 
 module _ (from : ℕ) (past : List Moment) (now : Moment) (file : List ℕ) (ps : List (List ℕ)) (p : List ℕ) (small : list_all has_small_length ps ≡ true)
     (whole : file ≡ file_of ps) (rest : now ≡ resting file) (kept : KeepsHistory from past now ps None) where
@@ -53,18 +53,3 @@ all_held now file ps small whole rest c is = subst (λ r. BeginsWith ps r) (sym 
   where
     same : c ≡ file
     same = rested file c (subst (λ m. IsImage m c) rest is)
-
--- the journal was opened
-pub kept_opened : (from : ℕ) (past : List Moment) (now : Moment) (past' : List Moment) (now' : Moment) (ps : List (List ℕ)) (r : Records) → r ≡ Holds ps → from ≡ length past
-    → LeavesOnly past now past' now' (λ c. records c ≡ r) → SomeFrom (length past) past' (λ c. records c ≡ r) → KeepsHistory from past' now' ps None
-kept_opened from past now past' now' ps r holds at run some = subst (λ (k : ℕ). KeepsHistory k past' now' ps None) (sym at) (record {
-  begun = longer past now past' now' (λ c. records c ≡ Holds ps) each;
-  history = history_begins past now past' now' ps each one;
-  prefixes = λ sound. prefixes_begin past now past' now' ps each one;
-})
-  where
-    each : LeavesOnly past now past' now' (λ c. records c ≡ Holds ps)
-    each = weaker past now past' now' (λ c. records c ≡ r) (λ c. records c ≡ Holds ps) (λ c e. e ∙ holds) run
-
-    one : SomeFrom (length past) past' (λ c. records c ≡ Holds ps)
-    one = some_weaker (length past) past' (λ c. records c ≡ r) (λ c. records c ≡ Holds ps) (λ c e. e ∙ holds) some

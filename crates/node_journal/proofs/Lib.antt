@@ -9,4 +9,3 @@ pub mod Steps
 pub mod Torn
 pub mod Whole
 pub mod Framing
-pub mod HistoryLaws

@@ -13,8 +13,9 @@ use Rattle.node_journal.specs.Index.{ReadsTo, EndsAt}
 use Rattle.node_journal.specs.History.{SomeFrom, Anything}
 use Rattle.node_journal.specs.Repairs.{IsPrefixAndOne}
 use Rattle.node_journal.proofs.Ends.{nil_of, short_holds, one_records, prefix_after}
-use Rattle.node_journal.proofs.HistoryLaws.{some_none, some_goes, some_fails, some_joined, can_seen}
-use Rattle.node_journal.proofs.Torn.{rested, same_prefix, outside_one}
+use Rattle.node_journal.specs.Lemmas.Histories.{some_none, some_goes, some_fails, some_joined, can_seen}
+use Rattle.node_journal.proofs.Torn.{same_prefix, outside_one}
+use Rattle.node_journal.specs.Lemmas.Resting.{rested}
 
 -- a crash before a call, in its midst, and at rest after it leaves bytes that have P
 pub record IsStepOver (P : List ℕ → Type 0) (n done : Moment) : Type 0 where

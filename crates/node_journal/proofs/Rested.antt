@@ -6,9 +6,9 @@ use Rattle.outside.specs.Lemmas.Passing.{started, goes_on, fails_on, joined, wea
 use Rattle.outside.specs.declared.moment.Moment.{Moment}
 use Rattle.node_journal.specs.History.{EachFrom, SomeFrom, Anything, KeepsHistory}
 use Rattle.node_journal.specs.Records.{Holds, records}
-use Rattle.node_journal.proofs.HistoryLaws.{run_each, some_each, some_fails, some_goes, some_joined, some_none}
-use Rattle.node_journal.proofs.Keeping.{kept_opened}
-use Rattle.node_journal.proofs.Torn.{rested}
+use Rattle.node_journal.specs.Lemmas.Histories.{run_each, some_each, some_fails, some_goes, some_joined, some_none}
+use Rattle.node_journal.specs.Lemmas.Opening.{kept_opened}
+use Rattle.node_journal.specs.Lemmas.Resting.{rested}
 
 -- what a crash leaves before a sync of a disk at rest, and after it
 before : (n : Moment) → AtRest n → (c : List ℕ) → IsImage n c → records c ≡ records n.seen

@@ -6,10 +6,7 @@ use Rattle.std.proofs.lemmas.Bool.Decides.{nat_tests}
 use Rattle.std.proofs.lemmas.List.{ext_get_or, take_all, drop_all, take_at, append-nil, drop_more, drop_at}
 use Rattle.outside.specs.Images.{IsImage, is_in_ranges, overwritten, moment_after_write, resting}
 use Rattle.node_journal.specs.Gate.{IsBefore, IsBeforeOrWith}
-
--- a crash of a disk at rest leaves its bytes
-pub rested : (file c : List ℕ) → IsImage (resting file) c → c ≡ file
-rested file c is = ext_get_or 0 c file (omega (arith, is.no_shorter, is.no_longer)) (λ i lt. is.elsewhere i (omega (arith, lt, is.no_longer)) refl)
+use Rattle.node_journal.specs.Lemmas.Resting.{rested}
 
 pub outside_one : (at n i : ℕ) → (i < at) ⊎ (at + n ≤ i) → is_in_ranges ((at, n) ∷ []) i ≡ false
 outside_one at n i away = grind (arith, nat_tests)

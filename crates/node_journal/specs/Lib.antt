@@ -8,3 +8,4 @@ pub mod Records
 pub mod Repairs
 pub mod Views
 pub mod Whole
+pub mod Lemmas

@@ -7,7 +7,7 @@ use Rattle.node_journal.specs.History.{Anything}
 use Rattle.node_journal.specs.Views.{payloads_of}
 use Rattle.node_journal.specs.Frames.{end_of}
 use Rattle.node_journal.proofs.Ends.{cut_records, end_records}
-use Rattle.node_journal.proofs.HistoryLaws.{some_none}
+use Rattle.node_journal.specs.Lemmas.Histories.{some_none}
 use Rattle.node_journal.proofs.Repairing.{file_rests}
 use Rattle.node_journal.proofs.repair.trim.Goals as goal
 

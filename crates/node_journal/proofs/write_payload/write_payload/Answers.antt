@@ -3,7 +3,7 @@ use Rattle.node_journal.specs.Frames.{tail_of}
 use Rattle.node_journal.specs.Records.{records, Holds}
 use Rattle.node_journal.specs.Whole.{payloads_in}
 use Rattle.node_journal.proofs.Added.{written_rests, leaves_with, leaves_none, can_leave}
-use Rattle.node_journal.proofs.HistoryLaws.{some_none}
+use Rattle.node_journal.specs.Lemmas.Histories.{some_none}
 use Rattle.node_journal.proofs.write_payload.write_payload.Goals as goal
 
 pub returns-then-next-ge-SIZE_LIMIT-clause-any_moment : goal.returns-then-next-ge-SIZE_LIMIT-clause-any_moment

@@ -4,7 +4,7 @@ use Rattle.node_journal.specs.Frames.{file_of}
 use Rattle.node_journal.specs.History.{KeepsHistory}
 use Rattle.node_journal.specs.Whole.{payloads_in}
 use Rattle.node_journal.proofs.Added.{added_in, added_rests, added_whole, added_count}
-use Rattle.node_journal.proofs.HistoryLaws.{continued, continued_stands}
+use Rattle.node_journal.specs.Lemmas.Histories.{continued, continued_stands}
 use Rattle.node_journal.proofs.Keeping.{since, since_none, kept_added, kept_failed}
 use Rattle.node_journal.proofs.journal.Journal.append.Goals as goal
 

@@ -1,0 +1,42 @@
+-- What a disk keeps from the first moment of a call that opens its journal.
+use Rattle.std.specs.Prelude.{◌≡◌, ℕ, ◌≤◌, List, [], ◌∷◌, ◌++◌, length, Option, None, refl}
+use Rattle.std.proofs.Common.{sym, ◌∙◌, ap, subst}
+use Rattle.outside.specs.Images.{AtRest, LeavesOnly, NoMomentPasses, resting}
+use Rattle.outside.specs.declared.moment.Moment.{Moment}
+use Rattle.node_journal.specs.History.{SomeFrom, Keeps, ExtendsMoments, IsHistory, KeepsHistory}
+use Rattle.node_journal.specs.Records.{Records, Holds, records}
+use Rattle.node_journal.specs.Lemmas.Histories.{some_stands}
+use Rattle.node_journal.specs.Lemmas.Opening.{kept_opened}
+use Rattle.node_journal.specs.Lemmas.Resting.{rested}
+use Rattle.resume.specs.Lemmas.Histories.{last_moment, keeps_joined}
+use Rattle.resume.proofs.Recovering.{untouched}
+
+-- at each moment a crash left what was there
+pub unchanged : (past past' : List Moment) (now now' : Moment) (ps qs : List (List ℕ)) → records now.seen ≡ Holds ps → qs ≡ ps → LeavesOnly past now past' now' (λ c. records c ≡ records now.seen)
+    → SomeFrom (length past) past' (λ c. records c ≡ records now.seen) → KeepsHistory (length past) past' now' qs None
+unchanged past past' now now' ps qs holds same run some = kept_opened (length past) past now past' now' qs (records now.seen) (holds ∙ ap Holds (sym same)) refl run some
+
+-- no moment went by
+pub untouched_history : (past past' : List Moment) (now now' : Moment) (ps : List (List ℕ)) → AtRest now → records now.seen ≡ Holds ps → NoMomentPasses past now past' now' → IsHistory (length past) (past' ++ now' ∷ [])
+untouched_history past past' now now' ps rests holds stands =
+    (unchanged past past' now now' ps ps holds refl (untouched past past' now now' (λ c. records c ≡ records now.seen) rests refl stands) (some_stands past now past' now' (λ c. records c ≡ records now.seen) stands)).history
+
+-- an empty journal was recovered, and then a payload was added to it, or a part of it
+pub begun_history : (past mid past' : List Moment) (now between now' : Moment) (opened opened' : ℕ) (ps : List (List ℕ)) (fault : Option ℕ) → records now.seen ≡ Holds []
+    → LeavesOnly past now mid between (λ c. records c ≡ records now.seen) → SomeFrom (length past) mid (λ c. records c ≡ records now.seen) → opened ≤ length mid
+    → ExtendsMoments (mid ++ between ∷ []) (past' ++ now' ∷ []) → opened' ≡ opened → KeepsHistory opened' past' now' ps fault → KeepsHistory (length past) past' now' ps fault
+begun_history past mid past' now between now' opened opened' ps fault empty run some begun extends same next =
+    keeps_joined (length past) opened mid past' between now' [] first none extends begun ps fault (subst (λ (k : ℕ). KeepsHistory k past' now' ps fault) same next) (λ sound. refl)
+  where
+    first : KeepsHistory (length past) mid between [] None
+    first = unchanged past mid now between [] [] empty refl run some
+
+    none : Keeps [] between
+    none c is = first.history.reads (length mid) between c first.begun (last_moment mid between) is
+
+pub sound_history : (from : ℕ) (past : List Moment) (now : Moment) (ps : List (List ℕ)) (fault : Option ℕ) → fault ≡ None → KeepsHistory from past now ps fault → KeepsHistory from past now ps None
+sound_history from past now ps fault sound kept = subst (λ (f : Option ℕ). KeepsHistory from past now ps f) sound kept
+
+-- a disk that was synced is at rest
+pub rests_at : (file : List ℕ) (now : Moment) → now ≡ resting file → AtRest now
+rests_at file now same = subst AtRest (sym same) (λ c is. rested file c is)

@@ -1,0 +1,7 @@
+pub mod Applying
+pub mod Differences
+pub mod KeptHistories
+pub mod Models
+pub mod Recovering
+pub mod Refusing
+pub mod Replaying

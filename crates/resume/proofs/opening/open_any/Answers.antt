@@ -1,0 +1,26 @@
+use Rattle.std.proofs.Common.{sym, subst, refl, ◌≡◌, List, ℕ}
+use Rattle.event_core.specs.Rooms.{Recorded}
+use Rattle.node_journal.specs.Records.{records}
+use Rattle.node_journal.specs.Views.{payloads_of}
+use Rattle.node_journal.specs.Whole.{payloads_in}
+use Rattle.resume.specs.Journals.{StandsFor}
+use Rattle.resume.specs.Crashes.{IsAsBefore}
+use Rattle.resume.proofs.KeptHistories.{untouched_history}
+use Rattle.resume.proofs.Recovering.{untouched, if_both}
+use Rattle.resume.proofs.opening.open_any.Goals as goal
+
+pub returns-in-Ok-read_search-clause-stands : goal.returns-in-Ok-read_search-clause-stands
+returns-in-Ok-read_search-clause-stands g c told =
+    if_both c.continue_journal.result (λ p. p.state ≡ c.in-Ok-read_search.state) (λ p. payloads_in (g.D.Disk.now p.journal.disk) ≡ payloads_of c.in-Ok.scanned)
+    (λ p. StandsFor p.state.state.problem (payloads_in (g.D.Disk.now p.journal.disk)) p.state.history) c.continue_journal.ensures.state (c.continue_journal.ensures.journal told)
+    (λ p s j. subst (λ (ps : List (List ℕ)). StandsFor p.state.state.problem ps p.state.history) (sym j)
+    (subst (λ (st : Recorded). StandsFor st.state.problem (payloads_of c.in-Ok.scanned) st.history) (sym s) c.in-Ok-read_search.ensures.read.stands))
+
+pub returns-in-Err-read_search-clause-any_moment_err : goal.returns-in-Err-read_search-clause-any_moment_err
+returns-in-Err-read_search-clause-any_moment_err g c told rests = untouched _ _ _ _ (IsAsBefore (records (g.D.Disk.now c.args.disk).seen)) rests refl c.scan.ensures.stands
+
+pub returns-in-Err-clause-history_err : goal.returns-in-Err-clause-history_err
+returns-in-Err-clause-history_err g c told rests ps holds = untouched_history _ _ _ _ ps rests holds c.scan.ensures.stands
+
+pub returns-in-Err-read_search-clause-history_err : goal.returns-in-Err-read_search-clause-history_err
+returns-in-Err-read_search-clause-history_err g c told rests ps holds = untouched_history _ _ _ _ ps rests holds c.scan.ensures.stands

@@ -1,0 +1,89 @@
+use Rattle.std.proofs.Common.{sym, subst, refl, inl, ap, ◌∙◌, ◌≡◌, ◌<◌, ◌^◌, arith, List, [], ◌∷◌, ℕ, length, IfOk}
+use Rattle.problem.specs.Problem.{Problem}
+use Rattle.outside.specs.Images.{LeavesOnly}
+use Rattle.event_codec.specs.Models.{model_code}
+use Rattle.event_core.specs.declared.entry.Entry.{Entry}
+use Rattle.event_core.specs.Rooms.{Recorded}
+use Rattle.event_core.specs.States.{State, first_state}
+use Rattle.node_journal.specs.Records.{records}
+use Rattle.node_journal.specs.Views.{payloads_of}
+use Rattle.node_journal.specs.Whole.{payloads_in}
+use Rattle.resume.specs.Journals.{StandsFor, IsReadFrom}
+use Rattle.resume.specs.Crashes.{IsAsBefore, IsAsBeforeOrBegun}
+use Rattle.resume.proofs.Models.{own_model, small_model}
+use Rattle.resume.proofs.KeptHistories.{untouched_history}
+use Rattle.resume.proofs.Recovering.{untouched, behind_scan, still_rests, stands_alone, if_both, if_then, if_err}
+use Rattle.resume.proofs.opening.open_pool.Goals as goal
+
+pub returns-in-Err-clause-any_moment_err : goal.returns-in-Err-clause-any_moment_err
+returns-in-Err-clause-any_moment_err g c told rests =
+    untouched _ _ _ _ (IsAsBeforeOrBegun (records (g.D.Disk.now c.args.disk).seen) (model_code c.args.text.now c.args.upper)) rests (inl refl) c.scan.ensures.stands
+
+pub returns-in_default-clause-any_moment_err : goal.returns-in_default-clause-any_moment_err
+returns-in_default-clause-any_moment_err g c told rests =
+    untouched _ _ _ _ (IsAsBeforeOrBegun (records (g.D.Disk.now c.args.disk).seen) (model_code c.args.text.now c.args.upper)) rests (inl refl) c.scan.ensures.stands
+
+pub returns-in-Err-read_search_of-clause-any_moment_err : goal.returns-in-Err-read_search_of-clause-any_moment_err
+returns-in-Err-read_search_of-clause-any_moment_err g c told rests =
+    untouched _ _ _ _ (IsAsBeforeOrBegun (records (g.D.Disk.now c.args.disk).seen) (model_code c.args.text.now c.args.upper)) rests (inl refl) c.scan.ensures.stands
+
+pub begin_search-requires-clause-small : goal.begin_search-requires-clause-small
+begin_search-requires-clause-small g c =
+    subst (λ (l : List ℕ). length l < 2 ^ 32) (sym (c.deref.ensures.value ∙ c.in-Ok-encode_model.ensures)) (small_model c.args.text.now c.args.upper c.args.problem c.requires.model)
+
+pub returns-then-count-eq0-clause-stands : goal.returns-then-count-eq0-clause-stands
+returns-then-count-eq0-clause-stands g c told =
+    if_both c.begin_search.result (λ p. p.state.history ≡ []) (λ p. payloads_in (g.D.Disk.now p.journal.disk) ≡ c.deref.result.now ∷ [])
+    (λ p. StandsFor c.args.problem (payloads_in (g.D.Disk.now p.journal.disk)) p.state.history) c.begin_search.ensures.fresh (c.begin_search.ensures.journal told)
+    (λ p h j. subst (λ (ps : List (List ℕ)). StandsFor c.args.problem ps p.state.history) (sym j)
+    (subst (λ (es : List Entry). StandsFor c.args.problem (c.deref.result.now ∷ []) es) (sym h)
+    (stands_alone c.args.problem c.deref.result.now
+    (own_model c.deref.result.now c.args.text.now c.args.upper c.args.problem (c.deref.ensures.value ∙ c.in-Ok-encode_model.ensures) c.requires.model))))
+
+pub returns-in-Ok-read_search_of-clause-stands : goal.returns-in-Ok-read_search_of-clause-stands
+returns-in-Ok-read_search_of-clause-stands g c told =
+    if_both c.continue_journal.result (λ p. p.state ≡ c.in-Ok-read_search_of.state) (λ p. payloads_in (g.D.Disk.now p.journal.disk) ≡ payloads_of c.in-Ok.scanned)
+    (λ p. StandsFor c.args.problem (payloads_in (g.D.Disk.now p.journal.disk)) p.state.history) c.continue_journal.ensures.state (c.continue_journal.ensures.journal told)
+    (λ p s j. subst (λ (ps : List (List ℕ)). StandsFor c.args.problem ps p.state.history) (sym j)
+    (subst (λ (st : Recorded). StandsFor c.args.problem (payloads_of c.in-Ok.scanned) st.history) (sym s)
+    (subst (λ (q : Problem). StandsFor q (payloads_of c.in-Ok.scanned) c.in-Ok-read_search_of.state.history) c.in-Ok-read_search_of.ensures.problem c.in-Ok-read_search_of.ensures.read.stands)))
+
+pub returns-in-Ok-read_search_of-clause-any_moment : goal.returns-in-Ok-read_search_of-clause-any_moment
+returns-in-Ok-read_search_of-clause-any_moment g c told rests =
+    let past = g.D.Disk.past in
+    let now = g.D.Disk.now in
+    if_then c.continue_journal.result
+    (λ p. LeavesOnly (past c.scan.new.disk) (now c.scan.new.disk) (past p.journal.disk) (now p.journal.disk) (IsAsBefore (records (now c.scan.new.disk).seen)))
+    (λ p. LeavesOnly (past c.args.disk) (now c.args.disk) (past p.journal.disk) (now p.journal.disk) (IsAsBeforeOrBegun (records (now c.args.disk).seen) (model_code c.args.text.now c.args.upper)))
+    (c.continue_journal.ensures.any_moment told (still_rests _ _ _ _ c.scan.ensures.stands rests))
+    (λ p run. behind_scan _ _ _ _ _ _ _ c.scan.ensures.stands run)
+
+pub returns-in-Ok-read_search_of-clause-any_moment_err : goal.returns-in-Ok-read_search_of-clause-any_moment_err
+returns-in-Ok-read_search_of-clause-any_moment_err g c told rests =
+    let past = g.D.Disk.past in
+    let now = g.D.Disk.now in
+    if_err c.continue_journal.result
+    (λ e. LeavesOnly (past c.scan.new.disk) (now c.scan.new.disk) (past e.1) (now e.1) (IsAsBefore (records (now c.scan.new.disk).seen)))
+    (λ e. LeavesOnly (past c.args.disk) (now c.args.disk) (past e.1) (now e.1) (IsAsBeforeOrBegun (records (now c.args.disk).seen) (model_code c.args.text.now c.args.upper)))
+    (c.continue_journal.ensures.any_moment_err told (still_rests _ _ _ _ c.scan.ensures.stands rests))
+    (λ e run. behind_scan _ _ _ _ _ _ _ c.scan.ensures.stands run)
+
+pub returns-in-Err-clause-history_err : goal.returns-in-Err-clause-history_err
+returns-in-Err-clause-history_err g c told rests ps holds = untouched_history _ _ _ _ ps rests holds c.scan.ensures.stands
+
+pub returns-in_default-clause-history_err : goal.returns-in_default-clause-history_err
+returns-in_default-clause-history_err g c told rests ps holds = untouched_history _ _ _ _ ps rests holds c.scan.ensures.stands
+
+pub returns-in-Err-read_search_of-clause-history_err : goal.returns-in-Err-read_search_of-clause-history_err
+returns-in-Err-read_search_of-clause-history_err g c told rests ps holds = untouched_history _ _ _ _ ps rests holds c.scan.ensures.stands
+
+pub returns-then-count-eq0-clause-read : goal.returns-then-count-eq0-clause-read
+returns-then-count-eq0-clause-read g c =
+    if_both c.begin_search.result (λ p. p.state.state ≡ first_state c.args.problem) (λ p. p.state.history ≡ []) (λ p. IsReadFrom p.state) c.begin_search.ensures.state c.begin_search.ensures.fresh
+    (λ p s h. (
+      c.deref.result.now ∷ [],
+      subst (λ (es : List Entry). StandsFor p.state.state.problem (c.deref.result.now ∷ []) es) (sym h)
+          (subst (λ (st : State). StandsFor st.problem (c.deref.result.now ∷ []) []) (sym s)
+          (stands_alone c.args.problem c.deref.result.now
+          (own_model c.deref.result.now c.args.text.now c.args.upper c.args.problem (c.deref.ensures.value ∙ c.in-Ok-encode_model.ensures) c.requires.model))),
+    ))

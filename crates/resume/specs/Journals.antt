@@ -1,0 +1,47 @@
+-- What the payloads of a journal stand for, and what is wrong with them.
+use Rattle.std.specs.Prelude.{◌≡◌, ◌⊎◌, ℕ, ◌<◌, List, [], ◌∷◌, length, take, slice_index, slice_index_or}
+use Rattle.problem.specs.Problem.{Problem}
+use Rattle.event_core.specs.declared.entry.Entry.{Entry}
+use Rattle.event_core.specs.Histories.{state_of}
+use Rattle.event_core.specs.Rooms.{Recorded}
+use Rattle.node_journal.specs.Frames.{places_from}
+use Rattle.node_pool.specs.Payloads.{model_in}
+use Rattle.resume.specs.Models.{IsModelOf, IsNoModel}
+use Rattle.resume.specs.Events.{IsReadAs, IsNoEvent}
+
+-- the payloads are the record of a model of the problem, and behind it the codes of these events
+pub record StandsFor (p : Problem) (ps : List (List ℕ)) (es : List Entry) : Type 0 where
+  pub rest : List (List ℕ)
+  pub parts : ps ≡ model_in ps ∷ rest
+  pub model : IsModelOf (model_in ps) p
+  pub read : IsReadAs p rest es
+
+-- some payloads stand for the problem and the history of this state
+abbrev pub IsReadFrom : Recorded → Type 0
+IsReadFrom c = (ps : List (List ℕ)) × StandsFor c.state.problem ps c.history
+
+-- there is a first payload, and it is the record of no model; its gate stands behind the mark
+pub record IsDamagedModel (ps : List (List ℕ)) (at : ℕ) : Type 0 where
+  pub some : 0 < length ps
+  pub none : IsNoModel (model_in ps)
+  pub place : at ≡ 8
+
+-- The payloads up to one stand for a problem and its events, and that one has no event that may come next. Its gate stands at this place.
+pub record IsDamagedEvent (ps : List (List ℕ)) (at : ℕ) : Type 0 where
+  pub number : ℕ
+  pub inside : number < length ps
+  pub problem : Problem
+  pub events : List Entry
+  pub before : StandsFor problem (take number ps) events
+  pub none : IsNoEvent (state_of problem events) (slice_index_or ps number [])
+  pub place : at ≡ slice_index (places_from 8 ps) number
+
+-- the journal is damaged by the payload behind the gate at this place
+abbrev pub IsDamagedAt : List (List ℕ) → ℕ → Type 0
+IsDamagedAt ps at = IsDamagedModel ps at ⊎ IsDamagedEvent ps at
+
+-- the events of the payloads led to this state, in which nobody holds a node
+pub record IsReplayed (ps : List (List ℕ)) (c : Recorded) : Type 0 where
+  pub stands : StandsFor c.state.problem ps c.history
+  pub state : c.state ≡ state_of c.state.problem c.history
+  pub unheld : c.state.holds ≡ []

@@ -1,0 +1,273 @@
+// A journal is opened: it is read and checked, then recovered, and then a pool.
+ghost use Rattle.std.specs.Prelude.{◌≡◌, ◌⊎◌, ◌+◌, ◌≤◌, ◌<◌, ◌^◌, ℕ, List, [], ◌∷◌, ◌++◌, true, false, length, IfOk, IfErr, None};
+ghost use Rattle.std.specs.List.{AllByRecursion};
+ghost use Rattle.outside.specs.Faults.{Counts};
+ghost use Rattle.outside.specs.Images.{AtRest, LeavesOnly, NoMomentPasses};
+ghost use Rattle.event_codec.specs.Models.{model_code};
+ghost use Rattle.event_core.specs.States.{first_state};
+ghost use Rattle.event_core.specs.Histories.{journaled};
+ghost use Rattle.node_journal.specs.History.{IsHistory, Keeps, KeepsHistory};
+ghost use Rattle.node_journal.specs.Records.{records, Holds};
+ghost use Rattle.node_journal.specs.Views.{payloads_of, IsScanOf};
+ghost use Rattle.node_journal.specs.Whole.{payloads_in};
+ghost use Rattle.node_pool.specs.Payloads.{codes, IsJournalOf};
+ghost use Rattle.node_pool.specs.Stored.{IsStored};
+ghost use Rattle.resume.specs.Models.{IsTextOf};
+ghost use Rattle.resume.specs.Events.{node_limit};
+ghost use Rattle.resume.specs.Journals.{StandsFor, IsReadFrom, IsReplayed};
+ghost use Rattle.resume.specs.Refusals.{Refuses, RefusesPayloads, RefusesPayloadsFor, is_disk, is_refusal};
+ghost use Rattle.resume.specs.Crashes.{IsAsBefore, IsAsBeforeOrBegun};
+
+use crate::ResumeFault;
+use crate::reading::{read_search, read_search_of};
+use event_codec::encode_model;
+use event_core::State;
+use node_journal::{AppendFault, Journal, Scanned, scan};
+use node_pool::Pool;
+use outside::Disk;
+use problem::Problem;
+use std::alloc::Global;
+use std::hash::BuildHasher;
+
+/// The pool of a state and its journal. The one error is want of memory.
+fn make_pool<D: Disk>(
+    alloc: Global,
+    state: State,
+    journal: Journal<D>,
+    budget: u32,
+) -> Result<Pool<D>, (ResumeFault, D)>
+    requires few { budget ≤ node_limit }
+    requires unheld { state.state.holds ≡ [] }
+    requires sound { journal.fault ≡ None }
+    requires counted { journal.count ≡ length (journaled state.history) + 1 }
+    requires stored { AllByRecursion IsStored (journaled state.history) }
+    requires stands { D.tells ≡ true → IsJournalOf (payloads_in (D.now journal.disk)) state.history }
+    ensures state { IfOk result (λ p. p.state ≡ state) }
+    ensures journal { IfOk result (λ p. p.journal ≡ journal) }
+    ensures budget { IfOk result (λ p. p.budget ≡ budget) }
+    ensures halt { IfOk result (λ p. p.halt ≡ None) }
+    ensures kept { D.tells ≡ true → IfOk result (λ p. Keeps (payloads_in (D.now p.journal.disk)) (D.now p.journal.disk)) }
+    ensures memory { IfErr result (λ e. e.0 ≡ ResumeFault.Memory) }
+    ensures back { IfErr result (λ e. e.1 ≡ journal.disk) }
+{
+    journal.history_holds();
+    match Pool::make(alloc, state, journal, budget) {
+        Ok(pool) => Ok(pool),
+        Err((_, journal)) => Err((ResumeFault::Memory, journal.into_disk())),
+    }
+}
+
+/// Goes on with a journal that was read.
+fn continue_journal<D: Disk>(
+    alloc: Global,
+    disk: D,
+    scanned: Scanned,
+    state: State,
+    budget: u32,
+) -> Result<Pool<D>, (ResumeFault, D)>
+    requires few { budget ≤ node_limit }
+    requires scanned { D.tells ≡ true → IsScanOf (D.now disk).seen scanned }
+    requires read { IsReplayed (payloads_of scanned) state }
+    ensures state { IfOk result (λ p. p.state ≡ state) }
+    ensures journal { D.tells ≡ true → IfOk result (λ p. payloads_in (D.now p.journal.disk) ≡ payloads_of scanned) }
+    ensures budget { IfOk result (λ p. p.budget ≡ budget) }
+    ensures halt { IfOk result (λ p. p.halt ≡ None) }
+    ensures kept { D.tells ≡ true → IfOk result (λ p. Keeps (payloads_in (D.now p.journal.disk)) (D.now p.journal.disk)) }
+    ensures opened { D.tells ≡ true → IfOk result (λ p. p.journal.opened ≡ length (D.past disk) + 1) }
+    ensures any_moment { D.tells ≡ true → AtRest (D.now disk) → IfOk result (λ p. LeavesOnly (D.past disk) (D.now disk) (D.past p.journal.disk) (D.now p.journal.disk) (IsAsBefore (records (D.now disk).seen))) }
+    ensures any_moment_err { D.tells ≡ true → AtRest (D.now disk) → IfErr result (λ e. LeavesOnly (D.past disk) (D.now disk) (D.past e.1) (D.now e.1) (IsAsBefore (records (D.now disk).seen))) }
+    ensures history { D.tells ≡ true → AtRest (D.now disk) → IfOk result (λ p. KeepsHistory (length (D.past disk)) (D.past p.journal.disk) (D.now p.journal.disk) (payloads_in (D.now p.journal.disk)) None) }
+    ensures history_err { D.tells ≡ true → AtRest (D.now disk) → (ps : List (List ℕ)) → records (D.now disk).seen ≡ Holds ps → IfErr result (λ e. IsHistory (length (D.past disk)) (D.past e.1 ++ D.now e.1 ∷ [])) }
+    ensures rests_err { D.tells ≡ true → AtRest (D.now disk) → IfErr result (λ e. is_disk e.0 ≡ false → AtRest (D.now e.1)) }
+    ensures cause { IfOk result (λ p. D.count p.journal.disk ≡ D.count disk) }
+    ensures cause_err { IfErr result (λ e. Counts (D.count disk) (D.count e.1) (is_disk e.0)) }
+    ensures taken { IfErr result (λ e. is_refusal e.0 ≡ false) }
+{
+    match Journal::recover(disk, scanned) {
+        Ok(journal) => make_pool(alloc, state, journal, budget),
+        Err(disk) => Err((ResumeFault::Disk, disk)),
+    }
+}
+
+/// Makes an empty disk the journal of the record of a model.
+fn begin_journal<D: Disk>(
+    alloc: Global,
+    disk: D,
+    scanned: Scanned,
+    model: &[u8],
+) -> Result<Journal<D>, (ResumeFault, D)>
+    requires scanned { D.tells ≡ true → IsScanOf (D.now disk).seen scanned }
+    requires none { payloads_of scanned ≡ [] }
+    requires small { length model.now < 2 ^ 32 }
+    ensures journal { D.tells ≡ true → IfOk result (λ j. payloads_in (D.now j.disk) ≡ model.now ∷ []) }
+    ensures count { IfOk result (λ j. j.count ≡ 1) }
+    ensures sound { IfOk result (λ j. j.fault ≡ None) }
+    ensures rests { D.tells ≡ true → IfOk result (λ j. AtRest (D.now j.disk)) }
+    ensures before { D.tells ≡ true → records (D.now disk).seen ≡ Holds [] }
+    ensures opened { D.tells ≡ true → IfOk result (λ j. j.opened ≡ length (D.past disk) + 1) }
+    ensures any_moment { D.tells ≡ true → AtRest (D.now disk) → IfOk result (λ j. LeavesOnly (D.past disk) (D.now disk) (D.past j.disk) (D.now j.disk) (IsAsBeforeOrBegun (records (D.now disk).seen) model.now)) }
+    ensures any_moment_err { D.tells ≡ true → AtRest (D.now disk) → IfErr result (λ e. LeavesOnly (D.past disk) (D.now disk) (D.past e.1) (D.now e.1) (IsAsBeforeOrBegun (records (D.now disk).seen) model.now)) }
+    ensures history { D.tells ≡ true → AtRest (D.now disk) → IfOk result (λ j. KeepsHistory (length (D.past disk)) (D.past j.disk) (D.now j.disk) (payloads_in (D.now j.disk)) None) }
+    ensures history_err { D.tells ≡ true → AtRest (D.now disk) → (ps : List (List ℕ)) → records (D.now disk).seen ≡ Holds ps → IfErr result (λ e. IsHistory (length (D.past disk)) (D.past e.1 ++ D.now e.1 ∷ [])) }
+    ensures rests_err { D.tells ≡ true → AtRest (D.now disk) → IfErr result (λ e. is_disk e.0 ≡ false → AtRest (D.now e.1)) }
+    ensures cause { IfOk result (λ j. D.count j.disk ≡ D.count disk) }
+    ensures cause_err { IfErr result (λ e. Counts (D.count disk) (D.count e.1) (is_disk e.0)) }
+    ensures taken { IfErr result (λ e. is_refusal e.0 ≡ false) }
+{
+    let mut journal = match Journal::recover(disk, scanned) {
+        Ok(journal) => journal,
+        Err(disk) => return Err((ResumeFault::Disk, disk)),
+    };
+    journal.history_holds();
+    let appended = journal.append(alloc, model);
+    journal.history_holds();
+    match appended {
+        Ok(_) => Ok(journal),
+        Err(AppendFault::Disk) => Err((ResumeFault::Disk, journal.into_disk())),
+        Err(AppendFault::Memory) => Err((ResumeFault::Memory, journal.into_disk())),
+    }
+}
+
+/// Makes an empty disk the journal of a model's record, and a pool in its first state.
+fn begin_search<D: Disk>(
+    alloc: Global,
+    disk: D,
+    scanned: Scanned,
+    model: &[u8],
+    problem: Problem,
+    budget: u32,
+) -> Result<Pool<D>, (ResumeFault, D)>
+    requires few { budget ≤ node_limit }
+    requires scanned { D.tells ≡ true → IsScanOf (D.now disk).seen scanned }
+    requires none { payloads_of scanned ≡ [] }
+    requires small { length model.now < 2 ^ 32 }
+    ensures state { IfOk result (λ p. p.state.state ≡ first_state problem) }
+    ensures fresh { IfOk result (λ p. p.state.history ≡ []) }
+    ensures journal { D.tells ≡ true → IfOk result (λ p. payloads_in (D.now p.journal.disk) ≡ model.now ∷ []) }
+    ensures budget { IfOk result (λ p. p.budget ≡ budget) }
+    ensures halt { IfOk result (λ p. p.halt ≡ None) }
+    ensures kept { D.tells ≡ true → IfOk result (λ p. Keeps (payloads_in (D.now p.journal.disk)) (D.now p.journal.disk)) }
+    ensures opened { D.tells ≡ true → IfOk result (λ p. p.journal.opened ≡ length (D.past disk) + 1) }
+    ensures any_moment { D.tells ≡ true → AtRest (D.now disk) → IfOk result (λ p. LeavesOnly (D.past disk) (D.now disk) (D.past p.journal.disk) (D.now p.journal.disk) (IsAsBeforeOrBegun (records (D.now disk).seen) model.now)) }
+    ensures any_moment_err { D.tells ≡ true → AtRest (D.now disk) → IfErr result (λ e. LeavesOnly (D.past disk) (D.now disk) (D.past e.1) (D.now e.1) (IsAsBeforeOrBegun (records (D.now disk).seen) model.now)) }
+    ensures history { D.tells ≡ true → AtRest (D.now disk) → IfOk result (λ p. KeepsHistory (length (D.past disk)) (D.past p.journal.disk) (D.now p.journal.disk) (payloads_in (D.now p.journal.disk)) None) }
+    ensures history_err { D.tells ≡ true → AtRest (D.now disk) → (ps : List (List ℕ)) → records (D.now disk).seen ≡ Holds ps → IfErr result (λ e. IsHistory (length (D.past disk)) (D.past e.1 ++ D.now e.1 ∷ [])) }
+    ensures rests_err { D.tells ≡ true → AtRest (D.now disk) → IfErr result (λ e. is_disk e.0 ≡ false → AtRest (D.now e.1)) }
+    ensures cause { IfOk result (λ p. D.count p.journal.disk ≡ D.count disk) }
+    ensures cause_err { IfErr result (λ e. Counts (D.count disk) (D.count e.1) (is_disk e.0)) }
+    ensures taken { IfErr result (λ e. is_refusal e.0 ≡ false) }
+{
+    let Ok(state) = State::new(alloc, problem) else {
+        return Err((ResumeFault::Memory, disk));
+    };
+    match begin_journal(alloc, disk, scanned, model) {
+        Ok(journal) => make_pool(alloc, state, journal, budget),
+        Err(refused) => Err(refused),
+    }
+}
+
+/// The pool of the search that the journal on a disk stands for, of whatever model it is. The model is the one of the first payload.
+///
+/// The journal is read and checked whole before anything is written. `NotAJournal`, `Damaged` and `NoModel` come exactly where the content calls
+/// for them, and leave the disk as it is; `Disk` comes only where the disk failed and counted it. The disk comes back with each of them.
+pub fn open_any<B: BuildHasher + Drop, D: Disk>(
+    alloc: Global,
+    keys: B,
+    disk: D,
+    budget: u32,
+) -> Result<Pool<D>, (ResumeFault, D)>
+    requires { budget ≤ node_limit }
+    // The journal held these payloads, and it still does.
+    ensures held { D.tells ≡ true → IfOk result (λ p. records (D.now disk).seen ≡ Holds (payloads_in (D.now p.journal.disk))) }
+    ensures stands { D.tells ≡ true → IfOk result (λ p. StandsFor p.state.state.problem (payloads_in (D.now p.journal.disk)) p.state.history) }
+    // Also on a disk that tells nothing: what was read stands for the problem and the events.
+    ensures read { IfOk result (λ p. IsReadFrom p.state) }
+    ensures unheld { IfOk result (λ p. p.state.state.holds ≡ []) }
+    ensures budget { IfOk result (λ p. p.budget ≡ budget) }
+    ensures halt { IfOk result (λ p. p.halt ≡ None) }
+    ensures kept { D.tells ≡ true → IfOk result (λ p. Keeps (payloads_in (D.now p.journal.disk)) (D.now p.journal.disk)) }
+    ensures opened { D.tells ≡ true → IfOk result (λ p. p.journal.opened ≡ length (D.past disk) + 1) }
+    ensures refused { D.tells ≡ true → IfErr result (λ e. Refuses RefusesPayloads e.0 (records (D.now disk).seen)) }
+    // A refusal leaves the disk as it is.
+    ensures untouched { IfErr result (λ e. is_refusal e.0 ≡ true → NoMomentPasses (D.past disk) (D.now disk) (D.past e.1) (D.now e.1)) }
+    // Where the disk was at rest, a crash at any moment of the call leaves the payloads that were there.
+    ensures any_moment { D.tells ≡ true → AtRest (D.now disk) → IfOk result (λ p. LeavesOnly (D.past disk) (D.now disk) (D.past p.journal.disk) (D.now p.journal.disk) (IsAsBefore (records (D.now disk).seen))) }
+    ensures any_moment_err { D.tells ≡ true → AtRest (D.now disk) → IfErr result (λ e. LeavesOnly (D.past disk) (D.now disk) (D.past e.1) (D.now e.1) (IsAsBefore (records (D.now disk).seen))) }
+    // Where the disk was at rest with a journal, what all crashes at one moment leave, all crashes at each later moment leave, from the first moment on.
+    ensures history { D.tells ≡ true → AtRest (D.now disk) → IfOk result (λ p. KeepsHistory (length (D.past disk)) (D.past p.journal.disk) (D.now p.journal.disk) (payloads_in (D.now p.journal.disk)) None) }
+    ensures history_err { D.tells ≡ true → AtRest (D.now disk) → (ps : List (List ℕ)) → records (D.now disk).seen ≡ Holds ps → IfErr result (λ e. IsHistory (length (D.past disk)) (D.past e.1 ++ D.now e.1 ∷ [])) }
+    // Unless the disk failed, it comes back at rest.
+    ensures rests_err { D.tells ≡ true → AtRest (D.now disk) → IfErr result (λ e. is_disk e.0 ≡ false → AtRest (D.now e.1)) }
+    ensures cause { IfOk result (λ p. D.count p.journal.disk ≡ D.count disk) }
+    ensures cause_err { IfErr result (λ e. Counts (D.count disk) (D.count e.1) (is_disk e.0)) }
+{
+    let mut disk = disk;
+    let scanned = match scan(alloc, &mut disk) {
+        Ok(scanned) => scanned,
+        Err(fault) => return Err((ResumeFault::from(fault), disk)),
+    };
+    match read_search(alloc, keys, &scanned) {
+        Ok(state) => continue_journal(alloc, disk, scanned, state, budget),
+        Err(fault) => Err((fault, disk)),
+    }
+}
+
+/// The pool of the search of this model: the one that the journal on a disk stands for, or on an empty disk one in its first state, whose journal
+/// has the model's record alone. The problem is the one that the text reads as with this upper bound, which is 0 to 10^9.
+///
+/// The journal is read and checked whole before anything is written. `NotAJournal`, `Damaged` and `OtherModel` come exactly where the content calls
+/// for them, and leave the disk as it is; `Disk` comes only where the disk failed and counted it. The disk comes back with each of them.
+pub fn open_pool<B: BuildHasher + Drop, D: Disk>(
+    alloc: Global,
+    keys: B,
+    disk: D,
+    text: &[u8],
+    problem: Problem,
+    upper: Option<i64>,
+    budget: u32,
+) -> Result<Pool<D>, (ResumeFault, D)>
+    requires few { budget ≤ node_limit }
+    requires model { IsTextOf text.now upper problem }
+    // The journal held these payloads and still does, or it held none.
+    ensures held { D.tells ≡ true → IfOk result (λ p. (records (D.now disk).seen ≡ Holds (payloads_in (D.now p.journal.disk))) ⊎ ((records (D.now disk).seen ≡ Holds []) × (p.state.history ≡ []))) }
+    ensures stands { D.tells ≡ true → IfOk result (λ p. StandsFor problem (payloads_in (D.now p.journal.disk)) p.state.history) }
+    ensures journal { D.tells ≡ true → IfOk result (λ p. payloads_in (D.now p.journal.disk) ≡ model_code text.now upper ∷ codes p.state.history) }
+    ensures problem { IfOk result (λ p. p.state.state.problem ≡ problem) }
+    // Also on a disk that tells nothing: what was read stands for the problem and the events.
+    ensures read { IfOk result (λ p. IsReadFrom p.state) }
+    ensures of_model { IfOk result (λ p. StandsFor problem (model_code text.now upper ∷ codes p.state.history) p.state.history) }
+    ensures unheld { IfOk result (λ p. p.state.state.holds ≡ []) }
+    ensures budget { IfOk result (λ p. p.budget ≡ budget) }
+    ensures halt { IfOk result (λ p. p.halt ≡ None) }
+    ensures kept { D.tells ≡ true → IfOk result (λ p. Keeps (payloads_in (D.now p.journal.disk)) (D.now p.journal.disk)) }
+    ensures opened { D.tells ≡ true → IfOk result (λ p. p.journal.opened ≡ length (D.past disk) + 1) }
+    ensures refused { D.tells ≡ true → IfErr result (λ e. Refuses (RefusesPayloadsFor (model_code text.now upper)) e.0 (records (D.now disk).seen)) }
+    // A refusal leaves the disk as it is.
+    ensures untouched { IfErr result (λ e. is_refusal e.0 ≡ true → NoMomentPasses (D.past disk) (D.now disk) (D.past e.1) (D.now e.1)) }
+    // Where the disk was at rest, a crash at any moment of the call leaves the payloads that were there, or on an empty disk the model's record.
+    ensures any_moment { D.tells ≡ true → AtRest (D.now disk) → IfOk result (λ p. LeavesOnly (D.past disk) (D.now disk) (D.past p.journal.disk) (D.now p.journal.disk) (IsAsBeforeOrBegun (records (D.now disk).seen) (model_code text.now upper))) }
+    ensures any_moment_err { D.tells ≡ true → AtRest (D.now disk) → IfErr result (λ e. LeavesOnly (D.past disk) (D.now disk) (D.past e.1) (D.now e.1) (IsAsBeforeOrBegun (records (D.now disk).seen) (model_code text.now upper))) }
+    // Where the disk was at rest with a journal, what all crashes at one moment leave, all crashes at each later moment leave, from the first moment on.
+    ensures history { D.tells ≡ true → AtRest (D.now disk) → IfOk result (λ p. KeepsHistory (length (D.past disk)) (D.past p.journal.disk) (D.now p.journal.disk) (payloads_in (D.now p.journal.disk)) None) }
+    ensures history_err { D.tells ≡ true → AtRest (D.now disk) → (ps : List (List ℕ)) → records (D.now disk).seen ≡ Holds ps → IfErr result (λ e. IsHistory (length (D.past disk)) (D.past e.1 ++ D.now e.1 ∷ [])) }
+    // Unless the disk failed, it comes back at rest.
+    ensures rests_err { D.tells ≡ true → AtRest (D.now disk) → IfErr result (λ e. is_disk e.0 ≡ false → AtRest (D.now e.1)) }
+    ensures cause { IfOk result (λ p. D.count p.journal.disk ≡ D.count disk) }
+    ensures cause_err { IfErr result (λ e. Counts (D.count disk) (D.count e.1) (is_disk e.0)) }
+{
+    let mut disk = disk;
+    let scanned = match scan(alloc, &mut disk) {
+        Ok(scanned) => scanned,
+        Err(fault) => return Err((ResumeFault::from(fault), disk)),
+    };
+    let Ok(model) = encode_model(alloc, text, upper) else {
+        return Err((ResumeFault::Memory, disk));
+    };
+    if scanned.count() == 0 {
+        return begin_search(alloc, disk, scanned, &model, problem, budget);
+    }
+    match read_search_of(alloc, keys, &scanned, &model, problem) {
+        Ok(state) => continue_journal(alloc, disk, scanned, state, budget),
+        Err(fault) => Err((fault, disk)),
+    }
+}
