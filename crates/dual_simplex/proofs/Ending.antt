@@ -1,6 +1,6 @@
 -- The answer at the end of a run, as the code makes it.
 use Rattle.std.specs.Prelude.{All, IfSome, IfOk, Result, cond}
-use Rattle.std.proofs.Common.{◌≡◌, ℕ, ◌+◌, ◌*◌, ◌<◌, ◌≤◌, arith, refl, ap, sym, ◌∙◌, subst, Bool, true, false, Option, Some, None, List, [], length, take, drop, map}
+use Rattle.std.proofs.Common.{◌≡◌, ℕ, ◌+◌, ◌-◌, ◌*◌, ◌^◌, ◌<◌, ◌≤◌, arith, refl, ap, sym, ◌∙◌, subst, Bool, true, false, Option, Some, None, List, [], length, take, drop, map}
 use Rattle.std.specs.Option.{option_map, option_and_then}
 use Rattle.std.proofs.lemmas.Result.{IfOk-weaker}
 use Rattle.std.proofs.lemmas.List.{length-map, length-append, length-take-le, take-append-drop}
@@ -17,7 +17,7 @@ use Rattle.derivation_book.specs.Legal.{AreProofMultipliers}
 use Rattle.derivation_book.specs.Lemmas.Staying.{still_combination, still_combined}
 use Rattle.tableau.specs.declared.place.Place.{Place}
 use Rattle.tableau.specs.declared.place.Place.TheVariants.{NoColumn, Cramped as CrampedRatio}
-use Rattle.tableau.specs.LinearProgram.{variables}
+use Rattle.tableau.specs.LinearProgram.{LinearProgram, variables}
 use Rattle.tableau.specs.Tableau.{Tableau}
 use Rattle.tableau.specs.Place.{place}
 use Rattle.tableau.specs.Start.{started}
@@ -25,12 +25,12 @@ use Rattle.tableau.specs.Run.{RunEnd, EndsAs, run_from}
 use Rattle.tableau.specs.Multipliers.{point_of, mult_of_cost, mult_of_row}
 use Rattle.tableau.specs.Invariants.{IsTableauOf, EndsWithTableauOf}
 use Rattle.tableau.specs.Lemmas.Places.{IsNoColumn, no_column_is}
-use Rattle.tableau.specs.Lemmas.RunKeeps.{run_keeps, lost_cramped}
+use Rattle.tableau.specs.Lemmas.RunKeeps.{run_keeps}
 use Rattle.dual_simplex.specs.declared.answer.Answer.{Answer}
 use Rattle.dual_simplex.specs.declared.answer.Answer.TheVariants.{Infeasible, Optimal}
 use Rattle.dual_simplex.specs.declared.solution.Solution.{Solution}
 use Rattle.dual_simplex.specs.PointSums.{sums_fit}
-use Rattle.dual_simplex.specs.Answers.{linear_program, pivot_limit, run_of_start, run, infeasible_answer, optimal_answer, answer_or_cramped, answer_at, answer_of_run, answer}
+use Rattle.dual_simplex.specs.Answers.{linear_program, pivot_limit, run_of_start, run, infeasible_answer, optimal_answer, answer_or_cramped, answer_at, answer}
 use Rattle.dual_simplex.specs.Meaning.{IsTableauAt}
 use Rattle.dual_simplex.specs.Ends.{IsEnd, AreMultipliers}
 use Rattle.dual_simplex.specs.Lemmas.Holds.{size, variables_are, start_is_tableau, cost_multipliers_usable, row_multipliers_usable}
@@ -112,13 +112,24 @@ module _ (p : Problem) (cs : List Cut) (k : ℕ) (box : List Span) where
         ∙ ap (answer_at p first box t.pivots (Some t)) (sym here)
 
 -- ---- the run
-module _ (p : Problem) (cs : List Cut) (box : List Span) (t u : Tableau) (q : Place) (start : started (linear_program p cs box) ≡ Some t)
-    (ends : EndsAs (run_from (pivot_limit (linear_program p cs box)) t) q u) where
-  abbrev end : RunEnd
-  end = run_from (pivot_limit (linear_program p cs box)) t
+-- its start
+start_kept : (p : Problem) (cs : List Cut) (box : List Span) (t : Tableau) → started (linear_program p cs box) ≡ Some t → IsTableauOf (variables (linear_program p cs box)) (linear_program p cs box) t
+start_kept p cs box t start = subst (λ n. IsTableauOf n (linear_program p cs box) t) (sym (variables_are p cs box)) (start_is_tableau p cs box t start)
 
-  run_is : run (linear_program p cs box) ≡ end
-  run_is = ap (run_of_start (linear_program p cs box)) start
+-- it ended with a tableau of the relaxation, unless a pivot or the start is cramped
+run_kept : (p : Problem) (cs : List Cut) (box : List Span) → EndsWithTableauOf (variables (linear_program p cs box)) (linear_program p cs box) (run (linear_program p cs box))
+run_kept p cs box = at (started (linear_program p cs box)) refl
+  where
+    at : (o : Option Tableau) → started (linear_program p cs box) ≡ o → EndsWithTableauOf (variables (linear_program p cs box)) (linear_program p cs box) (run_of_start (linear_program p cs box) o)
+    at None e = record { tableau = tt; place = tt; lost = λ z. refl }
+    at (Some t) e = run_keeps (variables (linear_program p cs box)) (linear_program p cs box) (pivot_limit (linear_program p cs box)) t (start_kept p cs box t e)
+
+module _ (p : Problem) (cs : List Cut) (box : List Span) (u : Tableau) (q : Place) (ends : EndsAs (run (linear_program p cs box)) q u) where
+  abbrev end : RunEnd
+  end = run (linear_program p cs box)
+
+  kept : EndsWithTableauOf (variables (linear_program p cs box)) (linear_program p cs box) end
+  kept = run_kept p cs box
 
   pub is_end : IsEnd p cs box q u
   is_end = record {
@@ -126,27 +137,21 @@ module _ (p : Problem) (cs : List Cut) (box : List Span) (t u : Tableau) (q : Pl
     place = λ whole. (at end.tableau refl ends.tableau kept.tableau kept.place whole).1;
   }
     where
-      h : IsTableauAt p cs box t
-      h = subst (λ n. IsTableauOf n (linear_program p cs box) t) (sym (variables_are p cs box)) (start_is_tableau p cs box t start)
-
-      kept : EndsWithTableauOf (variables (linear_program p cs box)) (linear_program p cs box) end
-      kept = run_keeps (variables (linear_program p cs box)) (linear_program p cs box) (pivot_limit (linear_program p cs box)) t h
-
       at : (o : Option Tableau) → end.tableau ≡ o → IfSome o (λ v. u ≡ v) → IfSome o (IsTableauAt p cs box) → IfSome o (λ v. end.place ≡ place v) → (q ≡ CrampedRatio → ⊥)
           → IsTableauAt p cs box u × (q ≡ place u)
-      at None f g i j whole = absurd (whole (ends.place ∙ lost_cramped (pivot_limit (linear_program p cs box)) t f))
+      at None f g i j whole = absurd (whole (ends.place ∙ kept.lost f))
       at (Some v) f g i j whole = (subst (IsTableauAt p cs box) (sym g) i, ends.place ∙ j ∙ ap place (sym g))
 
   pub answer_is : answer_at p cs box u.pivots (Some u) q ≡ answer p cs box
-  answer_is = at end.tableau refl ends.tableau ∙ ap (answer_of_run p cs box) (sym run_is)
+  answer_is = at end.tableau refl ends.tableau
     where
       at : (o : Option Tableau) → end.tableau ≡ o → IfSome o (λ v. u ≡ v) → answer_at p cs box u.pivots (Some u) q ≡ answer_at p cs box end.pivots end.tableau end.place
       at (Some v) f g = (λ i. answer_at p cs box (ends.pivots i) (Some (g i)) (ends.place i)) ∙ ap (λ o. answer_at p cs box end.pivots o end.place) (sym f)
       at None f g =
-          (λ i. answer_at p cs box (ends.pivots i) (Some u) ((ends.place ∙ lost_cramped (pivot_limit (linear_program p cs box)) t f) i)) ∙ ap (λ o. answer_at p cs box end.pivots o end.place) (sym f)
+          (λ i. answer_at p cs box (ends.pivots i) (Some u) ((ends.place ∙ kept.lost f) i)) ∙ ap (λ o. answer_at p cs box end.pivots o end.place) (sym f)
 
   pub left_is : IfSome (run (linear_program p cs box)).tableau (λ v. Some u ≡ Some v)
-  left_is = subst (λ (e : RunEnd). IfSome e.tableau (λ v. Some u ≡ Some v)) (sym run_is) (at end.tableau ends.tableau)
+  left_is = at end.tableau ends.tableau
     where
       at : (o : Option Tableau) → IfSome o (λ v. u ≡ v) → IfSome o (λ v. Some u ≡ Some v)
       at None g = tt
@@ -162,13 +167,34 @@ module _ (p : Problem) (cs : List Cut) (box : List Span) (t u : Tableau) (q : Pl
       IfOk-weaker r (λ (s : Solution). s.tableau ≡ Some u) (λ (s : Solution). IfSome (run (linear_program p cs box)).tableau (λ v. s.tableau ≡ Some v))
       (λ s e. subst (λ (o : Option Tableau). IfSome (run (linear_program p cs box)).tableau (λ v. o ≡ Some v)) (sym e) left_is) h
 
--- ---- how many pivots a run makes at most
-limit_is : (p : Problem) (cs : List Cut) (k : ℕ) (box : List Span) → k ≤ length cs → length box ≡ length p.spans
-    → 20 * (length p.spans + (length p.rows + k)) + 100 ≡ pivot_limit (linear_program p (take k cs) box)
-limit_is p cs k box l columns =
-    ap (λ n. 20 * n + 100) (sym (variables_are p (take k cs) box ∙ (λ i. columns i + (length-append p.rows (map row_of_cut (take k cs)) ∙ ap (λ n. length p.rows + n) (length-map (take k cs) row_of_cut ∙ length-take-le k cs l)) i)))
+-- a run that is that of the answer left tableau u, kept as v
+pub ends_so : (p : Problem) (cs : List Cut) (box : List Span) (e : RunEnd) (u v : Tableau) (q : Place) → run (linear_program p cs box) ≡ e → v ≡ u → EndsAs e q u → EndsAs (run (linear_program p cs box)) q v
+ends_so p cs box e u v q is same h = subst (EndsAs (run (linear_program p cs box)) q) (sym same) (subst (λ e. EndsAs e q u) (sym is) h)
 
--- the run with so many pivots is that of the answer; it left tableau u, kept as v
-pub ends_so : (p : Problem) (cs : List Cut) (k : ℕ) (box : List Span) → k ≤ length cs → length box ≡ length p.spans → (n : ℕ) → n ≡ 20 * (length p.spans + (length p.rows + k)) + 100
-    → (t u v : Tableau) (q : Place) → v ≡ u → EndsAs (run_from n t) q u → EndsAs (run_from (pivot_limit (linear_program p (take k cs) box)) t) q v
-ends_so p cs k box l columns n e t u v q same h = subst (EndsAs (run_from (pivot_limit (linear_program p (take k cs) box)) t) q) (sym same) (subst (λ n. EndsAs (run_from n t) q u) (e ∙ limit_is p cs k box l columns) h)
+-- ---- how many pivots a run makes at most
+module _ (p : Problem) (cs : List Cut) (k : ℕ) (box : List Span) (few : k ≤ length cs) (columns : length box ≡ length p.spans)
+    (n : ℕ) (limit : n ≡ 20 * (length p.spans + (length p.rows + k)) + 100) where
+  abbrev program : LinearProgram
+  program = linear_program p (take k cs) box
+
+  limit_is : n ≡ 20 * variables program + 100
+  limit_is =
+      limit ∙ ap (λ n. 20 * n + 100) (sym (variables_are p (take k cs) box ∙ (λ i. columns i + (length-append p.rows (map row_of_cut (take k cs)) ∙ ap (λ n. length p.rows + n) (length-map (take k cs) row_of_cut ∙ length-take-le k cs few)) i)))
+
+  module _ (t : Tableau) (start : started program ≡ Some t) where
+    -- the run of the answer makes so many
+    pub run_is : run program ≡ run_from n t
+    run_is = ap (run_of_start program) start ∙ ap (λ n. run_from n t) (sym limit_is)
+
+    -- it goes on with the rest of them from the tableau after the first m
+    pub rest_is : (m : ℕ) (u v : Tableau) → m ≤ n → ((cap : ℕ) → run_from cap u ≡ run_from (m + cap) t) → v ≡ u → run program ≡ run_from (n - m) v
+    rest_is m u v within goes_on same =
+        run_is ∙ ap (λ n. run_from n t) (let e : n ≡ m + (n - m) = omega (arith, within) in e) ∙ sym (goes_on (n - m)) ∙ ap (run_from (n - m)) (sym same)
+
+    -- which has no more variables than a list may have
+    pub few_variables : (m : ℕ) (u : Tableau) → ((cap : ℕ) → run_from cap u ≡ run_from (m + cap) t) → n < 2 ^ 32 → length u.statuses < 2 ^ 32
+    few_variables m u goes_on small = omega (arith, is_tableau.size.statuses, limit_is, small)
+      where
+        is_tableau : IsTableauOf (variables program) program u
+        is_tableau = subst (λ (e : RunEnd). IfSome e.tableau (IsTableauOf (variables program) program)) (sym (goes_on 0))
+            (run_keeps (variables program) program (m + 0) t (start_kept p (take k cs) box t start)).tableau

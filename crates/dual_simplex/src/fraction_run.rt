@@ -1,7 +1,7 @@
 //! The run over exact fractions.
 
-ghost use Rattle.std.specs.Prelude.{◌≡◌, ◌<◌, ◌≤◌, ◌^◌, IfOk, IfSome, Some, length, take};
-ghost use Rattle.tableau.specs.Start.{started};
+ghost use Rattle.std.specs.Prelude.{◌≡◌, ◌+◌, ◌<◌, ◌≤◌, ◌^◌, IfOk, IfSome, Some, length, take};
+ghost use Rattle.tableau.specs.Run.{run_from};
 ghost use Rattle.dual_simplex.specs.Answers.{linear_program, run, answer};
 
 use crate::answer::Answer;
@@ -14,25 +14,25 @@ use problem_box::IntBox;
 use std::alloc::{AllocError, Global};
 use tableau::Tableau;
 
-/// The run from a start. The one error is want of memory.
-fn run(
+/// What the run answers that goes on from a tableau, with so many further pivots at most. The one error is want of memory.
+pub(crate) fn run_on(
     alloc: Global,
     problem: &Problem,
     book: &Book,
     cuts: usize,
     area: &IntBox,
-    start: Tableau,
+    tableau: Tableau,
+    cap: u64,
 ) -> Result<Solution, AllocError>
     requires few { cuts ≤ length book.now.cuts }
-    requires numbered { cuts < 2 ^ 27 }
     requires columns { length area.now ≡ length problem.now.spans }
-    requires fresh { start.pivots ≡ 0 }
-    requires start { started (linear_program problem.now (take cuts book.now.cuts) area.now) ≡ Some start }
+    requires few_pivots { tableau.pivots + cap < 2 ^ 32 }
+    requires rest { run (linear_program problem.now (take cuts book.now.cuts) area.now) ≡ run_from cap tableau }
     ensures answer { IfOk result (λ s. s.answer ≡ answer problem.now (take cuts book.now.cuts) area.now) }
     ensures tableau { IfOk result (λ s. IfSome (run (linear_program problem.now (take cuts book.now.cuts) area.now)).tableau (λ t. s.tableau ≡ Some t)) }
 {
-    let mut tableau = start;
-    let place = tableau.run(alloc, pivot_limit(problem, cuts))?;
+    let mut tableau = tableau;
+    let place = tableau.run(alloc, cap)?;
     let tableau = FinalTableau::of_fractions(tableau);
     solution_at(alloc, problem, book, cuts, area, place, tableau, false)
 }
@@ -53,7 +53,10 @@ pub(crate) fn solve_by_fractions(
 {
     let program = linear_program(alloc, problem, book, cuts, area)?;
     match Tableau::start(alloc, program)? {
-        Some(start) => run(alloc, problem, book, cuts, area, start),
+        Some(start) => {
+            let cap = pivot_limit(problem, cuts);
+            run_on(alloc, problem, book, cuts, area, start, cap)
+        }
         None => Ok(Solution {
             answer: Answer::Cramped { pivots: 0 },
             tableau: None,

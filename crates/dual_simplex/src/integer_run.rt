@@ -1,6 +1,6 @@
 //! The run on whole numbers over a common denominator.
 
-ghost use Rattle.std.specs.Prelude.{◌≡◌, ◌<◌, ◌≤◌, ◌^◌, IsTrue, IfOk, IfSome, Some, length, take};
+ghost use Rattle.std.specs.Prelude.{◌≡◌, ◌+◌, ◌*◌, ◌<◌, ◌≤◌, ◌^◌, IsTrue, IfOk, IfSome, Some, length, take};
 ghost use Rattle.tableau.specs.Start.{started};
 ghost use Rattle.dual_simplex.specs.Answers.{linear_program, run, answer_at, answer};
 ghost use Rattle.dual_simplex.specs.Ends.{IsEnd, IsSmallEnd};
@@ -8,6 +8,7 @@ ghost use Rattle.dual_simplex.specs.Prepared.{IsIntegerProgramOf};
 ghost use Rattle.dual_simplex.specs.Sizes.{IsIntegerRelaxation};
 
 use crate::final_tableau::FinalTableau;
+use crate::fraction_run::run_on;
 use crate::sizes::is_modest;
 use crate::solution::{Solution, pivot_limit, solution_at};
 use derivation_book::Book;
@@ -46,32 +47,89 @@ fn solution_of(
     solution_at(alloc, problem, book, cuts, area, place, tableau, is_there)
 }
 
-/// The run from a start; none where it is given up. The one error is want of memory.
-fn run(
+/// What the run answers whose first pivots, so many, are made on whole numbers, and the others over exact fractions; none where a pivot on whole
+/// numbers is given up. The one error is want of memory.
+fn solve_from(
     alloc: Global,
     problem: &Problem,
     book: &Book,
     cuts: usize,
     area: &IntBox,
     start: IntegerTableau,
+    pivots: u64,
 ) -> Result<Option<Solution>, AllocError>
     requires few { cuts ≤ length book.now.cuts }
     requires numbered { cuts < 2 ^ 27 }
     requires columns { length area.now ≡ length problem.now.spans }
-    requires integers { IsIntegerRelaxation problem.now (take cuts book.now.cuts) }
+    requires fresh { start.pivots ≡ 0 }
+    requires start { started (linear_program problem.now (take cuts book.now.cuts) area.now) ≡ Some start }
+    requires within { pivots ≤ 20 * (length problem.now.spans + (length problem.now.rows + cuts)) + 100 }
+    ensures answer { IfOk result (λ o. IfSome o (λ s. s.answer ≡ answer problem.now (take cuts book.now.cuts) area.now)) }
+    ensures tableau { IfOk result (λ o. IfSome o (λ s. IfSome (run (linear_program problem.now (take cuts book.now.cuts) area.now)).tableau (λ t. s.tableau ≡ Some t))) }
+{
+    let limit = pivot_limit(problem, cuts);
+    match start.after_pivots(pivots) {
+        Some(last) => {
+            let tableau = last.fractions(alloc)?;
+            let solution = run_on(alloc, problem, book, cuts, area, tableau, limit - pivots)?;
+            Ok(Some(solution))
+        }
+        None => Ok(None),
+    }
+}
+
+/// The same of a run on whole numbers that was given up after so many pivots.
+fn go_on(
+    alloc: Global,
+    problem: &Problem,
+    book: &Book,
+    cuts: usize,
+    area: &IntBox,
+    program: &IntegerProgram,
+    pivots: u64,
+) -> Result<Option<Solution>, AllocError>
+    requires few { cuts ≤ length book.now.cuts }
+    requires numbered { cuts < 2 ^ 27 }
+    requires columns { length area.now ≡ length problem.now.spans }
+    requires program { IsIntegerProgramOf problem.now (take cuts book.now.cuts) program.now }
+    requires within { pivots ≤ 20 * (length problem.now.spans + (length problem.now.rows + cuts)) + 100 }
+    ensures answer { IfOk result (λ o. IfSome o (λ s. s.answer ≡ answer problem.now (take cuts book.now.cuts) area.now)) }
+    ensures tableau { IfOk result (λ o. IfSome o (λ s. IfSome (run (linear_program problem.now (take cuts book.now.cuts) area.now)).tableau (λ t. s.tableau ≡ Some t))) }
+{
+    match IntegerTableau::start(alloc, program, area)? {
+        Some(start) => solve_from(alloc, problem, book, cuts, area, start, pivots),
+        None => Ok(None),
+    }
+}
+
+/// What the run answers from a start, on whole numbers, and over exact fractions from where these are given up; none where they can't start
+/// again. The one error is want of memory.
+fn run(
+    alloc: Global,
+    problem: &Problem,
+    book: &Book,
+    cuts: usize,
+    area: &IntBox,
+    program: &IntegerProgram,
+    start: IntegerTableau,
+) -> Result<Option<Solution>, AllocError>
+    requires few { cuts ≤ length book.now.cuts }
+    requires numbered { cuts < 2 ^ 27 }
+    requires columns { length area.now ≡ length problem.now.spans }
+    requires program { IsIntegerProgramOf problem.now (take cuts book.now.cuts) program.now }
     requires fresh { start.pivots ≡ 0 }
     requires start { started (linear_program problem.now (take cuts book.now.cuts) area.now) ≡ Some start }
     ensures answer { IfOk result (λ o. IfSome o (λ s. s.answer ≡ answer problem.now (take cuts book.now.cuts) area.now)) }
     ensures tableau { IfOk result (λ o. IfSome o (λ s. IfSome (run (linear_program problem.now (take cuts book.now.cuts) area.now)).tableau (λ t. s.tableau ≡ Some t))) }
 {
     match start.run(pivot_limit(problem, cuts)) {
-        Some(end) => Ok(Some(solution_of(alloc, problem, book, cuts, area, end)?)),
-        None => Ok(None),
+        Ok(end) => Ok(Some(solution_of(alloc, problem, book, cuts, area, end)?)),
+        Err(pivots) => go_on(alloc, problem, book, cuts, area, program, pivots),
     }
 }
 
-/// What the run on whole numbers answers of a problem's rows and the first cuts over a box; none where it is given up. The one error is want of
-/// memory.
+/// What the run answers of a problem's rows and the first cuts over a box, on whole numbers, and over exact fractions from where these are
+/// given up; none where they can't start. The one error is want of memory.
 pub(crate) fn solve_by_integers(
     alloc: Global,
     problem: &Problem,
@@ -88,7 +146,7 @@ pub(crate) fn solve_by_integers(
     ensures tableau { IfOk result (λ o. IfSome o (λ s. IfSome (run (linear_program problem.now (take cuts book.now.cuts) area.now)).tableau (λ t. s.tableau ≡ Some t))) }
 {
     match IntegerTableau::start(alloc, program, area)? {
-        Some(start) => run(alloc, problem, book, cuts, area, start),
+        Some(start) => run(alloc, problem, book, cuts, area, program, start),
         None => Ok(None),
     }
 }

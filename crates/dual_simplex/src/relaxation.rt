@@ -76,7 +76,7 @@ impl Relaxation {
         self.cuts
     }
 
-    /// What the run on whole numbers answers over a box; none where there is no such run, or it is given up. The one error is want of memory.
+    /// What the run answers over a box that starts on whole numbers; none where there is no such start. The one error is want of memory.
     fn solution_by_integers(
         &self,
         alloc: Global,
@@ -99,8 +99,8 @@ impl Relaxation {
     /// What the dual simplex answers over a box, by the least-index run from the rows' values as the basis. Where the run ends with a tableau, that is
     /// handed out too.
     ///
-    /// The run goes on whole numbers first. Where that is given up, the one on exact fractions takes its place, from the start. The answer is the
-    /// same. The one error is want of memory.
+    /// The run goes on whole numbers first. Where that is given up, exact fractions go on from the last whole pivot, or where there is no start on
+    /// whole numbers, from the start. The answer is the same. The one error is want of memory.
     pub fn solve(
         &self,
         alloc: Global,

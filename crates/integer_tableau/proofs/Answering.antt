@@ -115,7 +115,7 @@ module _ (columns : ℕ) (numbers : List ℕ) (ps : List (List ℤ)) (weight rea
     row_is : row_of_position w.denominator w.positions (get_or w.positions r InBasis) (get_or (expanded_rows w.denominator ps w.positions w.rows) r []) ≡ row_of t r
     row_is = sym (get_or-rows_of (row_of_position w.denominator w.positions) w.positions (expanded_rows w.denominator ps w.positions w.rows) r cons.rows there) ∙ ap (λ t. row_of t r) view
 
-    value_at : value w.denominator (get_or w.positions r InBasis) (number_at w.nonbasic_values r) (number_at (expanded_values w.denominator ps w.positions w.nonbasic_values w.values) r) ≡ value_of t r
+    pub value_at : value w.denominator (get_or w.positions r InBasis) (number_at w.nonbasic_values r) (number_at (expanded_values w.denominator ps w.positions w.nonbasic_values w.values) r) ≡ value_of t r
     value_at = sym (get_or-values w.denominator w.positions w.nonbasic_values (expanded_values w.denominator ps w.positions w.nonbasic_values w.values) r cons.nonbasic_values cons.values there) ∙ ap (λ t. value_of t r) view
 
     bounds_at : get_or (map fraction_bounds w.bounds) r unbounded ≡ bounds_of t r
@@ -155,7 +155,7 @@ module _ (columns : ℕ) (numbers : List ℕ) (ps : List (List ℤ)) (weight rea
         ∙ ap (combined_row w.denominator w.positions w.rows) (sym f)))
 
     -- of which there are no more than variables
-    row_short : length (row_of t r) ≤ length w.positions
+    pub row_short : length (row_of t r) ≤ length w.positions
     row_short = by_position (get_or w.positions r InBasis) row_is
       where
         by_position : (s : Position) → row_of_position w.denominator w.positions s (get_or (expanded_rows w.denominator ps w.positions w.rows) r []) ≡ row_of t r → length (row_of t r) ≤ length w.positions

@@ -26,3 +26,4 @@ mod StartFromCode
 mod Answering
 mod Denominators
 mod Statuses
+mod ToFractions

@@ -106,7 +106,7 @@ fn coefficient(position: Position, row: &IntegerRow, denominator: i64) -> Frac
 }
 
 /// The coefficients of variables in a row. The one error is want of memory.
-fn coefficients(
+pub(crate) fn coefficients(
     alloc: Global,
     positions: &[Position],
     row: &IntegerRow,

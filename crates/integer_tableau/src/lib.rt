@@ -4,6 +4,7 @@
 mod answers;
 mod combination;
 mod combined_sizes;
+mod conversion;
 mod denominator;
 mod divisor;
 mod elimination;

@@ -6,7 +6,7 @@ ghost use Rattle.fraction.specs.Checked.{mul_checked};
 ghost use Rattle.tableau.specs.Elimination.{add_multiple};
 ghost use Rattle.problem.specs.Linear.{Terms};
 ghost use Rattle.problem.specs.Rising.{AreRising};
-ghost use Rattle.tableau.specs.Sparse.{with_entry, HasFraction, without, kept_below};
+ghost use Rattle.tableau.specs.Sparse.{with_entry, nonzeros, HasFraction, without, kept_below};
 ghost use Rattle.tableau.specs.SparseSteps.{Continues, ContinuesAfter, entry_then, products_below, begins_with, met, merged, entry_quotients, IsPosition};
 
 use crate::entry::Entry;
@@ -134,6 +134,18 @@ impl Entries {
         } else {
             Ok(())
         }
+    }
+
+    /// Puts the coefficients of a whole row behind the others, but those that are 0. The one error is want of memory.
+    pub(crate) fn push_nonzeros(&mut self, coefficients: &[Frac]) -> Result<(), AllocError>
+        requires { length coefficients.now < 2 ^ 32 }
+        ensures entries { OnOk result (self.new ≡ self.old ++ nonzeros 0 coefficients.now) }
+        ensures fractions { All HasFraction self.old → OnOk result (All HasFraction self.new) }
+    {
+        for (variable, coefficient) in coefficients.iter().enumerate() {
+            self.push_nonzero(variable as u32, *coefficient)?;
+        }
+        Ok(())
     }
 
     /// Puts the terms of columns below the width behind the others, but those whose coefficient is 0. The one error is want of memory.

@@ -10,6 +10,7 @@ mod entry;
 pub mod laws;
 mod leaving;
 mod multiple;
+mod parts;
 mod pivot;
 mod place;
 mod program;
@@ -23,6 +24,7 @@ mod values;
 
 pub use answers::{named_multipliers, turn_into_multipliers};
 pub use bounds::{Bounds, Direction};
+pub use parts::TableauRows;
 pub use place::Place;
 pub use program::LinearProgram;
 pub use status::BasisStatus;

@@ -119,6 +119,20 @@ impl SparseRow {
         Ok(SparseRow { width, entries })
     }
 
+    /// The row of these coefficients. The one error is want of memory.
+    pub(crate) fn of_coefficients(
+        alloc: Global,
+        coefficients: &[Frac],
+    ) -> Result<SparseRow, AllocError>
+        requires { length coefficients.now < 2 ^ 32 }
+        ensures { IfOk result (λ r. r ≡ coefficients.now) }
+    {
+        let width = coefficients.len();
+        let mut entries = Entries::new(alloc);
+        entries.push_nonzeros(coefficients)?;
+        Ok(SparseRow { width, entries })
+    }
+
     /// How many coefficients there are, with those that are 0.
     pub(crate) fn width(&self) -> usize
         ensures { result ≡ length self.now }

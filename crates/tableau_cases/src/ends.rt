@@ -75,7 +75,7 @@ pub(crate) fn integer_end(
         return Ok(None);
     };
     match IntegerTableau::start(alloc, &program, area)? {
-        Some(start) => end_of(alloc, start.run(u64::from(pivots))),
+        Some(start) => end_of(alloc, start.run(u64::from(pivots)).ok()),
         None => Ok(None),
     }
 }

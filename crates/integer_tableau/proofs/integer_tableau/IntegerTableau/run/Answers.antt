@@ -15,18 +15,19 @@ at_cap n t s p e z h q = subst (λ e. EndsAs e p t) (sym (ap (λ n. run_from n t
 
 pub returns-in-Err-clause-value : goal.returns-in-Err-clause-value
 returns-in-Err-clause-value c =
-    let e : c.args.cap - c.loop-i._i ≡ suc (c.args.cap - (c.loop-i._i + 1)) = omega arith in
-    rw (← c.loop-i.invariant.same, e) (ends _ _ _ _ (rw c.in-Err.is at c.in_ok-next.ensures.value))
+    let e : c.args.cap - c.loop-made.made ≡ suc (c.args.cap - (c.loop-made.made + 1)) = omega arith in
+    rw (← c.loop-made.invariant.same, e) (ends _ _ _ _ (rw c.in-Err.is at c.in-Some.ensures.value))
 
-pub loop-i-preserved : goal.loop-i-preserved
-loop-i-preserved c =
-    let e : c.args.cap - c.loop-i._i ≡ suc (c.args.cap - (c.loop-i._i + 1)) = omega arith in
-    let v = rw c.in-Ok.is at c.in_ok-next.ensures.value in
-    let n = rw c.in-Ok.is at c.in_ok-next.ensures.counted in
+pub loop-made-preserved : goal.loop-made-preserved
+loop-made-preserved c =
+    let e : c.args.cap - c.loop-made.made ≡ suc (c.args.cap - (c.loop-made.made + 1)) = omega arith in
+    let v = rw c.in-Ok.is at c.in-Some.ensures.value in
+    let n = rw c.in-Ok.is at c.in-Some.ensures.counted in
     record {
-      same = rw (← c.loop-i.invariant.same, e) (sym (ap (continued (run_from (c.args.cap - (c.loop-i._i + 1)))) v));
-      counted = omega (arith, n, c.loop-i.invariant.counted);
+      same = rw (← c.loop-made.invariant.same, e) (sym (ap (continued (run_from (c.args.cap - (c.loop-made.made + 1)))) v));
+      counted = omega (arith, n, c.loop-made.invariant.counted);
     }
 
-pub returns-clause-value : goal.returns-clause-value
-returns-clause-value c = at_cap _ c.loop-i.tableau c.loop-i.tableau c.in_ok-place.place _ (omega arith) c.loop-i.invariant.same c.in_ok-place.ensures.value
+pub returns-in-Some-next_place-clause-value : goal.returns-in-Some-next_place-clause-value
+returns-in-Some-next_place-clause-value c =
+    at_cap _ c.loop-made.tableau c.loop-made.tableau c.in-Some-next_place.place _ (omega arith) c.loop-made.invariant.same c.in-Some-next_place.ensures.value
