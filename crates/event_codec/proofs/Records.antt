@@ -1,5 +1,5 @@
 -- The laws of the record of a model.
-use Rattle.std.proofs.Common.{◌≡◌, ℕ, Bool, true, false, cond, eqb, List, [], ◌∷◌, ◌++◌, Option, Some, None, Result, Ok, Err, refl, sym, ap, subst, arith}
+use Rattle.std.proofs.Common.{◌≡◌, ◌∙◌, ℕ, Bool, true, false, cond, eqb, List, [], ◌∷◌, ◌++◌, Option, Some, None, Result, Ok, Err, refl, sym, ap, subst, arith}
 use Rattle.std.specs.Prelude.{ℤ, pos, negsuc, int_le, IfOk, IfSome}
 use Rattle.std.specs.Int.{w64}
 use Rattle.std.specs.Int.RustNames.{FitsSigned}
@@ -95,6 +95,18 @@ model_again text upper is =
     let t1 = (known_field 1).again tt t0.0 (upper_code upper ++ text) tt in
     let t2 = upper_again upper t1.0 text is in
     rw (t0.1, t1.1, t2.1) refl
+
+-- what reading found, or a model where it found a fault
+abbrev read_model : Result Model CodecFault → Model
+read_model (Ok m) = m
+read_model (Err f) = record { text = []; upper = None }
+
+pub records_apart : (text text2 : List ℕ) (upper upper2 : Option ℤ) → IfSome upper IsUpper → IfSome upper2 IsUpper → model_code text upper ≡ model_code text2 upper2 → (text ≡ text2) × (upper ≡ upper2)
+records_apart text text2 upper upper2 a b same =
+    let read : read_model (model_of (model_code text upper)) ≡ record { text = text; upper = upper } = ap read_model (model_again text upper a) in
+    let read2 : read_model (model_of (model_code text2 upper2)) ≡ record { text = text2; upper = upper2 } = ap read_model (model_again text2 upper2 b) in
+    let one : record { text = text; upper = upper } ≡ record { text = text2; upper = upper2 } = sym read ∙ ap (λ (l : List ℕ). read_model (model_of l)) same ∙ read2 in
+    (ap (λ (m : Model). m.text) one, ap (λ (m : Model). m.upper) one)
 
 pub is_found : (bytes : List ℕ) (r : Result ModelRecord CodecFault) → IsBytes bytes → GivesModel r (model_of bytes) → IfOk r (λ m. IfSome m.upper IsUpper × (bytes ≡ model_code m.text.now m.upper))
 is_found bytes (Ok m) fits given = model_takes bytes (record_of m) fits given

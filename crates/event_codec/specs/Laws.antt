@@ -1,8 +1,9 @@
 -- Laws of codes.
-use Rattle.std.specs.Prelude.{◌≡◌, ℕ, List, ◌++◌}
+use Rattle.std.specs.Prelude.{◌≡◌, ℕ, ℤ, List, ◌++◌, Option, IfSome}
 use Rattle.node_events.specs.declared.event.Event.{Event}
 use Rattle.event_codec.specs.Codes.{code, IsCodable}
 use Rattle.event_codec.specs.Types.{IsEvent}
+use Rattle.event_codec.specs.Models.{IsUpper, model_code}
 
 -- The code of no event is a prefix of another's: where bytes begin with the codes of two events, the events are one.
 abbrev pub NoCodeIsAPrefix : Type 0
@@ -11,3 +12,7 @@ NoCodeIsAPrefix = (a b : Event) (x y : List ℕ) → IsCodable a → IsCodable b
 -- Only equal events have equal codes.
 abbrev pub CodesTellApart : Type 0
 CodesTellApart = (a b : Event) → IsCodable a → IsCodable b → IsEvent a → IsEvent b → code a ≡ code b → a ≡ b
+
+-- Only equal models have equal records.
+abbrev pub RecordsTellApart : Type 0
+RecordsTellApart = (text text2 : List ℕ) (upper upper2 : Option ℤ) → IfSome upper IsUpper → IfSome upper2 IsUpper → model_code text upper ≡ model_code text2 upper2 → (text ≡ text2) × (upper ≡ upper2)

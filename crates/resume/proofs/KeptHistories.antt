@@ -1,13 +1,15 @@
 -- What a disk keeps from the first moment of a call that opens its journal.
-use Rattle.std.specs.Prelude.{◌≡◌, ℕ, ◌≤◌, List, [], ◌∷◌, ◌++◌, length, Option, None, refl}
+use Rattle.std.specs.Prelude.{◌≡◌, ℕ, ◌≤◌, Bool, true, false, List, [], ◌∷◌, ◌++◌, length, Option, None, refl}
 use Rattle.std.proofs.Common.{sym, ◌∙◌, ap, subst}
 use Rattle.outside.specs.Images.{AtRest, LeavesOnly, NoMomentPasses, resting}
 use Rattle.outside.specs.declared.moment.Moment.{Moment}
-use Rattle.node_journal.specs.History.{SomeFrom, Keeps, ExtendsMoments, IsHistory, KeepsHistory}
-use Rattle.node_journal.specs.Records.{Records, Holds, records}
+use Rattle.node_journal.specs.History.{SomeFrom, IsPrefixOf, Keeps, ExtendsMoments, IsHistory, KeepsHistory}
+use Rattle.node_journal.specs.Records.{Records, Holds, payloads_held, records}
+use Rattle.node_journal.specs.Whole.{payloads_in}
 use Rattle.node_journal.specs.Lemmas.Histories.{some_stands}
 use Rattle.node_journal.specs.Lemmas.Opening.{kept_opened}
 use Rattle.node_journal.specs.Lemmas.Resting.{rested}
+use Rattle.resume.specs.Crashes.{LeavesHistory}
 use Rattle.resume.specs.Lemmas.Histories.{last_moment, keeps_joined}
 use Rattle.resume.proofs.Recovering.{untouched}
 
@@ -16,10 +18,27 @@ pub unchanged : (past past' : List Moment) (now now' : Moment) (ps qs : List (Li
     → SomeFrom (length past) past' (λ c. records c ≡ records now.seen) → KeepsHistory (length past) past' now' qs None
 unchanged past past' now now' ps qs holds same run some = kept_opened (length past) past now past' now' qs (records now.seen) (holds ∙ ap Holds (sym same)) refl run some
 
+-- what a call leaves whose disk did not fail
+pub leaves : (from : ℕ) (past : List Moment) (now : Moment) (ps : List (List ℕ)) (failed : Bool) → ps ≡ payloads_in now → KeepsHistory from past now ps None → LeavesHistory from past now failed
+leaves from past now ps failed same kept = record {
+  history = kept.history;
+  prefixes = λ sound i m c ge at is. subst (λ (l : List (List ℕ)). IsPrefixOf l (records c)) same (kept.prefixes refl i m c ge at is);
+}
+
+-- and of one whose disk did
+pub leaves_failed : (from : ℕ) (past : List Moment) (now : Moment) → IsHistory from (past ++ now ∷ []) → LeavesHistory from past now true
+leaves_failed from past now history = record { history = history; prefixes = λ sound. absurd cc }
+
+held_there : (now : Moment) (ps : List (List ℕ)) → records now.seen ≡ Holds ps → ps ≡ payloads_in now
+unfolding payloads_in
+held_there now ps holds = sym (ap payloads_held holds)
+
 -- no moment went by
-pub untouched_history : (past past' : List Moment) (now now' : Moment) (ps : List (List ℕ)) → AtRest now → records now.seen ≡ Holds ps → NoMomentPasses past now past' now' → IsHistory (length past) (past' ++ now' ∷ [])
-untouched_history past past' now now' ps rests holds stands =
-    (unchanged past past' now now' ps ps holds refl (untouched past past' now now' (λ c. records c ≡ records now.seen) rests refl stands) (some_stands past now past' now' (λ c. records c ≡ records now.seen) stands)).history
+pub untouched_history : (past past' : List Moment) (now now' : Moment) (ps : List (List ℕ)) (failed : Bool) → AtRest now → records now.seen ≡ Holds ps → NoMomentPasses past now past' now'
+    → LeavesHistory (length past) past' now' failed
+untouched_history past past' now now' ps failed rests holds stands =
+    leaves (length past) past' now' ps failed (held_there now ps holds ∙ ap payloads_in (sym stands.same))
+    (unchanged past past' now now' ps ps holds refl (untouched past past' now now' (λ c. records c ≡ records now.seen) rests refl stands) (some_stands past now past' now' (λ c. records c ≡ records now.seen) stands))
 
 -- an empty journal was recovered, and then a payload was added to it, or a part of it
 pub begun_history : (past mid past' : List Moment) (now between now' : Moment) (opened opened' : ℕ) (ps : List (List ℕ)) (fault : Option ℕ) → records now.seen ≡ Holds []

@@ -2,6 +2,8 @@ pub mod Applying
 pub mod Differences
 pub mod KeptHistories
 pub mod Models
+pub mod OneRefusal
 pub mod Recovering
 pub mod Refusing
 pub mod Replaying
+pub mod Unrefused

@@ -4,4 +4,5 @@ pub mod Journals
 pub mod Refusals
 pub mod Crashes
 pub mod Surveys
+pub mod Laws
 pub mod Lemmas

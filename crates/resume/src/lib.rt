@@ -5,6 +5,7 @@
 mod difference;
 mod fault;
 mod figures;
+pub mod laws;
 mod model_record;
 mod opening;
 mod reading;

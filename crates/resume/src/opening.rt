@@ -6,7 +6,7 @@ ghost use Rattle.outside.specs.Images.{AtRest, LeavesOnly, NoMomentPasses};
 ghost use Rattle.event_codec.specs.Models.{model_code};
 ghost use Rattle.event_core.specs.States.{first_state};
 ghost use Rattle.event_core.specs.Histories.{journaled};
-ghost use Rattle.node_journal.specs.History.{IsHistory, Keeps, KeepsHistory};
+ghost use Rattle.node_journal.specs.History.{Keeps, KeepsHistory};
 ghost use Rattle.node_journal.specs.Records.{records, Holds};
 ghost use Rattle.node_journal.specs.Views.{payloads_of, IsScanOf};
 ghost use Rattle.node_journal.specs.Whole.{payloads_in};
@@ -16,7 +16,7 @@ ghost use Rattle.resume.specs.Models.{IsTextOf};
 ghost use Rattle.resume.specs.Events.{node_limit};
 ghost use Rattle.resume.specs.Journals.{StandsFor, IsReadFrom, IsReplayed};
 ghost use Rattle.resume.specs.Refusals.{Refuses, RefusesPayloads, RefusesPayloadsFor, is_disk, is_refusal};
-ghost use Rattle.resume.specs.Crashes.{IsAsBefore, IsAsBeforeOrBegun};
+ghost use Rattle.resume.specs.Crashes.{IsAsBefore, IsAsBeforeOrBegun, LeavesHistory};
 
 use crate::ResumeFault;
 use crate::reading::{read_search, read_search_of};
@@ -77,7 +77,7 @@ fn continue_journal<D: Disk>(
     ensures any_moment { D.tells ≡ true → AtRest (D.now disk) → IfOk result (λ p. LeavesOnly (D.past disk) (D.now disk) (D.past p.journal.disk) (D.now p.journal.disk) (IsAsBefore (records (D.now disk).seen))) }
     ensures any_moment_err { D.tells ≡ true → AtRest (D.now disk) → IfErr result (λ e. LeavesOnly (D.past disk) (D.now disk) (D.past e.1) (D.now e.1) (IsAsBefore (records (D.now disk).seen))) }
     ensures history { D.tells ≡ true → AtRest (D.now disk) → IfOk result (λ p. KeepsHistory (length (D.past disk)) (D.past p.journal.disk) (D.now p.journal.disk) (payloads_in (D.now p.journal.disk)) None) }
-    ensures history_err { D.tells ≡ true → AtRest (D.now disk) → (ps : List (List ℕ)) → records (D.now disk).seen ≡ Holds ps → IfErr result (λ e. IsHistory (length (D.past disk)) (D.past e.1 ++ D.now e.1 ∷ [])) }
+    ensures history_err { D.tells ≡ true → AtRest (D.now disk) → (ps : List (List ℕ)) → records (D.now disk).seen ≡ Holds ps → IfErr result (λ e. LeavesHistory (length (D.past disk)) (D.past e.1) (D.now e.1) (is_disk e.0)) }
     ensures rests_err { D.tells ≡ true → AtRest (D.now disk) → IfErr result (λ e. is_disk e.0 ≡ false → AtRest (D.now e.1)) }
     ensures cause { IfOk result (λ p. D.count p.journal.disk ≡ D.count disk) }
     ensures cause_err { IfErr result (λ e. Counts (D.count disk) (D.count e.1) (is_disk e.0)) }
@@ -108,7 +108,7 @@ fn begin_journal<D: Disk>(
     ensures any_moment { D.tells ≡ true → AtRest (D.now disk) → IfOk result (λ j. LeavesOnly (D.past disk) (D.now disk) (D.past j.disk) (D.now j.disk) (IsAsBeforeOrBegun (records (D.now disk).seen) model.now)) }
     ensures any_moment_err { D.tells ≡ true → AtRest (D.now disk) → IfErr result (λ e. LeavesOnly (D.past disk) (D.now disk) (D.past e.1) (D.now e.1) (IsAsBeforeOrBegun (records (D.now disk).seen) model.now)) }
     ensures history { D.tells ≡ true → AtRest (D.now disk) → IfOk result (λ j. KeepsHistory (length (D.past disk)) (D.past j.disk) (D.now j.disk) (payloads_in (D.now j.disk)) None) }
-    ensures history_err { D.tells ≡ true → AtRest (D.now disk) → (ps : List (List ℕ)) → records (D.now disk).seen ≡ Holds ps → IfErr result (λ e. IsHistory (length (D.past disk)) (D.past e.1 ++ D.now e.1 ∷ [])) }
+    ensures history_err { D.tells ≡ true → AtRest (D.now disk) → (ps : List (List ℕ)) → records (D.now disk).seen ≡ Holds ps → IfErr result (λ e. LeavesHistory (length (D.past disk)) (D.past e.1) (D.now e.1) (is_disk e.0)) }
     ensures rests_err { D.tells ≡ true → AtRest (D.now disk) → IfErr result (λ e. is_disk e.0 ≡ false → AtRest (D.now e.1)) }
     ensures cause { IfOk result (λ j. D.count j.disk ≡ D.count disk) }
     ensures cause_err { IfErr result (λ e. Counts (D.count disk) (D.count e.1) (is_disk e.0)) }
@@ -151,7 +151,7 @@ fn begin_search<D: Disk>(
     ensures any_moment { D.tells ≡ true → AtRest (D.now disk) → IfOk result (λ p. LeavesOnly (D.past disk) (D.now disk) (D.past p.journal.disk) (D.now p.journal.disk) (IsAsBeforeOrBegun (records (D.now disk).seen) model.now)) }
     ensures any_moment_err { D.tells ≡ true → AtRest (D.now disk) → IfErr result (λ e. LeavesOnly (D.past disk) (D.now disk) (D.past e.1) (D.now e.1) (IsAsBeforeOrBegun (records (D.now disk).seen) model.now)) }
     ensures history { D.tells ≡ true → AtRest (D.now disk) → IfOk result (λ p. KeepsHistory (length (D.past disk)) (D.past p.journal.disk) (D.now p.journal.disk) (payloads_in (D.now p.journal.disk)) None) }
-    ensures history_err { D.tells ≡ true → AtRest (D.now disk) → (ps : List (List ℕ)) → records (D.now disk).seen ≡ Holds ps → IfErr result (λ e. IsHistory (length (D.past disk)) (D.past e.1 ++ D.now e.1 ∷ [])) }
+    ensures history_err { D.tells ≡ true → AtRest (D.now disk) → (ps : List (List ℕ)) → records (D.now disk).seen ≡ Holds ps → IfErr result (λ e. LeavesHistory (length (D.past disk)) (D.past e.1) (D.now e.1) (is_disk e.0)) }
     ensures rests_err { D.tells ≡ true → AtRest (D.now disk) → IfErr result (λ e. is_disk e.0 ≡ false → AtRest (D.now e.1)) }
     ensures cause { IfOk result (λ p. D.count p.journal.disk ≡ D.count disk) }
     ensures cause_err { IfErr result (λ e. Counts (D.count disk) (D.count e.1) (is_disk e.0)) }
@@ -194,8 +194,9 @@ pub fn open_any<B: BuildHasher + Drop, D: Disk>(
     ensures any_moment { D.tells ≡ true → AtRest (D.now disk) → IfOk result (λ p. LeavesOnly (D.past disk) (D.now disk) (D.past p.journal.disk) (D.now p.journal.disk) (IsAsBefore (records (D.now disk).seen))) }
     ensures any_moment_err { D.tells ≡ true → AtRest (D.now disk) → IfErr result (λ e. LeavesOnly (D.past disk) (D.now disk) (D.past e.1) (D.now e.1) (IsAsBefore (records (D.now disk).seen))) }
     // Where the disk was at rest with a journal, what all crashes at one moment leave, all crashes at each later moment leave, from the first moment on.
+    // Unless the disk failed, each leaves a prefix of the payloads at the end.
     ensures history { D.tells ≡ true → AtRest (D.now disk) → IfOk result (λ p. KeepsHistory (length (D.past disk)) (D.past p.journal.disk) (D.now p.journal.disk) (payloads_in (D.now p.journal.disk)) None) }
-    ensures history_err { D.tells ≡ true → AtRest (D.now disk) → (ps : List (List ℕ)) → records (D.now disk).seen ≡ Holds ps → IfErr result (λ e. IsHistory (length (D.past disk)) (D.past e.1 ++ D.now e.1 ∷ [])) }
+    ensures history_err { D.tells ≡ true → AtRest (D.now disk) → (ps : List (List ℕ)) → records (D.now disk).seen ≡ Holds ps → IfErr result (λ e. LeavesHistory (length (D.past disk)) (D.past e.1) (D.now e.1) (is_disk e.0)) }
     // Unless the disk failed, it comes back at rest.
     ensures rests_err { D.tells ≡ true → AtRest (D.now disk) → IfErr result (λ e. is_disk e.0 ≡ false → AtRest (D.now e.1)) }
     ensures cause { IfOk result (λ p. D.count p.journal.disk ≡ D.count disk) }
@@ -248,8 +249,9 @@ pub fn open_pool<B: BuildHasher + Drop, D: Disk>(
     ensures any_moment { D.tells ≡ true → AtRest (D.now disk) → IfOk result (λ p. LeavesOnly (D.past disk) (D.now disk) (D.past p.journal.disk) (D.now p.journal.disk) (IsAsBeforeOrBegun (records (D.now disk).seen) (model_code text.now upper))) }
     ensures any_moment_err { D.tells ≡ true → AtRest (D.now disk) → IfErr result (λ e. LeavesOnly (D.past disk) (D.now disk) (D.past e.1) (D.now e.1) (IsAsBeforeOrBegun (records (D.now disk).seen) (model_code text.now upper))) }
     // Where the disk was at rest with a journal, what all crashes at one moment leave, all crashes at each later moment leave, from the first moment on.
+    // Unless the disk failed, each leaves a prefix of the payloads at the end.
     ensures history { D.tells ≡ true → AtRest (D.now disk) → IfOk result (λ p. KeepsHistory (length (D.past disk)) (D.past p.journal.disk) (D.now p.journal.disk) (payloads_in (D.now p.journal.disk)) None) }
-    ensures history_err { D.tells ≡ true → AtRest (D.now disk) → (ps : List (List ℕ)) → records (D.now disk).seen ≡ Holds ps → IfErr result (λ e. IsHistory (length (D.past disk)) (D.past e.1 ++ D.now e.1 ∷ [])) }
+    ensures history_err { D.tells ≡ true → AtRest (D.now disk) → (ps : List (List ℕ)) → records (D.now disk).seen ≡ Holds ps → IfErr result (λ e. LeavesHistory (length (D.past disk)) (D.past e.1) (D.now e.1) (is_disk e.0)) }
     // Unless the disk failed, it comes back at rest.
     ensures rests_err { D.tells ≡ true → AtRest (D.now disk) → IfErr result (λ e. is_disk e.0 ≡ false → AtRest (D.now e.1)) }
     ensures cause { IfOk result (λ p. D.count p.journal.disk ≡ D.count disk) }

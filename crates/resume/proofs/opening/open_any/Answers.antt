@@ -20,7 +20,7 @@ pub returns-in-Err-read_search-clause-any_moment_err : goal.returns-in-Err-read_
 returns-in-Err-read_search-clause-any_moment_err g c told rests = untouched _ _ _ _ (IsAsBefore (records (g.D.Disk.now c.args.disk).seen)) rests refl c.scan.ensures.stands
 
 pub returns-in-Err-clause-history_err : goal.returns-in-Err-clause-history_err
-returns-in-Err-clause-history_err g c told rests ps holds = untouched_history _ _ _ _ ps rests holds c.scan.ensures.stands
+returns-in-Err-clause-history_err g c told rests ps holds = untouched_history _ _ _ _ ps _ rests holds c.scan.ensures.stands
 
 pub returns-in-Err-read_search-clause-history_err : goal.returns-in-Err-read_search-clause-history_err
-returns-in-Err-read_search-clause-history_err g c told rests ps holds = untouched_history _ _ _ _ ps rests holds c.scan.ensures.stands
+returns-in-Err-read_search-clause-history_err g c told rests ps holds = untouched_history _ _ _ _ ps _ rests holds c.scan.ensures.stands

@@ -69,13 +69,13 @@ returns-in-Ok-read_search_of-clause-any_moment_err g c told rests =
     (λ e run. behind_scan _ _ _ _ _ _ _ c.scan.ensures.stands run)
 
 pub returns-in-Err-clause-history_err : goal.returns-in-Err-clause-history_err
-returns-in-Err-clause-history_err g c told rests ps holds = untouched_history _ _ _ _ ps rests holds c.scan.ensures.stands
+returns-in-Err-clause-history_err g c told rests ps holds = untouched_history _ _ _ _ ps _ rests holds c.scan.ensures.stands
 
 pub returns-in_default-clause-history_err : goal.returns-in_default-clause-history_err
-returns-in_default-clause-history_err g c told rests ps holds = untouched_history _ _ _ _ ps rests holds c.scan.ensures.stands
+returns-in_default-clause-history_err g c told rests ps holds = untouched_history _ _ _ _ ps _ rests holds c.scan.ensures.stands
 
 pub returns-in-Err-read_search_of-clause-history_err : goal.returns-in-Err-read_search_of-clause-history_err
-returns-in-Err-read_search_of-clause-history_err g c told rests ps holds = untouched_history _ _ _ _ ps rests holds c.scan.ensures.stands
+returns-in-Err-read_search_of-clause-history_err g c told rests ps holds = untouched_history _ _ _ _ ps _ rests holds c.scan.ensures.stands
 
 pub returns-then-count-eq0-clause-read : goal.returns-then-count-eq0-clause-read
 returns-then-count-eq0-clause-read g c =
