@@ -1,6 +1,7 @@
-//! Calls on events, their codes, incumbents and cuts that no whole run shows. The gate compares what it prints with `stdout`.
+//! Calls on events, their codes and answers, incumbents and cuts that no whole run shows. The gate compares what it prints with `stdout`.
 #![tactic(auto)]
 
+mod answers;
 mod codes;
 mod cuts;
 mod events;
@@ -12,5 +13,6 @@ fn main(rt: HostRuntime) -> Result<()> {
     events::show(&rt)?;
     codes::show(&rt)?;
     incumbents::show(&rt)?;
-    cuts::show(&rt)
+    cuts::show(&rt)?;
+    answers::show(&rt)
 }

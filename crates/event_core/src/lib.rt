@@ -14,8 +14,6 @@ mod relaxed;
 mod split_place;
 mod split_rule;
 mod state;
-#[cfg(test)]
-mod tests;
 
 pub use admit::Admit;
 pub use entry::{Entry, Holder};
