@@ -1,15 +1,22 @@
-//! The program `bnc`: `bnc solve MODEL JOURNAL CERT [--nodes N] [--upper U]`.
+//! The program `bnc`, which solves integer programs and proves its answers. Its commands:
 //!
-//! It reads an integer program in free MPS from MODEL, minimises its objective, writes a VIPR 1.0 certificate of the answer to
-//! CERT, and prints a few lines. The search has at most N nodes, 1 to 1,000,000,000, and 1,000,000 where the words don't say; U, 0
-//! to 1,000,000,000, bounds each column that has no bound. JOURNAL is a path, and nothing is kept there yet.
+//! - `bnc solve MODEL JOURNAL CERT [--nodes N] [--upper U] [--cuts C]` reads an integer program in free MPS from MODEL, minimises its objective, writes
+//!   a VIPR 1.0 certificate of the answer to CERT, and prints a few lines. It keeps each event of its search in JOURNAL, and goes on from there where
+//!   JOURNAL has some.
+//! - `bnc resume JOURNAL CERT [--nodes N] [--cuts C]` does the same, the model and U being those of JOURNAL.
+//! - `bnc show JOURNAL` prints how far the search of JOURNAL has come, and changes nothing.
+//! - `bnc drill SEED CERT [--nodes N] [--cuts C]` solves a model that is made from SEED, 0 to 1,000,000,000, with its journal in memory.
 //!
-//! All of that is `run` of `solve_top`. Here the real files of `file_streams` are put in its hands, and the exit status is told: the
+//! The search has at most N nodes, 1 to 1,000,000,000, and 1,000,000 where the words don't say, and at most C cuts, 0 to 256, and 256 where they don't
+//! say. U, 0 to 1,000,000,000, bounds each column that has no bound.
+//!
+//! All of that is `run` of `solve_top`. Here the real files of `file_streams` and `file_disk` are put in its hands, and the exit status is told: the
 //! number of a `Status` of `solve_top`.
 #![tactic(auto)]
 
+use file_disk::FileDisk;
 use file_streams::{Destination, FileSink, FileSource, Spared, StandardOutput, hold_standard};
-use outside::{MemDisk, NoHold};
+use outside::{Disk, NoHold};
 use solve_top::{Paths, Status, Words, WordsFault, paths_of, run};
 use std::alloc::{AllocError, Global};
 use std::env;
@@ -37,12 +44,17 @@ fn words_of(rt: &HostRuntime) -> Result<Words, AllocError> {
 
 /// One run over the files of the paths, of which the certificate spares the other two. Its status, but `Sink` where all was written and
 /// the certificate can't be kept.
-fn status_of<R: Threads + Wait + Sync + Files<File = File>, B: BuildHasher + Drop>(
+fn status_of<
+    R: Threads + Wait + Sync + Files<File = File>,
+    B: BuildHasher + Clone + Drop,
+    D: Disk + Send + Drop,
+>(
     rt: &R,
     alloc: Global,
     keys: B,
     words: &Words,
     paths: &Paths,
+    disk: D,
     streams: (Stdout, Stderr),
 ) -> u8 {
     let mut model = FileSource::open(rt, paths.model.as_deref());
@@ -56,7 +68,6 @@ fn status_of<R: Threads + Wait + Sync + Files<File = File>, B: BuildHasher + Dro
     };
     let mut cert = FileSink::new(rt, destination);
     let mut out = StandardOutput::new(streams.0);
-    let disk = MemDisk::new(alloc);
     let ran = run(
         rt, alloc, keys, words, &mut model, disk, &mut cert, &mut out, &NoHold,
     );
@@ -84,12 +95,13 @@ fn main(rt: HostRuntime) -> ExitCode {
         },
         Err(WordsFault::Memory) => return ExitCode::from(Status::Memory.number()),
     };
+    let disk = FileDisk::new(&rt, &paths.journal);
     let streams = (rt.stdout(), rt.stderr());
     let status = match RandomState::new(&rt) {
-        Ok(keys) => status_of(&rt, rt.alloc(), keys, &words, &paths, streams),
+        Ok(keys) => status_of(&rt, rt.alloc(), keys, &words, &paths, disk, streams),
         Err(_) => {
             let fixed: BuildHasherDefault<DefaultHasher> = BuildHasherDefault::new();
-            status_of(&rt, rt.alloc(), fixed, &words, &paths, streams)
+            status_of(&rt, rt.alloc(), fixed, &words, &paths, disk, streams)
         }
     };
     ExitCode::from(status)

@@ -15,11 +15,17 @@ use Rattle.command_words.specs.declared.paths.Paths.{Paths}
 pub data Asked : Type 0 where
   -- the paths of the model, the journal and the certificate; the limits of the search; the bound for columns that have none
   solve : Text → Text → Text → Limits → Option ℕ → Asked
+  -- the paths of the journal and the certificate; the limits of the search
+  resume : Text → Text → Limits → Asked
+  -- the path of the journal
+  show : Text → Asked
+  -- the seed; the path of the certificate; the limits of the search
+  drill : ℕ → Text → Limits → Asked
 
 abbrev pub are_different : Text → Text → Text → Bool
 are_different model journal cert = not (bytes_eq model journal) && (not (bytes_eq model cert) && not (bytes_eq journal cert))
 
--- The number of an option: none where the words don't have the option, and no answer where its text isn't a whole number
+-- The number of an argument: none where the words don't have the argument, and no answer where its text isn't a whole number
 -- from low to high. The text has decimal digits, and a plus may stand before them.
 abbrev pub number_in : ℕ → ℕ → Option Text → Option (Option ℕ)
 number_in low high None = Some None
@@ -44,10 +50,36 @@ solve_of rows =
     solve_with (first_of (codes "MODEL") rows) (first_of (codes "JOURNAL") rows) (first_of (codes "CERT") rows) (limits_of rows)
     (number_in 0 1000000000 (one_of (codes "upper") rows))
 
+abbrev pub resume_with : Option Text → Option Text → Option Limits → Option Asked
+resume_with (Some journal) (Some cert) (Some limits) = if bytes_eq journal cert then None else Some (resume journal cert limits)
+resume_with journal cert limits = None
+
+-- what the matches of `resume` ask for: two paths that differ, and the numbers in their ranges
+abbrev pub resume_of : List Row → Option Asked
+resume_of rows = resume_with (first_of (codes "JOURNAL") rows) (first_of (codes "CERT") rows) (limits_of rows)
+
+-- what the matches of `show` ask for: one path
+abbrev pub show_of : List Row → Option Asked
+show_of rows = option_map show (first_of (codes "JOURNAL") rows)
+
+abbrev pub drill_with : Option (Option ℕ) → Option Text → Option Limits → Option Asked
+drill_with (Some (Some seed)) (Some cert) (Some limits) = Some (drill seed cert limits)
+drill_with seed cert limits = None
+
+-- what the matches of `drill` ask for: a seed and one path, and the numbers in their ranges
+abbrev pub drill_of : List Row → Option Asked
+drill_of rows =
+    drill_with (number_in 0 1000000000 (one_of (codes "SEED") rows)) (first_of (codes "CERT") rows) (limits_of rows)
+
 -- what the command of this name asks for by its matches
 abbrev pub asked_of : Option (Text × List Row) → Option Asked
 asked_of None = None
-asked_of (Some entered) = if bytes_eq entered.0 (codes "solve") then solve_of entered.1 else None
+asked_of (Some entered) =
+    if bytes_eq entered.0 (codes "solve") then solve_of entered.1
+    else if bytes_eq entered.0 (codes "resume") then resume_of entered.1
+    else if bytes_eq entered.0 (codes "show") then show_of entered.1
+    else if bytes_eq entered.0 (codes "drill") then drill_of entered.1
+    else None
 
 abbrev pub unless_fault : Kinds → Option Asked → Option Asked
 unless_fault [] asked = asked
@@ -64,6 +96,9 @@ is_command words = is_some (command_of words)
 -- what a command asks for, as plain values
 abbrev pub asked : Command → Asked
 asked (command.Solve model journal cert limits upper) = solve (string_bytes model) (string_bytes journal) (string_bytes cert) limits upper
+asked (command.Resume journal cert limits) = resume (string_bytes journal) (string_bytes cert) limits
+asked (command.Show journal) = show (string_bytes journal)
+asked (command.Drill seed cert limits) = drill seed (string_bytes cert) limits
 
 -- the numbers of these limits are in their ranges
 pub record AreInRange (l : Limits) : Type 0 where
@@ -74,10 +109,16 @@ pub record AreInRange (l : Limits) : Type 0 where
 -- its numbers are in their ranges
 abbrev pub HasRanges : Command → Type 0
 HasRanges (command.Solve model journal cert limits upper) = AreInRange limits × IfSome upper (λ u. u ≤ 1000000000)
+HasRanges (command.Resume journal cert limits) = AreInRange limits
+HasRanges (command.Show journal) = Unit {0}
+HasRanges (command.Drill seed cert limits) = (seed ≤ 1000000000) × AreInRange limits
 
 -- the paths of what is asked, each there as the command has it
 abbrev pub paths_asked : Asked → Option Text × Option Text × Option Text
 paths_asked (solve model journal cert limits upper) = (Some model, Some journal, Some cert)
+paths_asked (resume journal cert limits) = (None, Some journal, Some cert)
+paths_asked (show journal) = (None, Some journal, None)
+paths_asked (drill seed cert limits) = (None, None, Some cert)
 
 -- the same of paths
 abbrev pub texts_of : Paths → Option Text × Option Text × Option Text

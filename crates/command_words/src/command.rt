@@ -3,8 +3,11 @@ ghost use Rattle.std.specs.Prelude.{◌≡◌, Some, None, IfOk, IsErrOf};
 ghost use Rattle.clap.specs.Words.{subcommand_rows_of};
 ghost use Rattle.command_words.specs.Commands.{HasRanges, asked, asked_of, command_of};
 
+use crate::drill_matches::drill_asked;
 use crate::fault::WordsFault;
 use crate::limits::Limits;
+use crate::resume_matches::resume_asked;
+use crate::show_matches::show_asked;
 use crate::solve_matches::solve_asked;
 use crate::table::matched;
 use crate::words::Words;
@@ -27,6 +30,29 @@ pub enum Command {
         /// The bound for each column that has none, 0 to 1,000,000,000.
         upper: Option<u32>,
     },
+    /// Go on from a journal, which holds the model.
+    Resume {
+        /// Where the journal is kept.
+        journal: String,
+        /// Where the certificate is written.
+        cert: String,
+        /// The limits of the search.
+        limits: Limits,
+    },
+    /// Tell how far the search of a journal has come, and change nothing.
+    Show {
+        /// Where the journal is kept.
+        journal: String,
+    },
+    /// Solve a model that is made from a seed.
+    Drill {
+        /// The seed, 0 to 1,000,000,000.
+        seed: u32,
+        /// Where the certificate is written.
+        cert: String,
+        /// The limits of the search.
+        limits: Limits,
+    },
 }
 
 // What the matches of a command ask for.
@@ -40,6 +66,12 @@ fn entered(alloc: Global, matches: &ArgMatches<'_>) -> Result<Command, WordsFaul
     };
     if name == "solve" {
         solve_asked(alloc, found)
+    } else if name == "resume" {
+        resume_asked(alloc, found)
+    } else if name == "show" {
+        show_asked(alloc, found)
+    } else if name == "drill" {
+        drill_asked(alloc, found)
     } else {
         Err(WordsFault::Usage)
     }

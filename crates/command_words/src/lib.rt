@@ -1,11 +1,14 @@
 //! The words of a command line, read as a command by clap.
 #![tactic(auto)]
 
+mod arguments;
 mod command;
+mod drill_matches;
 mod fault;
 mod limits;
-mod options;
 mod paths;
+mod resume_matches;
+mod show_matches;
 mod solve_matches;
 mod table;
 mod words;

@@ -3,8 +3,8 @@ ghost use Rattle.std.specs.Prelude.{◌≡◌, ◌≤◌, Some, None, IfErr, IfO
 ghost use Rattle.clap.specs.Words.{found_of, rows_of};
 ghost use Rattle.command_words.specs.Commands.{AreInRange, limits_of as limits_of_rows};
 
+use crate::arguments::number_in;
 use crate::fault::WordsFault;
-use crate::options::number_in;
 use clap::ArgMatches;
 
 // The most nodes where the words don't say, and the largest number of them.

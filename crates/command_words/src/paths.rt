@@ -39,6 +39,33 @@ pub fn paths_of(alloc: Global, words: &Words) -> Result<Paths, WordsFault>
             journal: Some(journal),
             cert: Some(cert),
         }),
+        Ok(
+            Command::Resume {
+                journal,
+                cert,
+                limits: _,
+            },
+        ) => Ok(Paths {
+            model: None,
+            journal: Some(journal),
+            cert: Some(cert),
+        }),
+        Ok(Command::Show { journal }) => Ok(Paths {
+            model: None,
+            journal: Some(journal),
+            cert: None,
+        }),
+        Ok(
+            Command::Drill {
+                seed: _,
+                cert,
+                limits: _,
+            },
+        ) => Ok(Paths {
+            model: None,
+            journal: None,
+            cert: Some(cert),
+        }),
         Err(fault) => Err(fault),
     }
 }

@@ -1,24 +1,17 @@
 // What the matches of `solve` ask for.
-ghost use Rattle.std.specs.Prelude.{◌≡◌, ◌≤◌, Some, None, IfOk, IfSome, IsErrOf, option_map, codes};
-ghost use Rattle.clap.specs.Words.{found_of, first_of, rows_of};
+ghost use Rattle.std.specs.Prelude.{◌≡◌, ◌≤◌, Some, None, IfOk, IfSome, IsErrOf};
+ghost use Rattle.clap.specs.Words.{found_of, rows_of};
 ghost use Rattle.command_words.specs.Commands.{AreInRange, HasRanges, are_different as are_different_texts, asked, solve as solve_texts, solve_of};
 
+use crate::arguments::{number_in, path_in};
 use crate::command::Command;
 use crate::fault::WordsFault;
 use crate::limits::{Limits, limits_of};
-use crate::options::number_in;
 use clap::ArgMatches;
 use std::alloc::{AllocError, Global};
 
 // The largest bound.
 const MOST_UPPER: u32 = 1_000_000_000;
-
-// The text of a path.
-fn path<'a>(matches: &ArgMatches<'a>, id: &str) -> Option<&'a str>
-    ensures { option_map (λ s. s.now) result ≡ first_of id.now (rows_of (found_of matches.now)) }
-{
-    matches.get_str(id)
-}
 
 // Whether no two of the paths are the same.
 fn are_different(model: &str, journal: &str, cert: &str) -> bool
@@ -58,15 +51,9 @@ pub fn solve_asked(alloc: Global, matches: &ArgMatches<'_>) -> Result<Command, W
     ensures range { IfOk result HasRanges }
     ensures usage { IsErrOf result WordsFault.Usage → solve_of (rows_of (found_of matches.now)) ≡ None }
 {
-    let Some(model) = path(matches, "MODEL") else {
-        return Err(WordsFault::Usage);
-    };
-    let Some(journal) = path(matches, "JOURNAL") else {
-        return Err(WordsFault::Usage);
-    };
-    let Some(cert) = path(matches, "CERT") else {
-        return Err(WordsFault::Usage);
-    };
+    let model = path_in(matches, "MODEL")?;
+    let journal = path_in(matches, "JOURNAL")?;
+    let cert = path_in(matches, "CERT")?;
     let limits = limits_of(matches)?;
     let upper = number_in(matches, "upper", 0, MOST_UPPER)?;
     if !are_different(model, journal, cert) {

@@ -2,7 +2,10 @@
 ghost use Rattle.std.specs.Prelude.{◌≡◌, ◌≢◌, [], IfOk, IsErrOf, map, false, string_bytes};
 ghost use Rattle.clap.specs.Words.{app_of, fault_of, rule_of, subcommand_of, subcommand_rows_of, with_rule, with_subcommand};
 ghost use Rattle.clap.specs.declared.Command.TheViews.{out-Command as fields_of};
-ghost use Rattle.command_words.specs.Table.{commands, no_commands, solve_command, with_limits, with_paths, path as path_rule, number as number_rule};
+ghost use Rattle.command_words.specs.Table.{commands, no_commands, with_journal_commands};
+ghost use Rattle.command_words.specs.Table.{drill_command, resume_command, show_command, solve_command};
+ghost use Rattle.command_words.specs.Table.{with_journal_cert, with_limits};
+ghost use Rattle.command_words.specs.Table.{path as path_rule, number as number_rule, seed as seed_rule};
 
 use crate::fault::WordsFault;
 use clap::builder::ValueParser;
@@ -16,6 +19,16 @@ fn path<'a>(alloc: Global, id: &'a str) -> Arg<'a>
     ensures local { result.global ≡ false }
 {
     Arg::new(alloc, id).required(true)
+}
+
+// The seed of a drill, which it has to have.
+fn seed<'a>(alloc: Global) -> Arg<'a>
+    ensures rule { rule_of result ≡ seed_rule }
+    ensures local { result.global ≡ false }
+{
+    Arg::new(alloc, "SEED")
+        .required(true)
+        .value_parser(ValueParser::Unsigned(0, 1_000_000_000))
 }
 
 // An option with one whole number in a range.
@@ -43,15 +56,11 @@ fn with_command<'a>(command: Command<'a>, below: Command<'a>) -> Result<Command<
     command.subcommand(below)
 }
 
-// The three paths of a command.
-fn with_model_journal_cert<'a>(
-    alloc: Global,
-    command: Command<'a>,
-) -> Result<Command<'a>, AllocError>
-    ensures app { IfOk result (λ c. app_of c ≡ with_paths (app_of command.entry)) }
+// The paths of the journal and the certificate.
+fn with_journal_cert<'a>(alloc: Global, command: Command<'a>) -> Result<Command<'a>, AllocError>
+    ensures app { IfOk result (λ c. app_of c ≡ with_journal_cert (app_of command.entry)) }
     ensures local { IfOk result (λ c. (fields_of c).has_globals ≡ (fields_of command.entry).has_globals) }
 {
-    let command = with_arg(command, path(alloc, "MODEL"))?;
     let command = with_arg(command, path(alloc, "JOURNAL"))?;
     with_arg(command, path(alloc, "CERT"))
 }
@@ -69,9 +78,34 @@ fn solve<'a>(alloc: Global) -> Result<Command<'a>, AllocError>
     ensures app { IfOk result (λ c. app_of c ≡ solve_command) }
     ensures local { IfOk result (λ c. (fields_of c).has_globals ≡ false) }
 {
-    let command = with_model_journal_cert(alloc, Command::new(alloc, "solve"))?;
+    let command = with_arg(Command::new(alloc, "solve"), path(alloc, "MODEL"))?;
+    let command = with_journal_cert(alloc, command)?;
     let command = with_limits(alloc, command)?;
     with_arg(command, number(alloc, "upper", 0, 1_000_000_000))
+}
+
+fn resume<'a>(alloc: Global) -> Result<Command<'a>, AllocError>
+    ensures app { IfOk result (λ c. app_of c ≡ resume_command) }
+    ensures local { IfOk result (λ c. (fields_of c).has_globals ≡ false) }
+{
+    let command = with_journal_cert(alloc, Command::new(alloc, "resume"))?;
+    with_limits(alloc, command)
+}
+
+fn show<'a>(alloc: Global) -> Result<Command<'a>, AllocError>
+    ensures app { IfOk result (λ c. app_of c ≡ show_command) }
+    ensures local { IfOk result (λ c. (fields_of c).has_globals ≡ false) }
+{
+    with_arg(Command::new(alloc, "show"), path(alloc, "JOURNAL"))
+}
+
+fn drill<'a>(alloc: Global) -> Result<Command<'a>, AllocError>
+    ensures app { IfOk result (λ c. app_of c ≡ drill_command) }
+    ensures local { IfOk result (λ c. (fields_of c).has_globals ≡ false) }
+{
+    let command = with_arg(Command::new(alloc, "drill"), seed(alloc))?;
+    let command = with_arg(command, path(alloc, "CERT"))?;
+    with_limits(alloc, command)
 }
 
 // The program without its commands. No form of help is known, so that each one is a fault.
@@ -85,10 +119,20 @@ fn program<'a>(alloc: Global) -> Command<'a>
         .subcommand_required(true)
 }
 
+// The commands on a journal that is there.
+fn with_journal_commands<'a>(alloc: Global, command: Command<'a>) -> Result<Command<'a>, AllocError>
+    ensures { IfOk result (λ c. app_of c ≡ with_journal_commands (app_of command.entry)) }
+{
+    let command = with_command(command, resume(alloc)?)?;
+    with_command(command, show(alloc)?)
+}
+
 fn table<'a>(alloc: Global) -> Result<Command<'a>, AllocError>
     ensures { IfOk result (λ c. app_of c ≡ commands) }
 {
-    with_command(program(alloc), solve(alloc)?)
+    let command = with_command(program(alloc), solve(alloc)?)?;
+    let command = with_journal_commands(alloc, command)?;
+    with_command(command, drill(alloc)?)
 }
 
 /// The matches of the words, where clap finds no fault in them by the table.

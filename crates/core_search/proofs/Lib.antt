@@ -4,6 +4,8 @@ pub mod StillOpen
 pub mod OpenLists
 pub mod Growing
 pub mod Weighing
+pub mod Pooling
+pub mod EndedBy
 pub mod Stepping
 pub mod Looking
 pub mod Separating

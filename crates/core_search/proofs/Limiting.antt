@@ -50,14 +50,6 @@ few_still s t mult mults most e h =
     let n : length t.cuts ≤ length s.cuts + 1 = subst (λ (u : State). length u.cuts ≤ length s.cuts + 1) (sym e) (made_few s mult (rounded_row s.problem s.cuts mult)) in
     omega (arith, n, h)
 
--- where nothing was made
-pub same_few : (s t : State) (limit : ℕ) → t ≡ s → length t.cuts ≤ max limit (length s.cuts)
-same_few s t limit e = subst (λ (u : State). length u.cuts ≤ max limit (length s.cuts)) (sym e) (grind arith)
-
 -- one after the other
 pub joined_few : (limit a b c : ℕ) → b ≤ max limit a → c ≤ max limit b → c ≤ max limit a
 joined_few limit a b c h k = grind arith
-
--- where two of three changes make no cut
-pub between_few : (limit : ℕ) (s a t u : State) → a.cuts ≡ s.cuts → length t.cuts ≤ max limit (length a.cuts) → u.cuts ≡ t.cuts → length u.cuts ≤ max limit (length s.cuts)
-between_few limit s a t u e h f = subst (λ cs. length cs ≤ max limit (length s.cuts)) (sym f) (subst (λ cs. length t.cuts ≤ max limit (length cs)) e h)

@@ -9,7 +9,7 @@ use Rattle.node_tree.specs.Nodes.{Tree}
 use Rattle.node_tree.specs.Paths.{box_at}
 use Rattle.node_tree.specs.Laws.{IsSplitAt}
 use Rattle.event_core.specs.States.{State, tree_of, is_open, box_of, open_count}
-use Rattle.event_core.specs.After.{after_claim, after_split, after_close, after_offer}
+use Rattle.event_core.specs.After.{after_split, after_close, after_offer}
 use Rattle.event_core.specs.Lemmas.Ended.{is_left, left_kept, left_prefix, left_within}
 use Rattle.core_search.specs.declared.open_node.OpenNode.{OpenNode}
 use Rattle.derivation_book.specs.declared.cut.Cut.{Cut}
@@ -167,9 +167,6 @@ module _ (s : State) (os : List OpenNode) (o : OpenNode) (h : AreOpenNodes s (os
     }
 
 -- ---- states that differ in holds and incumbents
-pub claimed_nodes : (s : State) (w : Option ℕ) (i : ℕ) (os : List OpenNode) → AreOpenNodes s os → AreOpenNodes (after_claim s w i) os
-claimed_nodes s w i os h = record { nodes = λ k d l. let b = h.nodes k d l in record { opened = b.opened; area = b.area; origin = b.origin }; rising = h.rising; listed = h.listed }
-
 pub offered_nodes : (s : State) (x : List ℤ) (os : List OpenNode) → AreOpenNodes s os → AreOpenNodes (after_offer s x) os
 offered_nodes s x os h = record { nodes = λ k d l. let b = h.nodes k d l in record { opened = b.opened; area = b.area; origin = b.origin }; rising = h.rising; listed = h.listed }
 

@@ -1,8 +1,8 @@
 -- What a step does to the state and to the list of the open nodes.
-use Rattle.std.specs.Prelude.{◌≡◌, ◌<◌, ◌≤◌, ◌+◌, ◌-◌, ◌^◌, ℕ, ℤ, pos, ◌+ℤ◌, ◌≤ℤ◌, ◌<ℤ◌, nat_abs, Bool, true, false, List, [], ◌∷◌, ◌++◌, length, max, All, Option, Some, None, slice_get, slice_index_or, Result, Ok, Err, OnOk, OnErr, refl}
+use Rattle.std.specs.Prelude.{◌≡◌, ◌<◌, ◌≤◌, ◌+◌, ◌-◌, ◌^◌, ℕ, ℤ, pos, ◌≤ℤ◌, ◌<ℤ◌, nat_abs, true, List, [], ◌∷◌, ◌++◌, length, max, All, Option, Some, None, slice_get, slice_index_or, Result, Ok, Err, OnOk, refl}
 use Rattle.std.specs.Option.{ForSome}
 use Rattle.std.proofs.Common.{sym, ap, ◌∙◌, subst, arith, to_z, of_z, w64}
-use Rattle.std.proofs.Math.Nat.{le-max_left, le-max_right, max-le}
+use Rattle.std.proofs.Math.Nat.{le-max_left, max-le}
 use Rattle.std.proofs.lemmas.Int.{ints}
 use Rattle.std.proofs.lemmas.List.Elements.{All-get_or}
 use Rattle.std.proofs.lemmas.Option.{slice_get-get_or}
@@ -10,12 +10,9 @@ use Rattle.fraction.specs.Rational.{ℚ}
 use Rattle.problem_box.specs.declared.span.Span.{Span}
 use Rattle.problem.specs.Problem.{Problem}
 use Rattle.problem.specs.Limited.{IsModestSpan}
-use Rattle.problem.specs.Feasible.{objective_at}
 use Rattle.node_tree.specs.Trees.{IsTree}
 use Rattle.node_tree.specs.Lemmas.Splitting.{length-split, splits_share}
-use Rattle.node_events.specs.declared.proof.Proof.{Proof}
 use Rattle.node_events.specs.declared.event.Event.TheVariants.{Split}
-use Rattle.derivation_book.specs.Legal.{is_legal_proof}
 use Rattle.dual_simplex.specs.Prepared.{IsRelaxationOf}
 use Rattle.event_core.specs.declared.admit.Admit.TheVariants.{Yes, NotOpen, NotYours, BadSplit, BadReason}
 use Rattle.event_core.specs.States.{State, tree_of, is_open, box_of, cutoff}
@@ -28,7 +25,7 @@ use Rattle.event_core.specs.Lemmas.Passing.{passing}
 use Rattle.event_core.specs.Lemmas.Boxes.{both_within, both_tells}
 use Rattle.event_core.specs.Lemmas.Ended.{left_within}
 use Rattle.expand.specs.declared.settlement.Branching.{Branching}
-use Rattle.expand.specs.Settlements.{IsBetterPoint, IsBranching}
+use Rattle.expand.specs.Settlements.{IsBranching}
 use Rattle.expand.specs.Lemmas.Bounds.{kept_bound}
 use Rattle.expand.specs.Lemmas.Events.{split_legal}
 use Rattle.core_search.specs.declared.worker.Worker.{Worker}
@@ -39,7 +36,7 @@ use Rattle.core_search.specs.declared.open_node.OpenNode.{OpenNode}
 use Rattle.core_search.specs.Holding.{IsHeldAlone}
 use Rattle.core_search.specs.OpenNodes.{IsOpenNode, AreOpenNodes, children, work_left}
 use Rattle.core_search.specs.Entries.{IsGreatest}
-use Rattle.core_search.specs.Processing.{EndsNode, IsExhausted, ProcessesNode}
+use Rattle.core_search.specs.Processing.{EndsNode, IsExhausted}
 use Rattle.core_search.proofs.Acting.{yours, claimed, given_back}
 use Rattle.core_search.proofs.OpenLists.{closed_nodes, split_nodes, offered_nodes, cut_nodes, less_closed, less_split}
 
@@ -48,50 +45,13 @@ pub on_any_ok : {A E P : Type 0} (r : Result A E) → P → OnOk r P
 on_any_ok (Ok x) h = h
 on_any_ok (Err e) h = tt
 
-pub on_any_err : {A E P : Type 0} (r : Result A E) → P → OnErr r P
-on_any_err (Ok x) h = tt
-on_any_err (Err e) h = h
-
--- one of the two
-pub on_both : {A E P Q R : Type 0} (r : Result A E) → OnOk r P → OnErr r Q → (P → R) → (Q → R) → R
-on_both (Ok x) h k f g = f h
-on_both (Err e) h k f g = g k
-
 -- ---- the budget
-pub same_within : (budget : ℕ) (s t : State) → t.nodes ≡ s.nodes → length t.nodes ≤ max budget (length s.nodes)
-same_within budget s t e = subst (λ m. m ≤ max budget (length s.nodes)) (ap length (sym e)) (le-max_right budget (length s.nodes))
-
-pub split_within : (budget : ℕ) (s t : State) (i j : ℕ) (b : ℤ) → t ≡ after_split s i j b → length s.nodes + 2 ≤ budget → length t.nodes ≤ max budget (length s.nodes)
-split_within budget s t i j b e l =
-    let size : length t.nodes ≡ length s.nodes + 2 = ap (λ (u : State). length u.nodes) e ∙ length-split (tree_of s) i j b in
-    omega (arith, size, l, le-max_left budget (length s.nodes))
-
--- where two of three changes make no node
-pub between_within : (budget : ℕ) (s a t u : State) → a.nodes ≡ s.nodes → length t.nodes ≤ max budget (length a.nodes) → u.nodes ≡ t.nodes → length u.nodes ≤ max budget (length s.nodes)
-between_within budget s a t u e h f = subst (λ ns. length ns ≤ max budget (length s.nodes)) (sym f) (subst (λ ns. length t.nodes ≤ max budget (length ns)) e h)
-
 -- one after the other
 pub joined_within : (budget : ℕ) (s t u : State) → length t.nodes ≤ max budget (length s.nodes) → length u.nodes ≤ max budget (length t.nodes) → length u.nodes ≤ max budget (length s.nodes)
 joined_within budget s t u h k = let m = max-le (le-max_left budget (length s.nodes)) h in omega (arith, k, m)
 
 -- ---- the node stays held
-pub held_at : (s t : State) (i : ℕ) → t ≡ s → IsHeldAlone s i → IsHeldAlone t i
-held_at s t i e h = subst (λ (u : State). IsHeldAlone u i) (sym e) h
-
-pub held_offered : (s t : State) (x : List ℤ) (i : ℕ) → t ≡ after_offer s x → IsHeldAlone s i → IsHeldAlone t i
-held_offered s t x i e h = subst (λ (u : State). IsHeldAlone u i) (sym e) (record { held = h.held; opened = h.opened })
-
 -- ---- closings
-pub closes : (s : State) (o : OpenNode) (v proof : Proof) → IsOpenNode s o → proof ≡ v → is_legal_proof s.problem s.cuts o.area (cutoff s) v ≡ true
-    → is_legal_proof s.problem s.cuts (box_of s o.number) (cutoff s) proof ≡ true
-closes s o v proof h e l = (λ k. is_legal_proof s.problem s.cuts (sym h.area k) (cutoff s) (e k)) ∙ l
-
-pub point_closes : (s t : State) (o : OpenNode) (x : List ℤ) (proof : Proof) → t ≡ after_offer s x → IsOpenNode s o → IsBetterPoint s o.area x proof
-    → is_legal_proof t.problem t.cuts (box_of t o.number) (cutoff t) proof ≡ true
-point_closes s t o x proof e h v =
-    subst (λ (u : State). is_legal_proof u.problem u.cuts (box_of u o.number) (cutoff u) proof ≡ true) (sym e)
-    (ap (λ ss. is_legal_proof s.problem s.cuts ss (Some (objective_at s.problem x)) proof) (sym h.area) ∙ v.closes)
-
 -- the node has ended
 pub ends_closed : (budget : ℕ) (s t : State) (os : List OpenNode) (o : OpenNode) → t ≡ after_close s o.number → IsHeldAlone s o.number → AreOpenNodes s (os ++ o ∷ []) → EndsNode budget s (os ++ o ∷ []) t os
 ends_closed budget s t os o e h b = subst (λ (u : State). EndsNode budget s (os ++ o ∷ []) u os) (sym e) (record {
@@ -148,9 +108,6 @@ module _ (ss : List Span) (j : ℕ) (b : ℤ) (h : has_both (slice_get ss j) b �
   pub left_at : ForSome (slice_get ss j) (λ s. (s.lo ≤ℤ b) × (b <ℤ s.hi))
   left_at = both_tells (slice_get ss j) b h
 
-  pub right_at : ForSome (slice_get ss j) (λ s. (s.lo <ℤ (b +ℤ pos 1)) × ((b +ℤ pos 1) ≤ℤ s.hi))
-  right_at = λ t q. let k = left_at t q in (omega (arith, ints, k.0), omega (arith, ints, k.1))
-
   pub bound_modest : All IsModestSpan ss → nat_abs b ≤ 10 ^ 9
   bound_modest m =
       let l = both_within ss j b h in
@@ -183,9 +140,6 @@ ends_split budget s t os us o j b value e q h boxes tree size within l =
 pub held_claimed : (s t : State) (i : ℕ) → t ≡ after_claim s (Some 0) i → s.holds ≡ [] → is_open s i ≡ true → IsHeldAlone t i
 held_claimed s t i e h o = subst (λ (u : State). IsHeldAlone u i) (sym e) (claimed s i h o)
 
-pub prepared_claimed : (s t : State) (i : ℕ) (w : Worker) → t ≡ after_claim s (Some 0) i → IsPrepared s w → IsPrepared t w
-prepared_claimed s t i w e h = subst (λ (u : State). IsPrepared u w) (sym e) (record { all_cuts = h.all_cuts; prepared = h.prepared; costs = h.costs; limit = h.limit })
-
 -- what the worker keeps, where problem and cuts stay
 pub still_prepared : (s t : State) (w : Worker) → t.problem ≡ s.problem → t.cuts ≡ s.cuts → IsPrepared s w → IsPrepared t w
 still_prepared s t w p c h = record {
@@ -205,15 +159,8 @@ joined_cuts s t u h k = k ∙ ap (λ (v : State). record v { cuts = u.cuts }) h
 pub held_cuts : (s t : State) (i : ℕ) → IsSameButCuts s t → IsHeldAlone s i → IsHeldAlone t i
 held_cuts s t i e h = subst (λ (u : State). IsHeldAlone u i) (sym e) (record { held = h.held; opened = h.opened })
 
-pub node_cuts : (s t : State) (o : OpenNode) → IsSameButCuts s t → IsOpenNode s o → IsOpenNode t o
-node_cuts s t o e h = subst (λ (u : State). IsOpenNode u o) (sym e) (record { opened = h.opened; area = h.area; origin = h.origin })
-
 pub nodes_cuts : (s t : State) (os : List OpenNode) → IsSameButCuts s t → AreOpenNodes s os → AreOpenNodes t os
 nodes_cuts s t os e h = subst (λ (u : State). AreOpenNodes u os) (sym e) (cut_nodes s t.cuts os h)
-
--- the budget, from before the cuts
-pub after_cuts_within : (budget : ℕ) (s t u : State) → IsSameButCuts s t → length u.nodes ≤ max budget (length t.nodes) → length u.nodes ≤ max budget (length s.nodes)
-after_cuts_within budget s t u e h = between_within budget s t u u (ap (λ (v : State). v.nodes) e) h refl
 
 -- what ends a node after cuts were made ends it
 pub ends_after_cuts : (budget : ℕ) (s t u : State) (before after : List OpenNode) → IsSameButCuts s t → EndsNode budget t before u after → EndsNode budget s before u after
@@ -232,11 +179,3 @@ pub point_after_cuts : (budget : ℕ) (s t u : State) (x : List ℤ) (os : List 
     → AreOpenNodes s (os ++ o ∷ []) → EndsNode budget s (os ++ o ∷ []) u os
 point_after_cuts budget s t u x os o c e h b =
     ends_after_cuts budget s t u (os ++ o ∷ []) os c (ends_point budget t u x os o e (held_cuts s t o.number c h) (nodes_cuts s t (os ++ o ∷ []) c b))
-
-pub processed_after_cuts : (budget : ℕ) (s t u : State) (before after : List OpenNode) (ended : Bool) → IsSameButCuts s t → ProcessesNode budget t before u after ended → ProcessesNode budget s before u after ended
-processed_after_cuts budget s t u before after true e h = ends_after_cuts budget s t u before after e h
-processed_after_cuts budget s t u before after false e h = (joined_cuts s t u e h.0, h.1)
-
--- where the node wasn't ended
-pub not_ended : (budget : ℕ) (s t : State) (before after : List OpenNode) (more : Bool) → ProcessesNode budget s before t after more → more ≡ false → IsSameButCuts s t × IsExhausted budget t
-not_ended budget s t before after more h e = subst (ProcessesNode budget s before t after) e h

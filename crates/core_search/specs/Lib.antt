@@ -1,6 +1,7 @@
 pub mod OpenNodes
 pub mod Holding
 pub mod Entries
+pub mod Pools
 pub mod Workers
 pub mod Deciding
 pub mod Endings

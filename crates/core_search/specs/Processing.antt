@@ -1,10 +1,9 @@
 -- What a step does with its node, and how it ends a search.
-use Rattle.std.specs.Prelude.{◌≡◌, ◌<◌, ℕ, Bool, true, false, List, []}
+use Rattle.std.specs.Prelude.{◌≡◌, ◌<◌, ℕ, List, []}
 use Rattle.event_core.specs.States.{State, open_count}
 use Rattle.core_search.specs.declared.open_node.OpenNode.{OpenNode}
 use Rattle.core_search.specs.declared.node_loop.Ending.{Ending}
-use Rattle.core_search.specs.declared.node_loop.Ending.TheVariants.{Finished, Spent, Memory}
-use Rattle.core_search.specs.Deciding.{IsSameButCuts}
+use Rattle.core_search.specs.declared.node_loop.Ending.TheVariants.{Finished, Spent, Disk, Memory}
 use Rattle.core_search.specs.OpenNodes.{AreOpenNodes, work_left}
 use Rattle.core_search.specs.Endings.{IsSpent, HasSplitNext}
 
@@ -18,13 +17,9 @@ pub record EndsNode (budget : ℕ) (old : State) (before : List OpenNode) (new :
 abbrev pub IsExhausted : ℕ → State → Type 0
 IsExhausted budget s = IsSpent budget s × HasSplitNext s
 
--- whether the held node was closed or split; where it wasn't, the state is as before but for its cuts, and the budget is exhausted
-abbrev pub ProcessesNode : ℕ → State → List OpenNode → State → List OpenNode → Bool → Type 0
-ProcessesNode budget old before new after true = EndsNode budget old before new after
-ProcessesNode budget old before new after false = IsSameButCuts old new × IsExhausted budget new
-
 -- the search ends so
 abbrev pub IsEnding : ℕ → Ending → State → Type 0
 IsEnding budget Finished s = open_count s ≡ 0
 IsEnding budget Spent s = IsExhausted budget s
+IsEnding budget Disk s = Unit {0}
 IsEnding budget Memory s = Unit {0}

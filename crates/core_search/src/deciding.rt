@@ -1,12 +1,11 @@
 // How the node that the worker holds is settled.
-ghost use Rattle.std.specs.Prelude.{◌≡◌, ◌≤◌, ◌+◌, max, IfOk, OnOk, OnErr, length};
+ghost use Rattle.std.specs.Prelude.{◌≡◌, ◌≤◌, ◌+◌, max, None, IfOk, IfErr, OnOk, IsErrOf, length};
 ghost use Rattle.event_core.specs.States.{cutoff};
 ghost use Rattle.expand.specs.Findings.{Holds};
 ghost use Rattle.expand.specs.Settlements.{IsSettlement, AreNewCuts};
 ghost use Rattle.core_search.specs.Deciding.{IsLastLook, IsFinal, IsSameButCuts, KeepsToLimit};
-ghost use Rattle.core_search.specs.Entries.{ExtendsHistory};
-ghost use Rattle.core_search.specs.Holding.{IsHeldAlone};
 ghost use Rattle.core_search.specs.OpenNodes.{IsOpenNode};
+ghost use Rattle.core_search.specs.Pools.{PoolGoesOn, StaysSound, FailsBy};
 ghost use Rattle.core_search.specs.Workers.{IsPrepared};
 
 use crate::events::apply_event;
@@ -15,6 +14,8 @@ use crate::worker::Worker;
 use event_core::State;
 use expand::{Finding, Glance, Mults, Settlement, expand, settle};
 use node_events::Event;
+use node_pool::{CommitFault, Pool};
+use outside::Disk;
 use std::alloc::{AllocError, Global};
 
 /// What is found of the node by what the state has now, with room for so many cuts. The one error is want of memory.
@@ -63,44 +64,75 @@ fn settlement(
     settle(alloc, finding, state, node.number, &node.area, worker.limit)
 }
 
-/// Makes cuts. The one error is want of memory; the first of them may be made then.
-fn add_cuts(alloc: Global, state: &mut State, mults: Mults) -> Result<(), AllocError>
-    requires new { AreNewCuts state.old.state mults }
-    ensures goes_on { ExtendsHistory state.old state.new }
-    ensures same { IsSameButCuts state.old.state state.new.state }
-    ensures few { length state.new.state.cuts ≤ length state.old.state.cuts + length mults }
+/// How the node is settled once cuts were made, of which no more are sought. The one error is want of memory.
+fn settle_again(
+    alloc: Global,
+    state: &State,
+    worker: &mut Worker,
+    node: &OpenNode,
+) -> Result<Settlement, AllocError>
+    requires node { IsOpenNode state.now.state node.now }
+    requires costs { length worker.old.costs ≡ length state.now.state.problem.spans }
+    requires limit { worker.old.limit ≤ 256 }
+    ensures legal { IfOk result (λ g. IsSettlement state.now.state node.now.area g) }
+    ensures last { IfOk result (λ g. IsFinal 0 g) }
+    ensures prepared { OnOk result (IsPrepared state.now.state worker.new) }
+    ensures limit { worker.new.limit ≡ worker.old.limit }
+{
+    worker.prepare(alloc, state)?;
+    settlement(alloc, state, worker, node, 0)
+}
+
+/// Makes cuts. At an error the first of them may be made.
+fn add_cuts<D: Disk>(alloc: Global, pool: &mut Pool<D>, mults: Mults) -> Result<(), CommitFault>
+    requires sound { pool.old.halt ≡ None }
+    requires new { AreNewCuts pool.old.state.state mults }
+    ensures goes_on { PoolGoesOn pool.old pool.new }
+    ensures sound { OnOk result (StaysSound pool.old pool.new) }
+    ensures faulty { IfErr result (λ f. FailsBy f pool.old pool.new) }
+    ensures unspent { ¬ IsErrOf result CommitFault.Budget }
+    ensures same { IsSameButCuts pool.old.state.state pool.new.state.state }
+    ensures few { length pool.new.state.state.cuts ≤ length pool.old.state.state.cuts + length mults }
 {
     for mult in mults.into_vec() {
-        apply_event(alloc, state, Event::Cut { mult })?;
+        apply_event(alloc, pool, Event::Cut { mult })?;
     }
     Ok(())
 }
 
-/// Decides how the node that is held is settled. Where cuts are found, they are made first, and the node is looked at again. The one error is want of
-/// memory; the node is held then.
-pub fn decide(
+/// Decides how the node that is held is settled. Where cuts are found, they are made first, and the node is looked at again. At an error the node is
+/// held.
+pub fn decide<D: Disk>(
     alloc: Global,
-    state: &mut State,
+    pool: &mut Pool<D>,
     worker: &mut Worker,
     node: &OpenNode,
-) -> Result<Settlement, AllocError>
-    requires node { IsOpenNode state.old.state node.now }
-    requires prepared { IsPrepared state.old.state worker.old }
-    ensures goes_on { ExtendsHistory state.old state.new }
-    ensures same { IsSameButCuts state.old.state state.new.state }
-    ensures legal { IfOk result (λ g. IsSettlement state.new.state node.now.area g) }
+) -> Result<Settlement, CommitFault>
+    requires sound { pool.old.halt ≡ None }
+    requires node { IsOpenNode pool.old.state.state node.now }
+    requires prepared { IsPrepared pool.old.state.state worker.old }
+    ensures goes_on { PoolGoesOn pool.old pool.new }
+    ensures sound { OnOk result (StaysSound pool.old pool.new) }
+    ensures faulty { IfErr result (λ f. FailsBy f pool.old pool.new) }
+    ensures unspent { ¬ IsErrOf result CommitFault.Budget }
+    ensures same { IsSameButCuts pool.old.state.state pool.new.state.state }
+    ensures legal { IfOk result (λ g. IsSettlement pool.new.state.state node.now.area g) }
     ensures last { IfOk result (λ g. IsFinal 0 g) }
-    ensures within_cuts { length state.new.state.cuts ≤ max worker.old.limit (length state.old.state.cuts) }
-    ensures prepared { OnOk result (IsPrepared state.new.state worker.new) }
+    ensures within_cuts { length pool.new.state.state.cuts ≤ max worker.old.limit (length pool.old.state.state.cuts) }
+    ensures prepared { OnOk result (IsPrepared pool.new.state.state worker.new) }
     ensures limit { worker.new.limit ≡ worker.old.limit }
 {
+    let state = pool.state();
     let room = (worker.limit as usize).saturating_sub(state.book().len());
-    match settlement(alloc, state, worker, node, room)? {
-        Settlement::Separated { mults } => {
-            add_cuts(alloc, state, mults)?;
-            worker.prepare(alloc, state)?;
-            settlement(alloc, state, worker, node, 0)
-        }
-        other => Ok(other),
+    let Ok(settlement) = settlement(alloc, state, worker, node, room) else {
+        return Err(CommitFault::Memory);
+    };
+    let Settlement::Separated { mults } = settlement else {
+        return Ok(settlement);
+    };
+    add_cuts(alloc, pool, mults)?;
+    match settle_again(alloc, pool.state(), worker, node) {
+        Ok(settlement) => Ok(settlement),
+        Err(_) => Err(CommitFault::Memory),
     }
 }

@@ -13,8 +13,9 @@ use event_core::State;
 use models::small_knapsack;
 use searches::{show_search, time_search};
 use std::alloc::Global;
-use std::rt::Clock;
-use std::{env, fs};
+use std::env;
+use std::fs::{self, File};
+use std::rt::{Clock, Files};
 
 /// What is done with no word.
 fn show<R: Print>(rt: &R, alloc: Global) -> Result<()> {
@@ -42,20 +43,29 @@ fn number(word: Option<String>) -> u32 {
     }
 }
 
+/// Times the search of the model of a file.
+fn time<R: Files<File = File> + Alloc<A = Global> + Clock + Print>(
+    rt: &R,
+    path: &str,
+    budget: u32,
+    cuts: u32,
+) -> Result<()> {
+    let text = fs::read(rt, path)?;
+    let problem = problem_of(rt.alloc(), text.as_slice())?;
+    time_search(rt, rt.alloc(), problem, budget, cuts)
+}
+
 fn main(rt: HostRuntime) -> Result<()> {
-    let alloc = rt.alloc();
     let mut words = env::args(&rt)?.skip(1);
     let Some(command) = words.next() else {
-        return show(&rt, alloc);
+        return show(&rt, rt.alloc());
     };
     let Some(word) = words.next() else {
         bail!("search MODEL BUDGET CUTS, or claims COUNT");
     };
     if command.as_str() == "claims" {
-        return count(&rt, alloc, number(Some(word)));
+        return count(&rt, rt.alloc(), number(Some(word)));
     }
     let (budget, cuts) = (number(words.next()), number(words.next()));
-    let text = fs::read(&rt, word.as_str())?;
-    let problem = problem_of(alloc, text.as_slice())?;
-    time_search(&rt, alloc, problem, budget, cuts)
+    time(&rt, word.as_str(), budget, cuts)
 }

@@ -2,6 +2,7 @@
 
 use crate::models::small_knapsack;
 use anyhow::Result;
+use case_pools::{into_state, memory_pool};
 use core_search::{Ending, search};
 use event_core::{Entry, State};
 use node_events::{Event, Proof, Reason};
@@ -24,6 +25,7 @@ fn word(ending: Ending) -> &'static str {
     match ending {
         Ending::Finished => "finished",
         Ending::Spent => "spent",
+        Ending::Disk => "disk",
         Ending::Memory => "memory",
     }
 }
@@ -54,6 +56,18 @@ fn coordinates(event: &Event) -> usize {
     }
 }
 
+/// How a search ended, and what it made.
+#[derive(Clone, Copy)]
+struct Figures {
+    ending: Ending,
+    nodes: usize,
+    cuts: usize,
+    events: usize,
+    /// How many multipliers and how many coordinates the events carry.
+    multipliers: usize,
+    coordinates: usize,
+}
+
 /// How many multipliers and how many coordinates the events of a history carry.
 fn carried(history: &[Entry]) -> (usize, usize) {
     let mut all: (usize, usize) = (0, 0);
@@ -62,6 +76,28 @@ fn carried(history: &[Entry]) -> (usize, usize) {
         all.1 = all.1.saturating_add(coordinates(&entry.event));
     }
     all
+}
+
+/// The figures of a search that ended so in this state.
+fn figures_of(state: &State, ending: Ending) -> Figures {
+    let history = state.history();
+    let (multipliers, coordinates) = carried(history);
+    Figures {
+        ending,
+        nodes: state.tree().len(),
+        cuts: state.book().len(),
+        events: history.len(),
+        multipliers,
+        coordinates,
+    }
+}
+
+/// Searches a problem with its journal in memory.
+fn searched(alloc: Global, problem: Problem, budget: u32, cuts: u32) -> Result<Figures> {
+    let mut pool = memory_pool(alloc, problem, budget.min(MOST_NODES))?;
+    let ending = search(alloc, &mut pool, cuts.min(MOST_CUTS));
+    let state = into_state(pool);
+    Ok(figures_of(&state, ending))
 }
 
 /// Searches a small knapsack, and prints the nodes, the cuts, and how the search ended.
@@ -73,19 +109,14 @@ pub(crate) fn show_search<R: Print>(
     budget: u32,
     cuts: u32,
 ) -> Result<()> {
-    let mut state = State::new(alloc, small_knapsack(alloc, columns, seed)?)?;
-    let ending = search(
-        alloc,
-        &mut state,
-        budget.min(MOST_NODES),
-        cuts.min(MOST_CUTS),
-    );
-    println!(rt;
-        "{} nodes, {} cuts, {}",
-        state.tree().len(),
-        state.book().len(),
-        word(ending)
-    )?;
+    let problem = small_knapsack(alloc, columns, seed)?;
+    let Figures {
+        ending,
+        nodes,
+        cuts,
+        ..
+    } = searched(alloc, problem, budget, cuts)?;
+    println!(rt; "{nodes} nodes, {cuts} cuts, {}", word(ending))?;
     Ok(())
 }
 
@@ -99,20 +130,18 @@ pub(crate) fn time_search<R: Clock + Print>(
     cuts: u32,
 ) -> Result<()> {
     let start = Instant::now(rt)?;
-    let mut state = State::new(alloc, problem)?;
-    let ending = search(
-        alloc,
-        &mut state,
-        budget.min(MOST_NODES),
-        cuts.min(MOST_CUTS),
-    );
+    let figures = searched(alloc, problem, budget, cuts)?;
     let time = start.elapsed(rt)?.as_nanos();
-    let (nodes, made) = (state.tree().len(), state.book().len());
-    let history = state.history();
-    let events = history.len();
-    let (multipliers, coordinates) = carried(history);
+    let Figures {
+        ending,
+        nodes,
+        cuts,
+        events,
+        multipliers,
+        coordinates,
+    } = figures;
     println!(rt;
-        "{time} {nodes} {made} {} {events} {multipliers} {coordinates}",
+        "{time} {nodes} {cuts} {} {events} {multipliers} {coordinates}",
         word(ending)
     )?;
     Ok(())

@@ -1,53 +1,36 @@
 //! Whole runs in pieces, and runs whose source or sink fails.
 
+use crate::command::{Answered, text_on};
+use crate::models::ONE;
 use anyhow::Result;
 use outside::{MemDisk, MemSink, MemSource};
-use solve_top::{Words, run_one};
-use std::alloc::{AllocError, Global};
-use std::hash::{BuildHasherDefault, DefaultHasher};
-
-/// Minimise 3x where x is at least 1, and is 2.
-const MODEL: &str =
-    "NAME one\nROWS\n N obj\n G r\nCOLUMNS\n m 'MARKER' 'INTORG'\n x obj 3 r 1\n m 'MARKER' 'INTEND'\nRHS\n rhs r 1\nBOUNDS\n FX b x 2\nENDATA\n";
-
-/// The words of a command to solve.
-fn solve_words(alloc: Global) -> Result<Words, AllocError> {
-    let mut words = Words::new(alloc);
-    for word in ["solve", "model", "journal", "certificate"] {
-        words.push(alloc, word)?;
-    }
-    Ok(words)
-}
-
-/// The text that a sink holds.
-fn text_on(sink: &MemSink) -> &str {
-    str::from_utf8(sink.bytes()).unwrap_or("(bytes that are no text)")
-}
+use std::alloc::Global;
 
 /// Prints the status of a run, its lines and its certificate.
 fn show_run<R: Print + Alloc<A = Global>>(
     rt: &R,
-    mut model: MemSource,
-    mut cert: MemSink,
-    mut out: MemSink,
+    model: MemSource,
+    cert: MemSink,
+    out: MemSink,
 ) -> Result<()> {
     let alloc = rt.alloc();
-    let words = solve_words(alloc)?;
-    let keys: BuildHasherDefault<DefaultHasher> = BuildHasherDefault::new();
-    let disk = MemDisk::new(alloc);
-    let ran = run_one(alloc, keys, &words, &mut model, disk, &mut cert, &mut out);
-    let (status, lines) = (ran.status, text_on(&out));
+    let ran = Answered::run(
+        alloc,
+        "solve model journal certificate",
+        model,
+        MemDisk::new(alloc),
+        cert,
+        out,
+    )?;
+    let (status, lines) = (ran.status, text_on(&ran.out));
     println!(rt; "run status {status}, lines {lines:?}")?;
-    for line in text_on(&cert).lines() {
-        println!(rt; "run certificate {line}")?;
-    }
-    Ok(())
+    ran.show_certificate(rt, "run certificate")
 }
 
 /// Prints a run in pieces, and one for each stream that fails at its second call.
 pub(crate) fn show<R: Print + Alloc<A = Global>>(rt: &R) -> Result<()> {
     let alloc = rt.alloc();
-    let text = MODEL.as_bytes();
+    let text = ONE.as_bytes();
     let model = MemSource::new(alloc, text)?.in_pieces(7);
     let (cert, out) = (
         MemSink::new(alloc).in_pieces(7),

@@ -1,11 +1,14 @@
 //! Searches that go on with a greater budget, without cuts and with them: one with an optimum, and one without a point.
 
-ghost use Rattle.std.specs.Prelude.{◌≡◌, ◌≤◌, []};
+ghost use Rattle.std.specs.Prelude.{◌≡◌, ◌≤◌, [], None};
 
 use anyhow::Result;
+use case_pools::{into_state, memory_pool, with_budget};
 use case_tools::{NumberOrNone, problem_of};
 use core_search::search;
 use event_core::State;
+use node_pool::Pool;
+use outside::MemDisk;
 use std::alloc::Global;
 use std::io;
 
@@ -33,19 +36,19 @@ fn show_best<R: Print>(rt: &R, state: &State) -> io::Result<()> {
     }
 }
 
-/// Searches on to so many nodes and cuts, and prints how that ends.
+/// Searches on with so many cuts, and prints how that ends.
 fn show_search<R: Print + Alloc<A = Global>>(
     rt: &R,
-    state: &mut State,
-    budget: u32,
+    pool: &mut Pool<MemDisk>,
     cuts: u32,
 ) -> io::Result<()>
-    requires few { budget ≤ 1_000_000_000 }
     requires few_cuts { cuts ≤ 256 }
-    requires unheld { state.old.state.holds ≡ [] }
-    ensures { state.new.state.holds ≡ [] }
+    requires unheld { pool.old.state.state.holds ≡ [] }
+    requires sound { pool.old.halt ≡ None }
+    ensures { pool.new.state.state.holds ≡ [] }
 {
-    let ending = search(rt.alloc(), state, budget, cuts);
+    let ending = search(rt.alloc(), pool, cuts);
+    let (budget, state) = (pool.budget(), pool.state());
     let (nodes, made, open, events) = (
         state.tree().len(),
         state.book().len(),
@@ -58,22 +61,54 @@ fn show_search<R: Print + Alloc<A = Global>>(
     show_best(rt, state)
 }
 
+/// The state after a search of a model to so many nodes and cuts.
+fn searched<R: Print + Alloc<A = Global>>(
+    rt: &R,
+    model: &[u8],
+    budget: u32,
+    cuts: u32,
+) -> Result<State>
+    requires few { budget ≤ 1_000_000_000 }
+    requires few_cuts { cuts ≤ 256 }
+{
+    let problem = problem_of(rt.alloc(), model)?;
+    let mut pool = memory_pool(rt.alloc(), problem, budget)?;
+    let shown = show_search(rt, &mut pool, cuts);
+    let state = into_state(pool);
+    shown?;
+    Ok(state)
+}
+
+/// The state after a search of a model to so many nodes, which then goes on to more. No cuts are made.
+fn searched_on<R: Print + Alloc<A = Global>>(
+    rt: &R,
+    model: &[u8],
+    budget: u32,
+    more: u32,
+) -> Result<State>
+    requires few { budget ≤ 1_000_000_000 }
+    requires few_more { more ≤ 1_000_000_000 }
+{
+    let problem = problem_of(rt.alloc(), model)?;
+    let mut pool = memory_pool(rt.alloc(), problem, budget)?;
+    let shown = show_search(rt, &mut pool, 0);
+    let mut pool = with_budget(rt.alloc(), pool, more)?;
+    let shown_more = show_search(rt, &mut pool, 0);
+    let state = into_state(pool);
+    shown?;
+    shown_more?;
+    Ok(state)
+}
+
 /// The state after the search of the problem that no point satisfies.
 pub(crate) fn finished<R: Print + Alloc<A = Global>>(rt: &R) -> Result<State> {
-    let mut state = State::new(rt.alloc(), problem_of(rt.alloc(), PARITY)?)?;
-    show_search(rt, &mut state, 4, 0)?;
-    show_search(rt, &mut state, 5, 0)?;
-    Ok(state)
+    searched_on(rt, PARITY, 4, 5)
 }
 
 /// Prints how a search goes on.
 pub(crate) fn show<R: Print + Alloc<A = Global>>(rt: &R) -> Result<()> {
-    let mut state = State::new(rt.alloc(), problem_of(rt.alloc(), KNAPSACK)?)?;
-    show_search(rt, &mut state, 2, 0)?;
-    show_search(rt, &mut state, 3, 0)?;
-    for model in [KNAPSACK, PARITY] {
-        let mut state = State::new(rt.alloc(), problem_of(rt.alloc(), model)?)?;
-        show_search(rt, &mut state, 1, 256)?;
-    }
+    searched_on(rt, KNAPSACK, 2, 3)?;
+    searched(rt, KNAPSACK, 1, 256)?;
+    searched(rt, PARITY, 1, 256)?;
     Ok(())
 }

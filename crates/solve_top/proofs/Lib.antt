@@ -2,4 +2,10 @@ mod Texts
 mod LongTexts
 mod Labels
 mod Uniqueness
-mod Endings
+mod Searching
+mod Opened
+mod Completeness
+mod Owning
+mod Performing
+mod Continuing
+mod Promises

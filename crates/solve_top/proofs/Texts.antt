@@ -1,12 +1,12 @@
 -- The lines and the certificate of a state that is handed back, as those of its search.
-use Rattle.std.specs.Prelude.{◌≡◌, ◌↔◌, ◌<◌, ◌≤◌, ◌+◌, max, ℕ, zero, suc, eqb, if◌then◌else◌, List, length}
+use Rattle.std.specs.Prelude.{◌≡◌, ◌↔◌, ◌<◌, ◌+◌, ℕ, zero, suc, eqb, if◌then◌else◌, List, length}
 use Rattle.std.proofs.Common.{◌∙◌, ap, sym, subst, arith}
 use Rattle.std.proofs.Math.Dec.{eqb-suc-zero}
 use Rattle.problem.specs.Best.{IsVoid}
 use Rattle.cert_rows.specs.declared.certificate.Cert.{Cert}
 use Rattle.cert_rows.specs.declared.certificate.Goal.TheVariants.{Infeas}
 use Rattle.cert_rows.specs.Validity.{IsValid}
-use Rattle.event_core.specs.States.{State, first_state, open_count, cutoff}
+use Rattle.event_core.specs.States.{State, open_count, cutoff}
 use Rattle.event_core.specs.Histories.{AreLegal, state_of}
 use Rattle.event_core.specs.Rooms.{Recorded}
 use Rattle.core_search.specs.Endings.{AdmitsSplit, IsSpent}
@@ -16,8 +16,10 @@ use Rattle.cert_tree.specs.Laws.{IsTrueClaim, MergedIsValid, MergedIsTrue, Infea
 use Rattle.vipr_print.specs.Spelling.{text_of}
 use Rattle.vipr_print.specs.Unique.{SpellsOnly}
 use Rattle.solve_top.specs.Changes.{SinkChange, Takes, TakesPrefix}
-use Rattle.solve_top.specs.Output.{answer_lines, spent_lines}
-use Rattle.solve_top.specs.Searches.{search_of, end_of, HasFinished, HasSpent, HasTooFewNodes, IsSolved, certificate_text, lines_at, lines_due}
+use Rattle.solve_top.specs.Output.{answer_line, answer_lines, finished_lines, spent_lines}
+use Rattle.solve_top.specs.declared.request.Request.{Request}
+use Rattle.solve_top.specs.declared.request.Request.TheVariants.{Solve, Resume, Show, Drill}
+use Rattle.solve_top.specs.Searches.{search_of, HasFinished, HasSpent, HasTooFewNodes, IsSolved, certificate_text, lines_at, lines_due, answer_due, lines_for}
 
 -- ---- lines
 while_none : (n : ℕ) (a b : List ℕ) → n ≡ 0 → (if eqb n 0 then a else b) ≡ a
@@ -26,27 +28,6 @@ while_none n a b h = rw h
 while_open : (n : ℕ) (a b : List ℕ) → 0 < n → (if eqb n 0 then a else b) ≡ b
 while_open zero a b h = absurd (omega arith)
 while_open (suc n) a b h = rw eqb-suc-zero
-
--- ---- nodes
-at_most : (n b : ℕ) → 1 ≤ b → n ≤ max b 1 → n ≤ b
-at_most n b h l = grind arith
-
--- a search that begins with one node keeps to a budget of at least that one
-pub within_budget : (first : State) (r : Recorded) (budget : ℕ) → 1 ≤ budget → first ≡ first_state first.problem → length r.state.nodes ≤ max budget (length first.nodes)
-    → r.state ≡ state_of r.state.problem r.history → length (end_of (search_of r)).nodes ≤ budget
-within_budget first r budget some begins within stands =
-    let one : length first.nodes ≡ 1 = ap (λ (s : State). length s.nodes) begins in
-    subst (λ (s : State). length s.nodes ≤ budget) stands (at_most (length r.state.nodes) budget some (subst (λ n. length r.state.nodes ≤ max budget n) one within))
-
-none_before : (n b : ℕ) → n ≤ max b 0 → n ≤ b
-none_before n b l = grind arith
-
--- a search that begins without cuts keeps to their limit
-pub within_cuts : (first : State) (r : Recorded) (limit : ℕ) → first ≡ first_state first.problem → length r.state.cuts ≤ max limit (length first.cuts)
-    → r.state ≡ state_of r.state.problem r.history → length (end_of (search_of r)).cuts ≤ limit
-within_cuts first r limit begins within stands =
-    let none : length first.cuts ≡ 0 = ap (λ (s : State). length s.cuts) begins in
-    subst (λ (s : State). length s.cuts ≤ limit) stands (none_before (length r.state.cuts) limit (subst (λ n. length r.state.cuts ≤ max limit n) none within))
 
 -- ---- what is handed back
 module _ (r : Recorded) (stands : r.state ≡ state_of r.state.problem r.history) where
@@ -75,11 +56,22 @@ module _ (r : Recorded) (stands : r.state ≡ state_of r.state.problem r.history
     claim_is : c.claim ≡ claim_of (cutoff r.state)
     claim_is = ap (λ (d : Cert). d.claim) merges ∙ ap (λ (t : State). claim_of (cutoff t)) (sym stands)
 
-    pub answer_lines_are : (text : List ℕ) (nodes cuts : ℕ) → nodes ≡ length r.state.nodes → cuts ≡ length r.state.cuts
+    answer_lines_are : (text : List ℕ) (nodes cuts : ℕ) → nodes ≡ length r.state.nodes → cuts ≡ length r.state.cuts
         → text ≡ answer_lines c.claim nodes cuts → text ≡ lines_due (search_of r)
     answer_lines_are text nodes cuts a b h =
         h ∙ ap (λ n. answer_lines c.claim n cuts) a ∙ ap (λ n. answer_lines c.claim (length r.state.nodes) n) b
         ∙ ap (λ g. answer_lines g (length r.state.nodes) (length r.state.cuts)) claim_is ∙ sym (while_none (open_count r.state) _ _ ended) ∙ due_at
+
+    answer_is : (text : List ℕ) → text ≡ answer_line c.claim → text ≡ answer_due (search_of r)
+    unfolding answer_due
+    answer_is text h = h ∙ ap answer_line claim_is ∙ ap (λ (t : State). answer_line (claim_of (cutoff t))) stands
+
+    pub finished_lines_are : (q : Request) (text : List ℕ) (nodes cuts : ℕ) → nodes ≡ length r.state.nodes → cuts ≡ length r.state.cuts
+        → text ≡ finished_lines q c.claim nodes cuts → text ≡ lines_for q (search_of r)
+    finished_lines_are (Solve limits upper) text nodes cuts a b h = answer_lines_are text nodes cuts a b h
+    finished_lines_are (Resume limits) text nodes cuts a b h = answer_lines_are text nodes cuts a b h
+    finished_lines_are Show text nodes cuts a b h = answer_lines_are text nodes cuts a b h
+    finished_lines_are (Drill seed limits) text nodes cuts a b h = answer_is text h
 
     pub valid_end : MergedIsValid r.state.problem → IsValid r.state.problem c
     valid_end law = subst (IsValid r.state.problem) (sym merges) (law r.history has_finished)

@@ -1,6 +1,8 @@
--- What a call did to a source and to a sink. What it says of bytes holds where the object tells them.
-use Rattle.std.specs.Prelude.{◌≡◌, ◌⊎◌, ℕ, Bool, true, List, ◌++◌, codes}
+-- What a call did to a source, a sink and a disk. What it says of bytes holds where the object tells them.
+use Rattle.std.specs.Prelude.{◌≡◌, ◌⊎◌, ℕ, Bool, true, List, [], ◌∷◌, ◌++◌}
 use Rattle.outside.specs.Faults.{Rose}
+use Rattle.outside.specs.Images.{NoMomentPasses}
+use Rattle.outside.specs.declared.moment.Moment.{Moment}
 use Rattle.outside.specs.Stream.{AppendsPrefix}
 
 -- how often an object had failed before the call, and after it
@@ -29,6 +31,15 @@ pub record SinkChange : Type 0 where
   pub bytes_after : List ℕ
   pub faults : FaultCount
 
+-- a disk: whether it tells what a crash leaves, the moments that went by before the call and the moment then, the same after the call, and its faults
+pub record DiskChange : Type 0 where
+  pub tells : Bool
+  pub past_before : List Moment
+  pub now_before : Moment
+  pub past_after : List Moment
+  pub now_after : Moment
+  pub faults : FaultCount
+
 -- the change of a source, by what its kind says of it
 abbrev pub source_change : {A : Type 0} → Bool → (A → List ℕ) → (A → ℕ) → A → A → SourceChange
 source_change tells left faults old new = record { tells = tells; text = left old; faults = record { before = faults old; after = faults new } }
@@ -37,6 +48,29 @@ source_change tells left faults old new = record { tells = tells; text = left ol
 abbrev pub sink_change : {A : Type 0} → Bool → (A → List ℕ) → (A → ℕ) → A → A → SinkChange
 sink_change tells taken faults old new =
     record { tells = tells; bytes_before = taken old; bytes_after = taken new; faults = record { before = faults old; after = faults new } }
+
+-- the change of a disk, by what its kind says of it
+abbrev pub disk_change : {A : Type 0} → Bool → (A → List Moment) → (A → Moment) → (A → ℕ) → A → A → DiskChange
+disk_change tells past now count old new = record {
+  tells = tells;
+  past_before = past old;
+  now_before = now old;
+  past_after = past new;
+  now_after = now new;
+  faults = record { before = count old; after = count new };
+}
+
+-- all moments up to the one before the call
+abbrev pub moments_before : DiskChange → List Moment
+moments_before d = d.past_before ++ d.now_before ∷ []
+
+-- all moments up to the one after the call
+abbrev pub moments_after : DiskChange → List Moment
+moments_after d = d.past_after ++ d.now_after ∷ []
+
+-- no call changed the disk
+abbrev pub IsUntouched : DiskChange → Type 0
+IsUntouched d = NoMomentPasses d.past_before d.now_before d.past_after d.now_after
 
 -- it took all of the text
 abbrev pub Takes : SinkChange → List ℕ → Type 0
@@ -53,7 +87,3 @@ TakesNothing sink = sink.tells ≡ true → sink.bytes_after ≡ sink.bytes_befo
 -- it took all of the text and did not fail, or it took a prefix and failed
 abbrev pub IsTold : SinkChange → List ℕ → Type 0
 IsTold sink text = (Takes sink text × Stays sink.faults) ⊎ (TakesPrefix sink text × Rises sink.faults)
-
--- The certificate's sink failed, and the line that says so was told; or the lines' sink alone failed, and took a prefix of the lines.
-abbrev pub BreaksOff : SinkChange → SinkChange → List ℕ → Type 0
-BreaksOff cert out lines = (Rises cert.faults × IsTold out (codes "fault sink\n")) ⊎ (Stays cert.faults × TakesPrefix out lines × Rises out.faults)

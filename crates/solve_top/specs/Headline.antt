@@ -1,22 +1,35 @@
 -- What a run is, and what it promises.
-use Rattle.std.specs.Prelude.{◌≡◌, ◌⊎◌, ◌≤◌, ℕ, length, true, false, List, codes, Option, Some, None, IsSome}
+use Rattle.std.specs.Prelude.{◌≡◌, ◌⊎◌, ℕ, true, false, List, codes, Option, Some, None}
 use Rattle.problem.specs.Problem.{Problem}
-use Rattle.mps_reader.specs.Reading.{Reads, IsRefused}
+use Rattle.mps_reader.specs.Reading.{Reads}
 use Rattle.mps_reader.specs.declared.kinds.Kind.{Kind}
-use Rattle.event_core.specs.Histories.{AreLegal}
+use Rattle.outside.specs.Images.{AtRest}
+use Rattle.node_journal.specs.Records.{records}
+use Rattle.drill_instance.specs.Texts.{generated}
+use Rattle.resume.specs.declared.fault.ResumeFault.{ResumeFault}
+use Rattle.resume.specs.declared.figures.Survey.{Survey}
+use Rattle.resume.specs.Journals.{StandsOnDisk, IsFreshOrOf}
+use Rattle.resume.specs.Refusals.{is_refusal}
+use Rattle.resume.specs.Surveys.{IsSurveyOf}
 use Rattle.command_words.specs.Commands.{is_command}
+use Rattle.solve_top.specs.declared.request.Request.{Request}
+use Rattle.solve_top.specs.declared.request.Request.TheVariants.{Solve, Resume, Show, Drill}
 use Rattle.solve_top.specs.declared.status.Status.{Status}
 use Rattle.solve_top.specs.declared.status.Status.TheVariants as status
-use Rattle.solve_top.specs.Changes.{SourceChange, SinkChange, Rises, Stays, Takes, TakesPrefix, TakesNothing, IsTold, BreaksOff}
-use Rattle.solve_top.specs.Commands.{budget_of, cuts_of, upper_of}
-use Rattle.solve_top.specs.Searches.{Search, end_of, HasFinished, HasSpent, HasTooFewNodes, IsSolved, certificate_text, lines_due}
-use Rattle.solve_top.specs.Statuses.{exit_number, refused_line}
+use Rattle.solve_top.specs.Requests.{requested, limits_in}
+use Rattle.solve_top.specs.Changes.{SourceChange, SinkChange, DiskChange, Rises, Stays, Takes, TakesPrefix, TakesNothing, IsTold, IsUntouched}
+use Rattle.solve_top.specs.Models.{IsOwnProblem, IsFaultOf, RefusesJournal, record_of}
+use Rattle.solve_top.specs.Journals.{KeepsJournal, HoldsSearch, LeavesAlone}
+use Rattle.solve_top.specs.Searches.{Search, HasFinished, HasSpent, HasTooFewNodes, IsSearchOf, IsSolved, certificate_text, lines_due, lines_for}
+use Rattle.solve_top.specs.Output.{survey_lines}
+use Rattle.solve_top.specs.Statuses.{exit_number, refused_line, journal_line}
 
--- a run: its words, the source of its model, the sinks of its certificate and its lines, the search that it hands back, if it began one, and the
--- number with which it ends
+-- a run: its words, the source of its model, its disk, the sinks of its certificate and its lines, the search that it hands back, if it began one, and
+-- the number with which it ends
 pub record Run : Type 0 where
   pub words : List (List ℕ)
   pub model : SourceChange
+  pub disk : DiskChange
   pub cert : SinkChange
   pub out : SinkChange
   pub last : Option Search
@@ -26,96 +39,183 @@ pub record Run : Type 0 where
 abbrev pub EndsWith : Run → Status → Type 0
 EndsWith r s = r.number ≡ exit_number s
 
--- the text reads as a problem
-abbrev pub HasProblem : Run → Type 0
-HasProblem r = (p : Problem) × Reads r.model.text (upper_of r.words) p
+-- no call of the model's source and of the disk failed; so a failed read is never taken for the end of the text, nor for the end of the journal
+pub record ReadsWell (r : Run) : Type 0 where
+  pub model : Stays r.model.faults
+  pub disk : Stays r.disk.faults
 
--- The search is one of the problem that the text reads as, where the source tells its text. Its events are legal in turn, and it has at most as many
--- nodes and cuts as the words ask for.
-pub record IsSearchOf (r : Run) (s : Search) : Type 0 where
-  pub problem : r.model.tells ≡ true → Reads r.model.text (upper_of r.words) s.problem
-  pub legal : AreLegal s.problem s.history
-  pub within : length (end_of s).nodes ≤ budget_of r.words
-  pub few_cuts : length (end_of s).cuts ≤ cuts_of r.words
+-- Nothing was done but to tell a line: there is no search, the disk is as it was, and no byte went to the certificate.
+pub record TellsOnly (r : Run) (line : List ℕ) : Type 0 where
+  pub told : IsTold r.out line
+  pub unsearched : r.last ≡ None
+  pub untouched : IsUntouched r.disk
+  pub nothing : TakesNothing r.cert
+  pub kept : Stays r.cert.faults
 
--- the run hands back a search, of which that is true
-abbrev pub HandsBack : Run → (Search → Type 0) → Type 0
-HandsBack r P = (s : Search) × (r.last ≡ Some s) × P s
+-- the search is handed back
+pub record HandsBack (q : Request) (r : Run) (s : Search) : Type 0 where
+  pub last : r.last ≡ Some s
+  pub search : IsSearchOf q r.model r.disk s
+  pub well : ReadsWell r
+  -- the journal has the events of the search, and nothing more
+  pub journal : HoldsSearch q r.disk s
 
--- a line and a kind of fault, of which that is true: the first fault of the text, where the source tells it
-abbrev pub HasFault : Run → (ℕ → Kind → Type 0) → Type 0
-HasFault r P = (line : ℕ) × (k : Kind) × (r.model.tells ≡ true → IsRefused r.model.text (upper_of r.words) line k) × P line k
+-- ---- one record for each number with which a run ends
 
--- Each status has its cause, and comes nowhere without it. Want of memory, 9, may come before any other refusal.
-pub record HasCause (r : Run) : Type 0 where
-  -- the number is that of a status
-  pub named : (s : Status) × EndsWith r s
-  -- on 2 the words are no command
-  pub usage : EndsWith r status.Usage → is_command r.words ≡ false
-  -- on all but 2 and 9 they are one
-  pub command : ¬ EndsWith r status.Usage → ¬ EndsWith r status.Memory → is_command r.words ≡ true
-  -- on 5 a read failed
-  pub fault : EndsWith r status.ReadFault → Rises r.model.faults
-  -- on all but 5 none did, so a failed read is never taken for the end of the text
-  pub whole : ¬ EndsWith r status.ReadFault → Stays r.model.faults
-  -- on 3 the text has a first fault
-  pub refused : EndsWith r status.Model → HasFault r (λ line k. Unit {0})
-  -- on 0, 7 and 8 there was a search
-  pub searched : EndsWith r status.Done ⊎ (EndsWith r status.Sink ⊎ EndsWith r status.Spent) → IsSome r.last
-  -- on 2, 3 and 5 there was none
-  pub unsearched : EndsWith r status.Usage ⊎ (EndsWith r status.Model ⊎ EndsWith r status.ReadFault) → r.last ≡ None
-  -- what is handed back is a search of the text's problem
-  pub history : (s : Search) → r.last ≡ Some s → IsSearchOf r s
-  -- on 8 it is spent
-  pub spent : EndsWith r status.Spent → HandsBack r (HasSpent (budget_of r.words))
-  -- on 8 the words ask for too few nodes
-  pub few : EndsWith r status.Spent → HandsBack r (λ s. HasTooFewNodes s.problem (budget_of r.words))
-  -- on 7 a sink failed
-  pub sink : EndsWith r status.Sink → Rises r.cert.faults ⊎ Rises r.out.faults
-  -- on all but 7 the certificate's sink didn't
-  pub kept : ¬ EndsWith r status.Sink → Stays r.cert.faults
-  -- on 0 and 8 the lines' sink didn't
-  pub quiet : EndsWith r status.Done ⊎ EndsWith r status.Spent → Stays r.out.faults
+-- 2: the words are no command
+pub record EndsAsUsage (r : Run) : Type 0 where
+  pub number : r.number ≡ exit_number status.Usage
+  pub words : is_command r.words ≡ false
+  pub well : ReadsWell r
+  pub only : TellsOnly r (codes "refused usage\n")
 
--- A command over a text that reads as a problem is done or spent, or memory is wanting, where nothing fails.
-abbrev pub IsComplete : Run → Type 0
-IsComplete r =
-    r.model.tells ≡ true → is_command r.words ≡ true → HasProblem r
-    → ¬ Rises r.model.faults → ¬ Rises r.cert.faults → ¬ Rises r.out.faults
+-- 3: the model's text has this first fault
+pub record EndsAsModel (q : Request) (r : Run) : Type 0 where
+  pub number : r.number ≡ exit_number status.Model
+  pub line : ℕ
+  pub kind : Kind
+  pub fault : IsFaultOf q r.model line kind
+  pub well : ReadsWell r
+  pub only : TellsOnly r (refused_line line kind)
+
+-- 4: this is what is wrong with the journal
+pub record EndsAsJournal (q : Request) (r : Run) : Type 0 where
+  pub number : r.number ≡ exit_number status.Journal
+  pub fault : ResumeFault
+  pub content : is_refusal fault ≡ true
+  pub refused : RefusesJournal q r.model r.disk fault
+  pub well : ReadsWell r
+  pub only : TellsOnly r (journal_line fault)
+
+-- 5: the model's source failed
+pub record EndsAsReadFault (r : Run) : Type 0 where
+  pub number : r.number ≡ exit_number status.ReadFault
+  pub rises : Rises r.model.faults
+  pub disk : Stays r.disk.faults
+  pub only : TellsOnly r (codes "fault read\n")
+
+-- 6: the disk failed, before a search began or in it
+pub record EndsAsDiskFault (q : Request) (r : Run) : Type 0 where
+  pub number : r.number ≡ exit_number status.Disk
+  pub rises : Rises r.disk.faults
+  pub model : Stays r.model.faults
+  pub told : IsTold r.out (codes "fault disk\n")
+  pub nothing : TakesNothing r.cert
+  pub kept : Stays r.cert.faults
+  pub search : (s : Search) → r.last ≡ Some s → IsSearchOf q r.model r.disk s
+
+-- 0: the search is finished, and the certificate and the lines are written; or the figures of the journal are
+pub record EndsAsDone (q : Request) (r : Run) : Type 0 where
+  pub number : r.number ≡ exit_number status.Done
+  pub search : Search
+  pub back : HandsBack q r search
+  pub solved : IsSolved search r.cert
+  pub told : Takes r.out (lines_for q search)
+  pub kept : Stays r.cert.faults
+  pub quiet : Stays r.out.faults
+
+-- these are the figures of the journal, on which nothing was done
+pub record IsShowing (q : Request) (r : Run) (v : Survey) : Type 0 where
+  pub shows : q ≡ Show
+  pub surveyed : r.disk.tells ≡ true → IsSurveyOf (records r.disk.now_before.seen) v
+  pub well : ReadsWell r
+  pub unsearched : r.last ≡ None
+  pub untouched : IsUntouched r.disk
+  pub nothing : TakesNothing r.cert
+  pub kept : Stays r.cert.faults
+
+pub record EndsAsShown (q : Request) (r : Run) : Type 0 where
+  pub number : r.number ≡ exit_number status.Done
+  pub survey : Survey
+  pub showing : IsShowing q r survey
+  pub told : Takes r.out (survey_lines survey)
+  pub quiet : Stays r.out.faults
+
+-- 8: some open node may be split, and its two children would pass the budget; the lines are written, and there is no certificate
+pub record EndsAsSpent (q : Request) (r : Run) : Type 0 where
+  pub number : r.number ≡ exit_number status.Spent
+  pub search : Search
+  pub back : HandsBack q r search
+  pub spent : HasSpent (limits_in q).nodes search
+  pub few : HasTooFewNodes search.problem (limits_in q).nodes
+  pub told : Takes r.out (lines_due search)
+  pub nothing : TakesNothing r.cert
+  pub kept : Stays r.cert.faults
+  pub quiet : Stays r.out.faults
+
+-- 7: the certificate's sink failed, after a prefix of the certificate of a finished search; or the lines' sink did, after a prefix of the lines
+pub record EndsAsCertificateFault (q : Request) (r : Run) : Type 0 where
+  pub number : r.number ≡ exit_number status.Sink
+  pub search : Search
+  pub back : HandsBack q r search
+  pub finished : HasFinished search
+  pub prefix : TakesPrefix r.cert (certificate_text search)
+  pub rises : Rises r.cert.faults
+  pub told : IsTold r.out (codes "fault sink\n")
+
+-- The lines' sink failed after a prefix of the lines that were due: of a search that is handed back and whose certificate is written, or which is spent,
+-- or of a journal that is shown.
+pub data BreaksOff (q : Request) (r : Run) : Type 0 where
+  in_answer : (s : Search) → HandsBack q r s → IsSolved s r.cert → TakesPrefix r.out (lines_for q s) → BreaksOff q r
+  in_spent : (s : Search) → HandsBack q r s → HasSpent (limits_in q).nodes s → TakesNothing r.cert → TakesPrefix r.out (lines_due s) → BreaksOff q r
+  in_figures : (v : Survey) → IsShowing q r v → TakesPrefix r.out (survey_lines v) → BreaksOff q r
+
+pub record EndsAsLinesFault (q : Request) (r : Run) : Type 0 where
+  pub number : r.number ≡ exit_number status.Sink
+  pub kept : Stays r.cert.faults
+  pub rises : Rises r.out.faults
+  pub lines : BreaksOff q r
+
+-- 9: there was no memory, perhaps for the words; what went to the certificate is nothing, or a prefix of that of a finished search
+pub record EndsAsMemory (r : Run) : Type 0 where
+  pub number : r.number ≡ exit_number status.Memory
+  pub well : ReadsWell r
+  pub kept : Stays r.cert.faults
+  pub told : IsTold r.out (codes "no memory\n")
+  pub prefix : TakesNothing r.cert ⊎ ((s : Search) × (r.last ≡ Some s) × HasFinished s × TakesPrefix r.cert (certificate_text s))
+  pub search : (s : Search) → r.last ≡ Some s → (q : Request) × (requested r.words ≡ Some q) × IsSearchOf q r.model r.disk s
+
+-- ---- all that a run promises
+
+-- A run whose words ask for this. It ends so, and only so.
+pub data Ends (q : Request) (r : Run) : Type 0 where
+  as_done : EndsAsDone q r → Ends q r
+  as_shown : EndsAsShown q r → Ends q r
+  as_model : EndsAsModel q r → Ends q r
+  as_journal : EndsAsJournal q r → Ends q r
+  as_read_fault : EndsAsReadFault r → Ends q r
+  as_disk_fault : EndsAsDiskFault q r → Ends q r
+  as_certificate_fault : EndsAsCertificateFault q r → Ends q r
+  as_lines_fault : EndsAsLinesFault q r → Ends q r
+  as_spent : EndsAsSpent q r → Ends q r
+  as_memory : EndsAsMemory r → Ends q r
+
+-- the model and the journal that the command reads are well: a text that reads as a problem, and a journal that is fresh or stands for it
+abbrev pub CanBegin : Request → SourceChange → DiskChange → Type 0
+CanBegin (Solve limits upper) m d = (m.tells ≡ true) × (d.tells ≡ true) × ((p : Problem) × Reads m.text upper p × IsFreshOrOf (record_of m.text upper) p d.now_before.seen)
+CanBegin (Resume limits) m d = (d.tells ≡ true) × ((p : Problem) × StandsOnDisk p d.now_before.seen)
+CanBegin Show m d = (d.tells ≡ true) × ((p : Problem) × StandsOnDisk p d.now_before.seen)
+CanBegin (Drill seed limits) m d = (p : Problem) × Reads (generated seed) None p
+
+-- Such a command is done or spent, or memory is wanting, where nothing fails.
+abbrev pub IsComplete : Request → Run → Type 0
+IsComplete q r =
+    CanBegin q r.model r.disk → ¬ Rises r.model.faults → ¬ Rises r.disk.faults → ¬ Rises r.cert.faults → ¬ Rises r.out.faults
     → EndsWith r status.Done ⊎ (EndsWith r status.Spent ⊎ EndsWith r status.Memory)
 
--- The bytes on the certificate's sink: the whole certificate, also where the lines failed; or a prefix of it; or nothing.
-pub record WritesCertificate (r : Run) : Type 0 where
-  -- on 0 they solve the problem
-  pub done : EndsWith r status.Done → HandsBack r (λ s. IsSolved s r.cert)
-  -- on 7 the search is finished and this sink failed; or they solve the problem; or the search is spent and there are none
-  pub printed : EndsWith r status.Sink → HandsBack r (λ s. (HasFinished s × Rises r.cert.faults)
-      ⊎ (IsSolved s r.cert ⊎ (HasSpent (budget_of r.words) s × TakesNothing r.cert)))
-  -- on 7 and 9 there are none, or they are a prefix of the certificate of a finished search
-  pub prefix : EndsWith r status.Sink ⊎ EndsWith r status.Memory → TakesNothing r.cert
-      ⊎ HandsBack r (λ s. HasFinished s × TakesPrefix r.cert (certificate_text s))
-  -- on 2, 3, 5 and 8 there are none
-  pub none : EndsWith r status.Usage ⊎ (EndsWith r status.Model ⊎ (EndsWith r status.ReadFault ⊎ EndsWith r status.Spent))
-      → TakesNothing r.cert
+-- What a run promises whose words ask for this.
+pub record KeepsPromiseOf (q : Request) (r : Run) : Type 0 where
+  pub ends : Ends q r
+  pub complete : IsComplete q r
+  pub alone : LeavesAlone q r.disk
+  pub journal : r.disk.tells ≡ true → AtRest r.disk.now_before → KeepsJournal r.disk (IsOwnProblem q r.model r.disk)
 
--- The lines, each whole or, with a fault of their sink, a prefix of it.
-pub record TellsLines (r : Run) : Type 0 where
-  -- on 0 and 8 the lines that are due for the search
-  pub answered : EndsWith r status.Done ⊎ EndsWith r status.Spent → HandsBack r (λ s. Takes r.out (lines_due s))
-  -- on 2 that the words are no command
-  pub usage_line : EndsWith r status.Usage → IsTold r.out (codes "refused usage\n")
-  -- on 3 the first fault of the text
-  pub model_line : EndsWith r status.Model → HasFault r (λ line k. IsTold r.out (refused_line line k))
-  -- on 5 that a read failed
-  pub fault_line : EndsWith r status.ReadFault → IsTold r.out (codes "fault read\n")
-  -- on 9 that memory is wanting
-  pub memory_line : EndsWith r status.Memory → IsTold r.out (codes "no memory\n")
-  -- on 7 that the certificate's sink failed, or a prefix of the lines that are due
-  pub cut_short : EndsWith r status.Sink → HandsBack r (λ s. BreaksOff r.cert r.out (lines_due s))
+-- words that are no command, or no memory to read them: nothing is touched
+pub record EndsUnread (r : Run) : Type 0 where
+  pub number : r.number ≡ exit_number status.Memory
+  pub well : ReadsWell r
+  pub only : TellsOnly r (codes "no memory\n")
 
 -- What each run promises.
-pub record KeepsPromise (r : Run) : Type 0 where
-  pub cause : HasCause r
-  pub complete : IsComplete r
-  pub certificate : WritesCertificate r
-  pub lines : TellsLines r
+abbrev pub KeepsPromise : Run → Type 0
+KeepsPromise r = EndsAsUsage r ⊎ (EndsUnread r ⊎ ((q : Request) × (requested r.words ≡ Some q) × KeepsPromiseOf q r))

@@ -1,7 +1,9 @@
+pub mod Requests
 pub mod Changes
-pub mod Commands
-pub mod Statuses
 pub mod Output
+pub mod Models
 pub mod Searches
+pub mod Journals
+pub mod Statuses
 pub mod Steps
 pub mod Headline

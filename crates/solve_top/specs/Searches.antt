@@ -1,11 +1,11 @@
 -- A search with its history, and what it answers: a certificate and a few lines.
-use Rattle.std.specs.Prelude.{◌≡◌, ◌↔◌, ◌<◌, ◌+◌, ◌*◌, ℕ, if◌then◌else◌, eqb, List, length}
+use Rattle.std.specs.Prelude.{◌≡◌, ◌↔◌, ◌≤◌, ◌<◌, ◌+◌, ◌*◌, ℕ, max, if◌then◌else◌, eqb, is_none, List, [], ◌∷◌, length}
 use Rattle.problem.specs.Problem.{Problem}
 use Rattle.problem.specs.Best.{IsVoid}
 use Rattle.problem_box.specs.PointCount.{point_count}
 use Rattle.event_core.specs.declared.entry.Entry.{Entry}
 use Rattle.event_core.specs.States.{State, open_count, cutoff}
-use Rattle.event_core.specs.Histories.{state_of}
+use Rattle.event_core.specs.Histories.{state_of, AreLegal}
 use Rattle.event_core.specs.Rooms.{Recorded}
 use Rattle.core_search.specs.Endings.{AdmitsSplit}
 use Rattle.cert_rows.specs.declared.certificate.Cert.{Cert}
@@ -16,8 +16,12 @@ use Rattle.cert_merge.specs.Merged.{merged, claim_of}
 use Rattle.cert_tree.specs.Laws.{IsTrueClaim}
 use Rattle.vipr_print.specs.Spelling.{text_of}
 use Rattle.vipr_print.specs.Unique.{SpellsOnly}
-use Rattle.solve_top.specs.Changes.{SinkChange, Takes}
-use Rattle.solve_top.specs.Output.{answer_lines, spent_lines}
+use Rattle.solve_top.specs.declared.request.Request.{Request}
+use Rattle.solve_top.specs.declared.request.Request.TheVariants.{Solve, Resume, Show, Drill}
+use Rattle.solve_top.specs.Changes.{SourceChange, SinkChange, DiskChange, Takes}
+use Rattle.solve_top.specs.Requests.{limits_in}
+use Rattle.solve_top.specs.Models.{IsProblemOf}
+use Rattle.solve_top.specs.Output.{answer_line, answer_lines, spent_lines}
 
 -- a problem, and the events of its search in order
 pub record Search : Type 0 where
@@ -28,9 +32,26 @@ pub record Search : Type 0 where
 abbrev pub search_of : Recorded → Search
 search_of r = record { problem = r.state.problem; history = r.history }
 
+-- the events that were read from a journal: those without a worker, at the front
+abbrev pub events_read : List Entry → List Entry
+events_read [] = []
+events_read (e ∷ es) = if is_none e.worker then e ∷ events_read es else []
+
+-- where it began in this run
+abbrev pub begin_of : Search → State
+begin_of s = state_of s.problem (events_read s.history)
+
 -- where it stands
 abbrev pub end_of : Search → State
 end_of s = state_of s.problem s.history
+
+-- The search is of the problem of the command's model. Its events are legal in turn. It has at most as many nodes and cuts as the command asks for, or
+-- as its journal had at the beginning.
+pub record IsSearchOf (q : Request) (m : SourceChange) (d : DiskChange) (s : Search) : Type 0 where
+  pub problem : IsProblemOf q m d s.problem
+  pub legal : AreLegal s.problem s.history
+  pub within : length (end_of s).nodes ≤ max (limits_in q).nodes (length (begin_of s).nodes)
+  pub few_cuts : length (end_of s).cuts ≤ max (limits_in q).cuts (length (begin_of s).cuts)
 
 -- its events are legal in turn, and no node is left open
 abbrev pub HasFinished : Search → Type 0
@@ -58,6 +79,17 @@ lines_at t =
 -- the lines that tell of a search
 unfoldable pub lines_due : Search → List ℕ
 lines_due s = lines_at (end_of s)
+
+-- the line of its answer alone
+unfoldable pub answer_due : Search → List ℕ
+answer_due s = answer_line (claim_of (cutoff (end_of s)))
+
+-- the lines that a command tells of a search: a drill that is finished tells its answer alone
+abbrev pub lines_for : Request → Search → List ℕ
+lines_for (Solve limits upper) s = lines_due s
+lines_for (Resume limits) s = lines_due s
+lines_for Show s = lines_due s
+lines_for (Drill seed limits) s = answer_due s
 
 -- The search is finished, and what the sink took spells its certificate, which is valid and claims the truth: infeasibility exactly where no point
 -- is feasible, else a best point. No other spellable certificate has that text.

@@ -1,8 +1,11 @@
 //! The top call: the words of a command line, a model and a disk in; a certificate and a few lines out.
 //!
-//! - `limits`: what the words ask of the search.
-//! - `model`: reads the model, and begins its search.
+//! - `request`: what the words ask for.
+//! - `model`: reads the model.
+//! - `opening`: opens the journal.
 //! - `search`: searches on to the end, and writes the certificate.
+//! - `show`: tells the figures of a journal.
+//! - `drill`: solves the model of a seed.
 //! - `outcome`: what comes of that: an answer, or why there is none.
 //! - `output`: the lines.
 //! - `telling`: tells the outcome.
@@ -10,11 +13,14 @@
 //! - `top_call`: `run` and `run_one`, all of this in its order.
 #![tactic(auto)]
 
-mod limits;
+mod drill;
 mod model;
+mod opening;
 mod outcome;
 mod output;
+mod request;
 mod search;
+mod show;
 mod status;
 mod telling;
 mod top_call;

@@ -1,6 +1,8 @@
 // What comes of a run before it is told.
 
+use event_core::State;
 use mps_reader::Kind;
+use resume::ResumeFault;
 use std::alloc::AllocError;
 
 /// An answer, with the lines that tell it.
@@ -10,17 +12,23 @@ pub enum Answer {
     Done(Vec<u8>),
     /// The search isn't finished, and its next split would pass the budget.
     Spent(Vec<u8>),
+    /// The figures of a journal.
+    Shown(Vec<u8>),
 }
 
 /// Why there is no answer.
-#[derive(Clone, Copy, Debug, PartialEq, Eq)]
+#[derive(Clone, Copy, Debug, PartialEq, Eq, Drop)]
 pub enum Refusal {
     /// The words are no command.
     Usage,
     /// The text's first fault with the number of its line, 0 where it stands at none.
     Model { line: u64, kind: Kind },
+    /// This is wrong with the content of the journal.
+    Journal(ResumeFault),
     /// The model can't be read.
     Read,
+    /// The disk failed.
+    Disk,
     /// The certificate can't be written.
     Sink,
     /// Memory ran out.
@@ -36,4 +44,33 @@ impl From<AllocError> for Refusal {
     fn from(_: AllocError) -> Self {
         Refusal::Memory
     }
+}
+
+impl From<ResumeFault> for Refusal {
+    ghost use Rattle.std.specs.Prelude.{◌≡◌};
+    ghost use Rattle.solve_top.specs.Statuses.{refusal_of};
+
+    ghost from_gives = { λ f e. e ≡ refusal_of f };
+
+    fn from(fault: ResumeFault) -> Self {
+        match fault {
+            ResumeFault::NotAJournal
+            | ResumeFault::Damaged { .. }
+            | ResumeFault::OtherModel { .. }
+            | ResumeFault::NoModel => Refusal::Journal(fault),
+            ResumeFault::Disk => Refusal::Disk,
+            ResumeFault::Memory => Refusal::Memory,
+        }
+    }
+}
+
+// What a command did: what came of it, its disk, and the state at which its search ended, if it began one.
+#[derive(Drop)]
+pub struct Performed<D> {
+    // What came of it.
+    pub outcome: Result<Answer, Refusal>,
+    // The disk.
+    pub disk: D,
+    // The state at which the search ended.
+    pub last: Option<State>,
 }

@@ -1,13 +1,16 @@
 // The lines on the second output.
 ghost use Rattle.std.specs.Prelude.{◌≡◌, ◌++◌, OnOk, IfOk};
 ghost use Rattle.std.specs.Fmt.{decimal};
-ghost use Rattle.solve_top.specs.Output.{answer_line, number_line, count_lines, answer_lines, spent_lines};
-ghost use Rattle.solve_top.specs.Statuses.{refused_line};
+ghost use Rattle.solve_top.specs.Output.{answer_line, best_line, count_lines, finished_lines, number_line, spent_lines, survey_lines};
+ghost use Rattle.solve_top.specs.Statuses.{journal_line, refused_line};
 
 use crate::model::kind_name;
+use crate::request::Request;
 use cert_rows::Goal;
+use fraction::Frac;
 use itoa::Buffer;
 use mps_reader::Kind;
+use resume::{ResumeFault, Survey};
 use std::alloc::{AllocError, Global};
 use vipr_print::push_number;
 
@@ -53,19 +56,25 @@ fn push_answer(text: &mut Vec<u8>, claim: &Goal) -> Result<(), AllocError>
     Ok(())
 }
 
-// The lines of a search that is finished.
-pub fn answer_text(
+// The lines of a search that is finished: its answer, and the numbers of nodes and cuts; for a drill the answer alone.
+pub fn finished_text(
     alloc: Global,
+    request: &Request,
     claim: &Goal,
     nodes: usize,
     cuts: usize,
 ) -> Result<Vec<u8>, AllocError>
-    ensures { IfOk result (λ text. text.items ≡ answer_lines claim.now nodes cuts) }
+    ensures { IfOk result (λ text. text.items ≡ finished_lines request.now claim.now nodes cuts) }
 {
     let mut text = Vec::new(alloc);
     push_answer(&mut text, claim)?;
-    push_counts(&mut text, nodes, cuts)?;
-    Ok(text)
+    match request {
+        Request::Drill { .. } => Ok(text),
+        _ => {
+            push_counts(&mut text, nodes, cuts)?;
+            Ok(text)
+        }
+    }
 }
 
 // The lines of a search that stopped with open nodes.
@@ -84,6 +93,33 @@ pub fn spent_text(
     Ok(text)
 }
 
+// Pushes the objective of the best point so far.
+fn push_best(text: &mut Vec<u8>, best: Option<Frac>) -> Result<(), AllocError>
+    ensures { OnOk result (text.new.items ≡ text.old.items ++ best_line best) }
+{
+    match best {
+        None => text.extend_from_slice(b"best none\n")?,
+        Some(objective) => {
+            text.extend_from_slice(b"best ")?;
+            push_number(text, objective)?;
+            text.extend_from_slice(b"\n")?;
+        }
+    }
+    Ok(())
+}
+
+// The lines of a journal that is shown.
+pub fn survey_text(alloc: Global, figures: &Survey) -> Result<Vec<u8>, AllocError>
+    ensures { IfOk result (λ text. text.items ≡ survey_lines figures.now) }
+{
+    let mut text = Vec::new(alloc);
+    push_number_line(&mut text, b"events ", figures.events as u64)?;
+    push_counts(&mut text, figures.nodes, figures.cuts)?;
+    push_number_line(&mut text, b"open ", figures.open as u64)?;
+    push_best(&mut text, figures.best)?;
+    Ok(text)
+}
+
 // The line of a text that is refused.
 pub fn refused_text(alloc: Global, line: u64, kind: Kind) -> Result<Vec<u8>, AllocError>
     ensures { IfOk result (λ text. text.items ≡ refused_line line kind) }
@@ -95,4 +131,27 @@ pub fn refused_text(alloc: Global, line: u64, kind: Kind) -> Result<Vec<u8>, All
     text.extend_from_slice(kind_name(kind))?;
     text.extend_from_slice(b"\n")?;
     Ok(text)
+}
+
+// A line of a word with a number.
+fn placed_text(alloc: Global, word: &[u8], place: u64) -> Result<Vec<u8>, AllocError>
+    ensures { IfOk result (λ text. text.items ≡ number_line word.now place) }
+{
+    let mut text = Vec::new(alloc);
+    push_number_line(&mut text, word, place)?;
+    Ok(text)
+}
+
+// The line of a journal that is refused.
+pub fn journal_text(alloc: Global, fault: ResumeFault) -> Result<Vec<u8>, AllocError>
+    ensures { IfOk result (λ text. text.items ≡ journal_line fault) }
+{
+    match fault {
+        ResumeFault::NotAJournal => b"refused journal NotAJournal\n".to_vec(alloc),
+        ResumeFault::Damaged { at } => placed_text(alloc, b"refused journal Damaged ", at),
+        ResumeFault::OtherModel { at } => placed_text(alloc, b"refused journal OtherModel ", at),
+        ResumeFault::NoModel => b"refused journal NoModel\n".to_vec(alloc),
+        ResumeFault::Disk => b"fault disk\n".to_vec(alloc),
+        ResumeFault::Memory => b"no memory\n".to_vec(alloc),
+    }
 }

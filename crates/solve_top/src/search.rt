@@ -1,22 +1,36 @@
-// Solves a problem: searches it, and writes the certificate of a search that is finished.
-ghost use Rattle.std.specs.Prelude.{◌≡◌, ◌≤◌, ◌^◌, [], All, length, max};
+// Searches on in the pool of a journal, and writes the certificate of a search that is finished.
+ghost use Rattle.std.specs.Prelude.{◌≡◌, ◌≤◌, ◌<◌, [], true, false, None, All};
+ghost use Rattle.outside.specs.Faults.{Counts};
+ghost use Rattle.outside.specs.Images.{AtRest};
 ghost use Rattle.cert_rows.specs.Validity.{IsValid};
 ghost use Rattle.cert_merge.specs.Merged.{merged};
 ghost use Rattle.event_core.specs.States.{open_count};
+ghost use Rattle.event_core.specs.Histories.{journaled};
+ghost use Rattle.core_search.specs.Endings.{IsSpent};
+ghost use Rattle.core_search.specs.Pools.{is_disk};
+ghost use Rattle.node_journal.specs.Whole.{payloads_in};
+ghost use Rattle.node_pool.specs.Payloads.{model_in};
+ghost use Rattle.resume.specs.Journals.{IsReadFrom, StandsFor};
+ghost use Rattle.resume.specs.Models.{IsModelOf};
 ghost use Rattle.vipr_print.specs.Unique.{IsWord, SpellsOnly};
-ghost use Rattle.solve_top.specs.Changes.{sink_change};
+ghost use Rattle.solve_top.specs.Requests.{HasRanges, limits_in};
+ghost use Rattle.solve_top.specs.Changes.{SinkChange, Stays, TakesNothing, disk_change, sink_change};
+ghost use Rattle.solve_top.specs.Journals.{IsKept};
 ghost use Rattle.solve_top.specs.Searches.{search_of};
-ghost use Rattle.solve_top.specs.Steps.{IsSolution};
+ghost use Rattle.solve_top.specs.Steps.{IsSolution, IsWithin, fails_by_disk};
 
 use crate::outcome::{Answer, Refusal};
-use crate::output::{answer_text, spent_text};
+use crate::output::{finished_text, spent_text};
+use crate::request::Request;
 use cert_merge::merge;
 use cert_rows::Cert;
 use cert_tree::laws::finished_searches_are_certified;
 use core_search::laws::splits_have_points;
 use core_search::{Ending, search};
 use event_core::State;
-use outside::Sink;
+use event_core::laws::journals_are_legal;
+use node_pool::Pool;
+use outside::{Disk, Sink};
 use std::alloc::Global;
 use vipr_print::laws::{numbers_are_short, texts_spell_one_certificate, valid_points_are_whole};
 use vipr_print::{PrintFault, print};
@@ -39,18 +53,20 @@ fn text_spells_no_other(state: &State, certificate: &Cert)
 fn certify<C: Sink>(
     alloc: Global,
     state: &State,
-    budget: u32,
+    request: &Request,
     cert: &mut C,
 ) -> Result<Answer, Refusal>
     requires names { All IsWord state.now.state.problem.names }
     requires ended { open_count state.now.state ≡ 0 }
-    ensures { IsSolution budget (search_of state.now) (sink_change C.tells C.taken C.faults cert.old cert.new) result }
+    ensures solution { IsSolution request.now (search_of state.now) (sink_change C.tells C.taken C.faults cert.old cert.new) result }
+    ensures disk { fails_by_disk result ≡ false }
 {
     state.conditions_hold();
     finished_searches_are_certified(state.problem());
     let certificate = merge(alloc, state)?;
-    let lines = answer_text(
+    let lines = finished_text(
         alloc,
+        request,
         &certificate.claim,
         state.tree().len(),
         state.book().len(),
@@ -63,37 +79,101 @@ fn certify<C: Sink>(
     }
 }
 
-// Searches on as worker 0, in at most so many nodes and with at most so many cuts, or in those that are there, and writes the certificate of a
-// search that is finished.
-pub fn solve<C: Sink>(
+// The lines of a search whose next split would pass the budget.
+fn spend(alloc: Global, state: &State, request: &Request) -> Result<Answer, Refusal>
+    requires spent { IsSpent (limits_in request.now).nodes state.now.state }
+    requires left { 0 < open_count state.now.state }
+    ensures solution { (cert : SinkChange) → TakesNothing cert → Stays cert.faults → IsSolution request.now (search_of state.now) cert result }
+    ensures disk { fails_by_disk result ≡ false }
+{
+    let _request = *request;
+    state.conditions_hold();
+    splits_have_points(state.problem());
+    let lines = spent_text(
+        alloc,
+        state.tree().len(),
+        state.book().len(),
+        state.open_count(),
+    )?;
+    Ok(Answer::Spent(lines))
+}
+
+// A search that has ended.
+#[derive(Drop)]
+pub struct Searched<D> {
+    // What came of it.
+    pub outcome: Result<Answer, Refusal>,
+    // The state at which it ended.
+    pub state: State,
+    // The disk of its journal.
+    pub disk: D,
+}
+
+// What comes of a search that ended so.
+fn conclude<C: Sink>(
     alloc: Global,
-    state: &mut State,
-    budget: u32,
-    cuts: u32,
+    ending: Ending,
+    state: &State,
+    request: &Request,
     cert: &mut C,
 ) -> Result<Answer, Refusal>
-    requires names { All IsWord state.old.state.problem.names }
-    requires few { budget ≤ 10 ^ 9 }
-    requires few_cuts { cuts ≤ 256 }
-    requires unheld { state.old.state.holds ≡ [] }
-    ensures problem { state.new.state.problem ≡ state.old.state.problem }
-    ensures within { length state.new.state.nodes ≤ max budget (length state.old.state.nodes) }
-    ensures within_cuts { length state.new.state.cuts ≤ max cuts (length state.old.state.cuts) }
-    ensures solution { IsSolution budget (search_of state.new) (sink_change C.tells C.taken C.faults cert.old cert.new) result }
+    requires names { All IsWord state.now.state.problem.names }
+    requires finished { ending ≡ Ending.Finished → open_count state.now.state ≡ 0 }
+    requires spent { ending ≡ Ending.Spent → IsSpent (limits_in request.now).nodes state.now.state }
+    requires left { ending ≡ Ending.Spent → 0 < open_count state.now.state }
+    ensures solution { IsSolution request.now (search_of state.now) (sink_change C.tells C.taken C.faults cert.old cert.new) result }
+    ensures disk { fails_by_disk result ≡ is_disk ending }
 {
-    match search(alloc, state, budget, cuts) {
-        Ending::Finished => certify(alloc, state, budget, cert),
-        Ending::Spent => {
-            state.conditions_hold();
-            splits_have_points(state.problem());
-            let lines = spent_text(
-                alloc,
-                state.tree().len(),
-                state.book().len(),
-                state.open_count(),
-            )?;
-            Ok(Answer::Spent(lines))
-        }
+    match ending {
+        Ending::Finished => certify(alloc, state, request, cert),
+        Ending::Spent => spend(alloc, state, request),
+        Ending::Disk => Err(Refusal::Disk),
         Ending::Memory => Err(Refusal::Memory),
+    }
+}
+
+// The state and the disk of a pool.
+fn part<D: Disk>(pool: Pool<D>) -> (State, D)
+    ensures state { result.0 ≡ pool.state }
+    ensures disk { result.1 ≡ pool.journal.disk }
+    ensures rests { D.tells ≡ true → pool.journal.fault ≡ None → AtRest (D.now pool.journal.disk) }
+{
+    let (state, journal, _) = pool.into_parts();
+    journal.history_holds();
+    (state, journal.into_disk())
+}
+
+// Searches on as worker 0, within the limits that are asked for or with what is there, and writes the certificate of a search that is finished.
+pub fn search_on<D: Disk, C: Sink>(
+    alloc: Global,
+    pool: Pool<D>,
+    request: &Request,
+    cert: &mut C,
+) -> Searched<D>
+    requires ranges { HasRanges request.now }
+    requires budget { pool.budget ≡ (limits_in request.now).nodes }
+    requires unheld { pool.state.state.holds ≡ [] }
+    requires sound { pool.halt ≡ None }
+    requires read { IsReadFrom pool.state }
+    ensures within { IsWithin request.now pool.state.state.problem (search_of result.state) }
+    ensures solution { IsSolution request.now (search_of result.state) (sink_change C.tells C.taken C.faults cert.old cert.new) result.outcome }
+    ensures cause { Counts (D.count pool.journal.disk) (D.count result.disk) (fails_by_disk result.outcome) }
+    // Where the journal has the record of a model of the problem, crashes leave the beginnings of a history.
+    ensures kept { D.tells ≡ true → IsModelOf (model_in (payloads_in (D.now pool.journal.disk))) pool.state.state.problem → IsKept pool.journal.opened pool.state.state.problem (disk_change D.tells D.past D.now D.count pool.journal.disk result.disk) }
+    ensures stands { D.tells ≡ true → IsModelOf (model_in (payloads_in (D.now pool.journal.disk))) pool.state.state.problem → fails_by_disk result.outcome ≡ false → StandsFor pool.state.state.problem (payloads_in (D.now result.disk)) (journaled result.state.history) }
+{
+    let mut pool = pool;
+    pool.history_holds();
+    pool.state().conditions_hold();
+    let ending = search(alloc, &mut pool, request.limits().cuts);
+    pool.history_holds();
+    let (state, disk) = part(pool);
+    state.conditions_hold();
+    journals_are_legal(state.problem());
+    let outcome = conclude(alloc, ending, &state, request, cert);
+    Searched {
+        outcome,
+        state,
+        disk,
     }
 }

@@ -5,14 +5,18 @@ ghost use Rattle.solve_top.specs.Statuses.{exit_number};
 /// How a run ends.
 #[derive(Clone, Copy, Debug, PartialEq, Eq)]
 pub enum Status {
-    /// The certificate and the lines are written.
+    /// All is written, and where the command searches, no node is open.
     Done,
     /// The words are no command.
     Usage,
     /// The model is refused.
     Model,
+    /// The journal is refused.
+    Journal,
     /// The model can't be read.
     ReadFault,
+    /// The disk failed.
+    Disk,
     /// The certificate or the lines can't be written.
     Sink,
     /// The search isn't finished, and its next split would pass the budget.
@@ -30,7 +34,9 @@ impl Status {
             Status::Done => 0,
             Status::Usage => 2,
             Status::Model => 3,
+            Status::Journal => 4,
             Status::ReadFault => 5,
+            Status::Disk => 6,
             Status::Sink => 7,
             Status::Spent => 8,
             Status::Memory => 9,

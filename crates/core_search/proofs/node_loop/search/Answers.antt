@@ -5,45 +5,47 @@ use Rattle.core_search.specs.Processing.{IsEnding, IsExhausted}
 use Rattle.core_search.proofs.Entering.{joined, same_problem}
 use Rattle.core_search.proofs.Limiting.{joined_few}
 use Rattle.core_search.proofs.OpenLists.{none_left}
+use Rattle.core_search.proofs.Pooling.{goes_on, sound_still}
 use Rattle.core_search.proofs.Stepping.{joined_within}
 use Rattle.core_search.proofs.node_loop.search.Goals as goal
 
 pub returns-in-Some-step-clause-goes_on : goal.returns-in-Some-step-clause-goes_on
-returns-in-Some-step-clause-goes_on c = joined c.args.state.now c.loop-node.state c.step.new.state c.loop-node.invariant.goes_on c.step.ensures.goes_on
+returns-in-Some-step-clause-goes_on g c =
+    joined c.args.pool.now.state c.loop-node.pool.state c.step.new.pool.state c.loop-node.invariant.goes_on.history c.step.ensures.goes_on.history
 
 pub returns-in-Some-step-clause-problem : goal.returns-in-Some-step-clause-problem
-returns-in-Some-step-clause-problem c = same_problem c.args.state.now c.step.new.state (returns-in-Some-step-clause-goes_on c)
-
-pub returns-in-Some-step-clause-within_budget : goal.returns-in-Some-step-clause-within_budget
-returns-in-Some-step-clause-within_budget c = joined_within c.args.budget c.args.state.now.state c.loop-node.state.state c.step.new.state.state c.loop-node.invariant.within_budget c.step.ensures.within_budget
+returns-in-Some-step-clause-problem g c = same_problem c.args.pool.now.state c.step.new.pool.state (returns-in-Some-step-clause-goes_on g c)
 
 pub loop-node-preserved : goal.loop-node-preserved
-loop-node-preserved c = record {
-  goes_on = joined c.args.state.now c.loop-node.state c.step.new.state c.loop-node.invariant.goes_on c.step.ensures.goes_on;
-  unheld = c.step.ensures.unheld;
-  within_budget = joined_within c.args.budget c.args.state.now.state c.loop-node.state.state c.step.new.state.state c.loop-node.invariant.within_budget c.step.ensures.within_budget;
-  nodes = c.in_default-step.ensures.nodes;
-  prepared = c.in_default-step.ensures.prepared;
-  within_cuts = joined_few c.args.cuts (length c.args.state.now.state.cuts) (length c.loop-node.state.state.cuts) (length c.step.new.state.state.cuts) c.loop-node.invariant.within_cuts
-      (subst (λ n. length c.step.new.state.state.cuts ≤ max n (length c.loop-node.state.state.cuts)) c.loop-node.invariant.limit c.step.ensures.within_cuts);
-  limit = c.step.ensures.limit ∙ c.loop-node.invariant.limit;
-}
+loop-node-preserved g c =
+    let a = c.args.pool.now in
+    let b = c.loop-node.pool in
+    let z = c.step.new.pool in
+    let budget : b.budget ≡ a.budget = c.loop-node.invariant.goes_on.budget in
+    let within = subst (λ n. length z.state.state.nodes ≤ max n (length b.state.state.nodes)) budget c.step.ensures.within_budget in
+    let few = subst (λ n. length z.state.state.cuts ≤ max n (length b.state.state.cuts)) c.loop-node.invariant.limit c.step.ensures.within_cuts in
+    record {
+      goes_on = goes_on a b z c.loop-node.invariant.goes_on c.step.ensures.goes_on;
+      sound = sound_still a b z c.loop-node.invariant.sound c.in_default-step.ensures.sound;
+      unheld = c.step.ensures.unheld;
+      within_budget = joined_within a.budget a.state.state b.state.state z.state.state c.loop-node.invariant.within_budget within;
+      nodes = c.in_default-step.ensures.nodes;
+      prepared = c.in_default-step.ensures.prepared;
+      within_cuts = joined_few c.args.cuts (length a.state.state.cuts) (length b.state.state.cuts) (length z.state.state.cuts) c.loop-node.invariant.within_cuts few;
+      limit = c.step.ensures.limit ∙ c.loop-node.invariant.limit;
+    }
 
 pub returns-clause-problem : goal.returns-clause-problem
-returns-clause-problem c = same_problem c.args.state.now c.loop-node.state c.loop-node.invariant.goes_on
+returns-clause-problem g c = same_problem c.args.pool.now.state c.loop-node.pool.state c.loop-node.invariant.goes_on.history
 
 pub returns-clause-finished : goal.returns-clause-finished
-returns-clause-finished c = λ _.
+returns-clause-finished g c = λ _.
     let none : vec_len c.loop-node.nodes ≡ 0 = c.in_default-pop.ensures.cases.0 in
-    none_left c.loop-node.state.state c.loop-node.nodes.items (omega (arith, none, c.loop-node.nodes.ok.0)) c.loop-node.invariant.nodes
+    (none_left c.loop-node.pool.state.state c.loop-node.nodes.items (omega (arith, none, c.loop-node.nodes.ok.0)) c.loop-node.invariant.nodes, c.loop-node.invariant.sound.halt)
 
 pub returns-in-Some-step-clause-left : goal.returns-in-Some-step-clause-left
-returns-in-Some-step-clause-left c = λ e.
-    let s = c.step.new.state.state in
-    let h : IsExhausted c.args.budget s = subst (λ x. IsEnding c.args.budget x s) e c.in-Some-step.ensures.ended in
+returns-in-Some-step-clause-left g c = λ e.
+    let budget = c.loop-node.pool.budget in
+    let s = c.step.new.pool.state.state in
+    let h : IsExhausted budget s = subst (λ x. IsEnding budget x s) e c.in-Some-step.ensures.ended in
     omega (arith, count-ended s.ended h.1.node h.1.opened)
-
-pub returns-in-Some-step-clause-within_cuts : goal.returns-in-Some-step-clause-within_cuts
-returns-in-Some-step-clause-within_cuts c =
-    joined_few c.args.cuts (length c.args.state.now.state.cuts) (length c.loop-node.state.state.cuts) (length c.step.new.state.state.cuts) c.loop-node.invariant.within_cuts
-    (subst (λ n. length c.step.new.state.state.cuts ≤ max n (length c.loop-node.state.state.cuts)) c.loop-node.invariant.limit c.step.ensures.within_cuts)

@@ -1,0 +1,6 @@
+//! Pools of searches with their journals in memory, for programs of cases and of measurements.
+#![tactic(auto)]
+
+mod pools;
+
+pub use pools::{into_state, memory_pool, with_budget};

@@ -1,0 +1,116 @@
+// Pools with their journals in memory.
+ghost use Rattle.std.specs.Prelude.{◌≡◌, ◌≤◌, ◌+◌, [], length, IfOk, None};
+ghost use Rattle.std.specs.List.{AllByRecursion};
+ghost use Rattle.outside.specs.OnDisk.{disk_now};
+ghost use Rattle.node_journal.specs.Whole.{payloads_in};
+ghost use Rattle.event_core.specs.States.{first_state};
+ghost use Rattle.event_core.specs.Histories.{journaled};
+ghost use Rattle.node_pool.specs.Payloads.{IsJournalOf};
+ghost use Rattle.node_pool.specs.Stored.{IsStored};
+
+use anyhow::{Result, bail};
+use event_core::State;
+use node_journal::{Journal, scan};
+use node_pool::Pool;
+use outside::MemDisk;
+use problem::Problem;
+use std::alloc::Global;
+
+/// The payload that stands for the model's record.
+const MODEL: &[u8] = b"model";
+
+/// A journal of no payload.
+fn empty_journal(alloc: Global) -> Result<Journal<MemDisk>>
+    ensures sound { IfOk result (λ j. j.fault ≡ None) }
+    ensures count { IfOk result (λ j. j.count ≡ 0) }
+    ensures empty { IfOk result (λ j. payloads_in (disk_now j.disk) ≡ []) }
+{
+    let mut disk = MemDisk::new(alloc);
+    let Ok(scanned) = scan(alloc, &mut disk) else {
+        bail!("an empty disk was not read");
+    };
+    match Journal::recover(disk, scanned) {
+        Ok(journal) => Ok(journal),
+        Err(_disk) => bail!("an empty journal was not made"),
+    }
+}
+
+/// A journal of the model's record alone.
+fn first_journal(alloc: Global) -> Result<Journal<MemDisk>>
+    ensures sound { IfOk result (λ j. j.fault ≡ None) }
+    ensures count { IfOk result (λ j. j.count ≡ 1) }
+    ensures stands { IfOk result (λ j. IsJournalOf (payloads_in (disk_now j.disk)) []) }
+{
+    let mut journal = empty_journal(alloc)?;
+    match journal.append(alloc, MODEL) {
+        Ok(_) => Ok(journal),
+        Err(_) => {
+            let _disk = journal.into_disk();
+            bail!("the model's record was not added")
+        }
+    }
+}
+
+/// The pool of a state and the journal that stands for its history.
+fn pool_of(
+    alloc: Global,
+    state: State,
+    journal: Journal<MemDisk>,
+    budget: u32,
+) -> Result<Pool<MemDisk>>
+    requires few { budget ≤ 1_000_000_000 }
+    requires unheld { state.state.holds ≡ [] }
+    requires sound { journal.fault ≡ None }
+    requires counted { journal.count ≡ length (journaled state.history) + 1 }
+    requires stands { IsJournalOf (payloads_in (disk_now journal.disk)) state.history }
+    requires stored { AllByRecursion IsStored (journaled state.history) }
+    ensures state { IfOk result (λ p. p.state ≡ state) }
+    ensures budget { IfOk result (λ p. p.budget ≡ budget) }
+    ensures halt { IfOk result (λ p. p.halt ≡ None) }
+{
+    match Pool::make(alloc, state, journal, budget) {
+        Ok(pool) => Ok(pool),
+        Err((_state, journal)) => {
+            let _disk = journal.into_disk();
+            bail!("no memory for a pool")
+        }
+    }
+}
+
+/// A pool at the beginning of a problem's search, with a journal in memory. The budget is how many nodes the tree may have.
+pub fn memory_pool(alloc: Global, problem: Problem, budget: u32) -> Result<Pool<MemDisk>>
+    requires { budget ≤ 1_000_000_000 }
+    ensures state { IfOk result (λ p. p.state.state ≡ first_state problem) }
+    ensures history { IfOk result (λ p. p.state.history ≡ []) }
+    ensures budget { IfOk result (λ p. p.budget ≡ budget) }
+    ensures halt { IfOk result (λ p. p.halt ≡ None) }
+{
+    let state = State::new(alloc, problem)?;
+    let journal = first_journal(alloc)?;
+    pool_of(alloc, state, journal, budget)
+}
+
+/// The pool with another budget, and halted no more. A pool whose disk failed is an error.
+pub fn with_budget(alloc: Global, pool: Pool<MemDisk>, budget: u32) -> Result<Pool<MemDisk>>
+    requires few { budget ≤ 1_000_000_000 }
+    requires unheld { pool.state.state.holds ≡ [] }
+    ensures state { IfOk result (λ p. p.state ≡ pool.state) }
+    ensures budget { IfOk result (λ p. p.budget ≡ budget) }
+    ensures halt { IfOk result (λ p. p.halt ≡ None) }
+{
+    let (state, journal, _halt) = pool.into_parts();
+    if journal.fault().is_some() {
+        let _disk = journal.into_disk();
+        bail!("the disk failed");
+    }
+    pool_of(alloc, state, journal, budget)
+}
+
+/// The state of a pool.
+pub fn into_state(pool: Pool<MemDisk>) -> State
+    ensures { result ≡ pool.state }
+{
+    let (state, journal, _halt) = pool.into_parts();
+    let _disk = journal.into_disk();
+    state
+}

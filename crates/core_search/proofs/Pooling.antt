@@ -1,0 +1,53 @@
+-- How a pool goes on, one call after another.
+use Rattle.std.specs.Prelude.{◌≡◌, List, [], ◌∷◌, ◌++◌, Some, slice_get}
+use Rattle.std.proofs.Common.{sym, ap, ◌∙◌, subst}
+use Rattle.outside.specs.declared.disk.Disk.{Ghosts}
+use Rattle.outside.specs.Faults.{Counts}
+use Rattle.node_events.specs.declared.event.Event.{Event}
+use Rattle.event_core.specs.declared.entry.Entry.{Entry}
+use Rattle.event_core.specs.States.{State}
+use Rattle.event_core.specs.After.{after}
+use Rattle.event_core.specs.Rooms.{Recorded}
+use Rattle.node_journal.specs.declared.journal.Journal.{Journal}
+use Rattle.node_journal.specs.Whole.{payloads_in}
+use Rattle.node_pool.specs.Payloads.{model_in}
+use Rattle.node_pool.specs.Steps.{Applies, Stays}
+use Rattle.node_pool.specs.declared.answers.CommitFault.{CommitFault}
+use Rattle.node_pool.specs.declared.pool.Pool.{Pool}
+use Rattle.core_search.specs.Entries.{ExtendsHistory, IsGreatestIfClaim}
+use Rattle.core_search.specs.Pools.{PoolGoesOn, StaysSound, FailsBy, is_disk_fault}
+use Rattle.core_search.proofs.Entering.{one_event, joined}
+
+-- an event after nothing
+pub applied_then : (a b c : Recorded) (e : Event) → Stays a b → Applies b (Some 0) e c → IsGreatestIfClaim a.state e → ExtendsHistory a c
+applied_then a b c e h k g =
+    one_event a c e (k.state ∙ ap (λ (s : State). after s (Some 0) e) h.state) (k.history ∙ ap (λ (es : List Entry). es ++ record { worker = Some 0; event = e } ∷ []) h.history) g
+
+module _ {D : Type 0} {d : Ghosts D} where
+  -- where the journal stays
+  pub same_journal : (a b : Pool D d) → ExtendsHistory a.state b.state → b.journal ≡ a.journal → b.budget ≡ a.budget → b.faults ≡ a.faults → PoolGoesOn a b
+  same_journal a b h e budget faults = record {
+    history = h;
+    moments = λ told i m q. subst (λ (j : Journal D d). slice_get (d.past j.disk ++ d.now j.disk ∷ []) i ≡ Some m) (sym e) q;
+    model = λ told. ap (λ (j : Journal D d). model_in (payloads_in (d.now j.disk))) e;
+    opened = ap (λ (j : Journal D d). j.opened) e;
+    budget = budget;
+    faults = faults;
+  }
+
+  -- one after the other
+  pub goes_on : (a b c : Pool D d) → PoolGoesOn a b → PoolGoesOn b c → PoolGoesOn a c
+  goes_on a b c h k = record {
+    history = joined a.state b.state c.state h.history k.history;
+    moments = λ told i m q. k.moments told i m (h.moments told i m q);
+    model = λ told. k.model told ∙ h.model told;
+    opened = k.opened ∙ h.opened;
+    budget = k.budget ∙ h.budget;
+    faults = k.faults ∙ h.faults;
+  }
+
+  pub sound_still : (a b c : Pool D d) → StaysSound a b → StaysSound b c → StaysSound a c
+  sound_still a b c h k = record { halt = k.halt; count = k.count ∙ h.count }
+
+  pub fails_then : (a b c : Pool D d) (f : CommitFault) → StaysSound a b → FailsBy f b c → FailsBy f a c
+  fails_then a b c f h k = record { halt = k.halt; count = subst (λ n. Counts n (d.count c.journal.disk) (is_disk_fault f)) h.count k.count }

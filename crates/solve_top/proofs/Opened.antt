@@ -1,0 +1,193 @@
+-- What a command keeps of its journal, from the first moment on: before it is opened, while it is, and while it is searched.
+use Rattle.std.specs.Prelude.{◌≡◌, ◌⊎◌, ℕ, ◌+◌, ◌≤◌, ℤ, pos, Bool, true, false, List, [], ◌∷◌, ◌++◌, length, take, Option, Some, None, option_map, slice_get, refl}
+use Rattle.std.specs.Option.{ForSome}
+use Rattle.std.proofs.Common.{arith, sym, ◌∙◌, ap, subst, inl, inr, length-append}
+use Rattle.std.proofs.lemmas.List.{take_all}
+use Rattle.std.proofs.lemmas.Option.{same_Some, slice_get_within}
+use Rattle.std.proofs.lemmas.Int.{ints}
+use Rattle.outside.specs.Faults.{Counts, Rose}
+use Rattle.outside.specs.Images.{IsImage, AtRest, LeavesOnly, NoMomentPasses}
+use Rattle.outside.specs.Lemmas.Passing.{started, stays_on, weaker}
+use Rattle.outside.specs.declared.moment.Moment.{Moment}
+use Rattle.problem.specs.Problem.{Problem}
+use Rattle.mps_reader.specs.Reading.{Reads}
+use Rattle.mps_reader.specs.Refusals.{IsModestUpper}
+use Rattle.event_codec.specs.Models.{model_code, IsUpper}
+use Rattle.event_core.specs.declared.entry.Entry.{Entry}
+use Rattle.node_journal.specs.Records.{Records, Holds, Foreign, BrokenAt, payloads_held, records}
+use Rattle.node_journal.specs.History.{BeginsWith, EachFrom, IsHistory, IsPrefixOf, KeepsHistory}
+use Rattle.node_journal.specs.Lemmas.Histories.{continued, history_begins, run_each, some_stands}
+use Rattle.node_journal.specs.Whole.{payloads_in}
+use Rattle.node_pool.specs.Payloads.{model_in}
+use Rattle.resume.specs.Crashes.{IsAsBefore, IsAsBeforeOrBegun}
+use Rattle.resume.specs.Lemmas.Histories.{histories_joined, keeps_joined, last_moment}
+use Rattle.resume.specs.Models.{bound_of, IsTextOf, IsModelOf}
+use Rattle.resume.specs.Journals.{StandsFor, IsFreshOrStands}
+use Rattle.resume.specs.declared.fault.ResumeFault.{ResumeFault}
+use Rattle.resume.specs.declared.fault.ResumeFault.TheVariants as fault
+use Rattle.resume.specs.Refusals.{is_disk, is_refusal}
+use Rattle.solve_top.specs.Statuses.{refusal_of}
+use Rattle.solve_top.specs.Changes.{DiskChange, FaultCount, IsUntouched, Rises, disk_change}
+use Rattle.solve_top.specs.Journals.{IsKept, IsKeptUnopened, IsOpened, IsUnopened, KeepsJournal}
+use Rattle.solve_top.specs.Models.{record_of}
+
+-- ---- the record of a model
+same_bound : (upper : Option ℕ) → bound_of (option_map pos upper) ≡ upper
+same_bound None = refl
+same_bound (Some u) = refl
+
+bounded : (upper : Option ℕ) → IsModestUpper upper → ForSome (option_map pos upper) IsUpper
+bounded None h x e = absurd cc
+bounded (Some u) h x e = let same : pos u ≡ x = cc in subst IsUpper same (grind (arith, ints), grind (arith, ints))
+
+pub is_text : (text : List ℕ) (upper : Option ℕ) (p : Problem) → IsModestUpper upper → Reads text upper p → IsTextOf text (option_map pos upper) p
+is_text text upper p modest reads = record { bounded = bounded upper modest; reads = subst (λ (u : Option ℕ). Reads text u p) (sym (same_bound upper)) reads }
+
+pub is_model : (text : List ℕ) (upper : Option ℕ) (p : Problem) → IsModestUpper upper → Reads text upper p → IsModelOf (record_of text upper) p
+is_model text upper p modest reads = record { text = text; upper = option_map pos upper; written = refl; is = is_text text upper p modest reads }
+
+-- ---- what crashes leave while it is opened
+stands_same : (p : Problem) (b c : List ℕ) → records c ≡ records b → IsFreshOrStands p b → IsFreshOrStands p c
+stands_same p b c same (inl fresh) = inl (same ∙ fresh)
+stands_same p b c same (inr s) = inr (s.0, s.1, same ∙ s.2, s.3)
+
+model_stands : (p : Problem) (model : List ℕ) → IsModelOf model p → StandsFor p (model ∷ []) []
+model_stands p model is = record { rest = []; parts = refl; model = is; read = record { written = refl; stored = tt; legal = tt; few = omega arith } }
+
+stands_before : (p : Problem) (b model c : List ℕ) → IsModelOf model p → IsFreshOrStands p b → IsAsBeforeOrBegun (records b) model c → IsFreshOrStands p c
+stands_before p b model c is stands (inl same) = stands_same p b c same stands
+stands_before p b model c is stands (inr begun) = inr (model ∷ [], [], begun.1, model_stands p model is)
+
+-- ---- payloads that begin those of a moment
+first_held : (ps : List (List ℕ)) (r : Records) → BeginsWith ps r → take (length ps) (payloads_held r) ≡ ps
+first_held ps (Holds rs) begins = ap payloads_held begins
+first_held ps Foreign begins = absurd cc
+first_held ps (BrokenAt place) begins = absurd cc
+
+first_payloads : (now : Moment) (ps : List (List ℕ)) → BeginsWith ps (records now.seen) → take (length ps) (payloads_in now) ≡ ps
+unfolding payloads_in
+first_payloads now ps begins = first_held ps (records now.seen) begins
+
+held_payloads : (now : Moment) (ps : List (List ℕ)) → records now.seen ≡ Holds ps → payloads_in now ≡ ps
+unfolding payloads_in
+held_payloads now ps held = ap payloads_held held
+
+prefix_of_all : (ps qs : List (List ℕ)) (r : Records) → r ≡ Holds ps → qs ≡ ps → IsPrefixOf qs r
+prefix_of_all ps qs r held same =
+    subst (λ (x : Records). IsPrefixOf qs x) (sym held) (ap Holds (sym (take_all (length ps) ps (omega arith)) ∙ ap (λ (l : List (List ℕ)). take (length ps) l) (sym same)))
+
+-- ---- a journal that was opened and searched
+pub model_opened : (model : List ℕ) (p : Problem) (es : List Entry) (opened : ℕ) (d : DiskChange) → IsOpened model p es opened d → IsModelOf model p
+model_opened model p es opened d first = subst (λ (l : List ℕ). IsModelOf l p) first.of_model first.stands.model
+
+which : (from i : ℕ) → from ≤ i → (i ≡ from) ⊎ (from + 1 ≤ i)
+which from i le = grind (arith, le)
+
+module _ {D : Type 0} (tells : Bool) (past : D → List Moment) (now : D → Moment) (count : D → ℕ) (a b e : D) (model : List ℕ) (p : Problem) (es : List Entry) (opened : ℕ)
+    (first : IsOpened model p es opened (disk_change tells past now count a b)) (then : IsKept opened p (disk_change tells past now count b e)) (there : IsImage (now e) (now e).seen) (rests : AtRest (now a)) where
+  abbrev ms : List Moment
+  ms = past e ++ now e ∷ []
+
+  -- the moment before the call
+  entry : slice_get ms (length (past a)) ≡ Some (now a)
+  entry = then.extends (length (past a)) (now a)
+      (continued (past a) (now a) (past b) (now b) (IsAsBeforeOrBegun (records (now a).seen) model) (first.any_moment rests) (length (past a)) (now a) (last_moment (past a) (now a)))
+
+  -- the moment at which it was opened
+  last_opened : slice_get ms (length (past b)) ≡ Some (now b)
+  last_opened = then.extends (length (past b)) (now b) (last_moment (past b) (now b))
+
+  before_end : length (past b) ≤ length (past e)
+  before_end = omega (arith, slice_get_within ms (length (past b)) (now b) last_opened, length-append (past e) (now e ∷ []))
+
+  history_whole : IsHistory (length (past a)) ms
+  history_whole = histories_joined (length (past a)) opened (past b) (past e) (now b) (now e) (payloads_in (now b)) (first.kept rests) first.all then.extends first.begun then.history
+
+  -- where the disk did not fail, it holds at the end what it held when it was opened, and more
+  begins : take (length (payloads_in (now b))) (payloads_in (now e)) ≡ payloads_in (now b)
+  begins = first_payloads (now e) (payloads_in (now b))
+      (then.history.lasting (length (past b)) (length (past e)) (now b) (now e) (payloads_in (now b)) first.begun before_end last_opened (last_moment (past e) (now e)) first.all (now e).seen there)
+
+  kept_since : ¬ Rises (record { before = count b; after = count e }) → KeepsHistory opened (past e) (now e) (payloads_in (now e)) None
+  kept_since calm = record { begun = omega (arith, first.begun, before_end); history = then.history; prefixes = λ sound. then.prefixes calm }
+
+  prefixes_whole : ¬ Rises (record { before = count b; after = count e }) → EachFrom (length (past a)) ms (λ c. IsPrefixOf (payloads_in (now e)) (records c))
+  prefixes_whole calm =
+      (keeps_joined (length (past a)) opened (past b) (past e) (now b) (now e) (payloads_in (now b)) (first.kept rests) first.all then.extends first.begun (payloads_in (now e)) None (kept_since calm) (λ sound. begins)).prefixes refl
+
+  stands_whole : IsFreshOrStands p (now a).seen → EachFrom (length (past a)) ms (IsFreshOrStands p)
+  stands_whole stands i m c ge at is = elim (which (length (past a)) i ge) [
+    | inl same ↦
+        let x : m ≡ now a = same_Some m (now a) (sym at ∙ ap (λ (k : ℕ). slice_get ms k) same ∙ entry) in
+        subst (λ (l : List ℕ). IsFreshOrStands p l) (sym (rests c (subst (λ (y : Moment). IsImage y c) x is))) stands
+    | inr more ↦ then.stands i m c (omega (arith, more, first.next)) at is
+  ]
+
+  -- the opening counted no fault
+  unless_before : count b ≡ count a → ¬ Rises (record { before = count a; after = count e }) → ¬ Rises (record { before = count b; after = count e })
+  unless_before same calm rose = calm (subst (λ (n : ℕ). Rises (record { before = n; after = count e })) same rose)
+
+  -- whatever else is asked of the problem makes it this one
+  pub kept_whole : (IsOwn : Problem → Type 0) → ((o : Problem) → IsOwn o → o ≡ p) → count b ≡ count a → KeepsJournal (disk_change tells past now count a e) IsOwn
+  kept_whole IsOwn one same = record {
+    history = λ ps held. history_whole;
+    prefixes = λ ps held calm. prefixes_whole (unless_before same calm);
+    stands = λ o own stands.
+        subst (λ (x : Problem). EachFrom (length (past a)) ms (IsFreshOrStands x)) (sym (one o own))
+        (stands_whole (subst (λ (x : Problem). IsFreshOrStands x (now a).seen) (one o own) stands));
+    rests = λ calm. then.rests (unless_before same calm);
+  }
+
+-- ---- one that was not opened
+pub kept_unopened : (model : List ℕ) (d : DiskChange) (IsOwn : Problem → Type 0) → IsKeptUnopened model d → ((o : Problem) → IsOwn o → IsModelOf model o) → KeepsJournal d IsOwn
+kept_unopened model d IsOwn kept own = record {
+  history = kept.history;
+  prefixes = kept.prefixes;
+  stands = λ o is stands i m c ge at image.
+      stands_before o d.now_before.seen model c (own o is) stands
+      (run_each d.past_before d.now_before d.past_after d.now_after (IsAsBeforeOrBegun (records d.now_before.seen) model) kept.any_moment i m c ge at image);
+  rests = kept.rests;
+}
+
+-- ---- one that was left alone
+module _ {D : Type 0} (tells : Bool) (past : D → List Moment) (now : D → Moment) (count : D → ℕ) (a e : D) (none : NoMomentPasses (past a) (now a) (past e) (now e)) (rests : AtRest (now a)) where
+  -- crashes leave what was there
+  leaves_seen : (P : List ℕ → Type 0) → P (now a).seen → LeavesOnly (past a) (now a) (past e) (now e) P
+  leaves_seen P here = stays_on (past a) (past a) (past e) (now a) (now a) (now e) P (started (past a) (now a) P (λ c is. subst P (sym (rests c is)) here)) none
+
+  pub kept_untouched : (IsOwn : Problem → Type 0) → KeepsJournal (disk_change tells past now count a e) IsOwn
+  kept_untouched IsOwn = record {
+    history = λ ps held. history_begins (past a) (now a) (past e) (now e) ps (leaves_seen (λ c. records c ≡ Holds ps) held) (some_stands (past a) (now a) (past e) (now e) (λ c. records c ≡ Holds ps) none);
+    prefixes = λ ps held calm. run_each (past a) (now a) (past e) (now e) (λ c. IsPrefixOf (payloads_in (now e)) (records c))
+        (leaves_seen (λ c. IsPrefixOf (payloads_in (now e)) (records c))
+        (prefix_of_all ps (payloads_in (now e)) (records (now a).seen) held (ap payloads_in none.same ∙ held_payloads (now a) ps held)));
+    stands = λ o own stands. run_each (past a) (now a) (past e) (now e) (IsFreshOrStands o) (leaves_seen (IsFreshOrStands o) stands);
+    rests = λ calm. subst AtRest (sym none.same) rests;
+  }
+
+-- ---- by the clauses of its opening
+pub same_model : (a b : Moment) → records a.seen ≡ Holds (payloads_in b) → model_in (payloads_in b) ≡ model_in (payloads_in a)
+same_model a b held = ap model_in (sym (held_payloads a (payloads_in b) held))
+
+pub before_or_begun : (past : List Moment) (now : Moment) (past' : List Moment) (now' : Moment) (before : Records) (model : List ℕ) → LeavesOnly past now past' now' (IsAsBefore before)
+    → LeavesOnly past now past' now' (IsAsBeforeOrBegun before model)
+before_or_begun past now past' now' before model run = weaker past now past' now' (IsAsBefore before) (IsAsBeforeOrBegun before model) (λ c h. inl h) run
+
+pub not_by_disk : (b : Bool) (x y : ℕ) → Counts x y b → ¬ Rose x y → b ≡ false
+not_by_disk true x y h calm = absurd (calm h.1)
+not_by_disk false x y h calm = refl
+
+pub record_is : (text items : List ℕ) (u : Option ℤ) (upper : Option ℕ) → text ≡ items → u ≡ option_map pos upper → model_code text u ≡ record_of items upper
+record_is text items u upper a b = ap (λ (t : List ℕ). model_code t u) a ∙ ap (λ (v : Option ℤ). model_code items v) b
+
+pub first_is : (ps rest : List (List ℕ)) (first model : List ℕ) → ps ≡ first ∷ rest → first ≡ model → model_in ps ≡ model
+first_is ps rest first model e same = ap model_in e ∙ same
+
+pub unopened_by : (P : ResumeFault → Type 0) (d : DiskChange) (f : ResumeFault) → (d.tells ≡ true → P f) → Counts d.faults.before d.faults.after (is_disk f) → (is_refusal f ≡ true → IsUntouched d)
+    → IsUnopened P d (refusal_of f)
+unopened_by P d fault.NotAJournal refused cause untouched = (refl, refused, cause, untouched refl)
+unopened_by P d (fault.Damaged at) refused cause untouched = (refl, refused, cause, untouched refl)
+unopened_by P d (fault.OtherModel at) refused cause untouched = (refl, refused, cause, untouched refl)
+unopened_by P d fault.NoModel refused cause untouched = (refl, refused, cause, untouched refl)
+unopened_by P d fault.Disk refused cause untouched = cause.1
+unopened_by P d fault.Memory refused cause untouched = cause

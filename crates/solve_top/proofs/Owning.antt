@@ -1,0 +1,70 @@
+-- Which problem a command is about.
+use Rattle.std.specs.Prelude.{◌≡◌, ℕ, true, List, Option, refl}
+use Rattle.std.proofs.Common.{sym, subst}
+use Rattle.problem.specs.Problem.{Problem}
+use Rattle.mps_reader.specs.Reading.{Reads}
+use Rattle.mps_reader.specs.Refusals.{IsModestUpper}
+use Rattle.mps_reader.specs.Lemmas.Laws.{one_problem}
+use Rattle.event_codec.specs.Laws.{RecordsTellApart}
+use Rattle.event_core.specs.Histories.{journaled}
+use Rattle.node_journal.specs.Records.{records}
+use Rattle.node_journal.specs.Whole.{payloads_in}
+use Rattle.node_pool.specs.Payloads.{model_in}
+use Rattle.command_words.specs.declared.limits.Limits.{Limits}
+use Rattle.resume.specs.Journals.{StandsFor}
+use Rattle.resume.specs.Models.{IsModelOf}
+use Rattle.resume.specs.Refusals.{Refuses, RefusesPayloads, RefusesPayloadsFor}
+use Rattle.resume.specs.declared.fault.ResumeFault.{ResumeFault}
+use Rattle.solve_top.specs.declared.request.Request.{Request}
+use Rattle.solve_top.specs.declared.request.Request.TheVariants.{Solve, Resume}
+use Rattle.solve_top.specs.Changes.{SourceChange, DiskChange}
+use Rattle.solve_top.specs.Models.{IsOwnProblem, IsProblemOf, RefusesJournal, model_before, record_of}
+use Rattle.solve_top.specs.Journals.{HoldsSearch}
+use Rattle.solve_top.specs.Searches.{Search}
+use Rattle.resume.specs.Lemmas.OneModel.{one_model}
+use Rattle.solve_top.proofs.Opened.{is_model}
+
+-- What a command is about: this problem, and it alone where the disk tells its bytes. What stands for its search on the disk is what the command holds there.
+pub record IsAbout (q : Request) (m : SourceChange) (d : DiskChange) (p : Problem) : Type 0 where
+  pub of : IsProblemOf q m d p
+  pub only : d.tells ≡ true → (o : Problem) → IsOwnProblem q m d o → o ≡ p
+  pub holds : (s : Search) → (d.tells ≡ true → StandsFor s.problem (payloads_in d.now_after) (journaled s.history)) → HoldsSearch q d s
+
+-- ---- of the text that was read
+module _ (q : Request) (limits : Limits) (upper : Option ℕ) (m : SourceChange) (d : DiskChange) (text : List ℕ) (asks : q ≡ Solve limits upper) (whole : m.tells ≡ true → text ≡ m.text) where
+  pub solve_about : (p : Problem) → Reads text upper p → IsAbout q m d p
+  solve_about p reads = record {
+    of = subst (λ (x : Request). IsProblemOf x m d p) (sym asks) (λ told. subst (λ (t : List ℕ). Reads t upper p) (whole told) reads);
+    only = λ told o own.
+        let h = subst (λ (x : Request). IsOwnProblem x m d o) asks own in
+        one_problem m.text upper o p h.1 (subst (λ (t : List ℕ). Reads t upper p) (whole h.0) reads);
+    holds = λ s h. subst (λ (x : Request). HoldsSearch x d s) (sym asks) h;
+  }
+
+  pub solve_own_model : IsModestUpper upper → (o : Problem) → IsOwnProblem q m d o → IsModelOf (record_of text upper) o
+  solve_own_model modest o own =
+      let h = subst (λ (x : Request). IsOwnProblem x m d o) asks own in
+      is_model text upper o modest (subst (λ (t : List ℕ). Reads t upper o) (sym (whole h.0)) h.1)
+
+  pub solve_refuses : (f : ResumeFault) → (d.tells ≡ true → Refuses (RefusesPayloadsFor (record_of text upper)) f (records d.now_before.seen)) → RefusesJournal q m d f
+  solve_refuses f h = subst (λ (x : Request). RefusesJournal x m d f) (sym asks)
+      (λ told disk. subst (λ (t : List ℕ). Refuses (RefusesPayloadsFor (record_of t upper)) f (records d.now_before.seen)) (whole told) (h disk))
+
+-- ---- of the journal's model
+same_before : (d : DiskChange) → model_before d ≡ model_in (payloads_in d.now_before)
+unfolding payloads_in
+same_before d = refl
+
+module _ (q : Request) (limits : Limits) (m : SourceChange) (d : DiskChange) (asks : q ≡ Resume limits) where
+  pub resume_own_model : (o : Problem) → IsOwnProblem q m d o → IsModelOf (model_in (payloads_in d.now_before)) o
+  resume_own_model o own = subst (λ (l : List ℕ). IsModelOf l o) (same_before d) (subst (λ (x : Request). IsOwnProblem x m d o) asks own)
+
+  pub resume_about : RecordsTellApart → (p : Problem) → (d.tells ≡ true → IsModelOf (model_in (payloads_in d.now_before)) p) → IsAbout q m d p
+  resume_about law p is = record {
+    of = subst (λ (x : Request). IsProblemOf x m d p) (sym asks) (λ told. subst (λ (l : List ℕ). IsModelOf l p) (sym (same_before d)) (is told));
+    only = λ told o own. one_model law (model_in (payloads_in d.now_before)) o p (resume_own_model o own) (is told);
+    holds = λ s h. subst (λ (x : Request). HoldsSearch x d s) (sym asks) h;
+  }
+
+  pub resume_refuses : (f : ResumeFault) → (d.tells ≡ true → Refuses RefusesPayloads f (records d.now_before.seen)) → RefusesJournal q m d f
+  resume_refuses f h = subst (λ (x : Request). RefusesJournal x m d f) (sym asks) h

@@ -1,0 +1,158 @@
+-- What a search that has ended keeps of its journal, and how far it went.
+use Rattle.std.specs.Prelude.{◌≡◌, ◌⊎◌, ◌≤◌, ℕ, max, Bool, true, false, is_none, if◌then◌else◌, List, [], ◌∷◌, ◌++◌, length, All, Option, Some, None, refl}
+use Rattle.std.specs.List.{AllByRecursion}
+use Rattle.std.proofs.Common.{arith, sym, ◌∙◌, ap, subst}
+use Rattle.std.proofs.lemmas.List.Elements.{All-head}
+use Rattle.outside.specs.Faults.{Rose, Counts}
+use Rattle.outside.specs.Images.{AtRest, resting}
+use Rattle.outside.specs.declared.moment.Moment.{Moment}
+use Rattle.problem.specs.Problem.{Problem}
+use Rattle.node_events.specs.declared.event.Event.{Event}
+use Rattle.event_core.specs.declared.entry.Entry.{Entry}
+use Rattle.event_core.specs.States.{State}
+use Rattle.event_core.specs.Histories.{state_of, journaled, AreLegal}
+use Rattle.event_core.specs.Laws.{JournalsAreLegal}
+use Rattle.event_core.specs.Rooms.{Recorded}
+use Rattle.node_journal.specs.Records.{records}
+use Rattle.node_journal.specs.History.{EachFrom, ExtendsMoments, IsHistory, IsPrefixOf, KeepsHistory}
+use Rattle.node_journal.specs.Lemmas.Resting.{rested}
+use Rattle.node_journal.specs.Whole.{payloads_in}
+use Rattle.node_pool.specs.Payloads.{codes, codes_given, model_in, IsJournalOf, LeavesPrefixes}
+use Rattle.node_pool.specs.Stored.{IsStored}
+use Rattle.node_pool.specs.Halting.{IsHalt}
+use Rattle.node_pool.specs.declared.halt.Halt.{Halt}
+use Rattle.core_search.specs.declared.node_loop.Ending.{Ending}
+use Rattle.core_search.specs.declared.node_loop.Ending.TheVariants as ending
+use Rattle.core_search.specs.Entries.{ExtendsHistory, IsOfWorker}
+use Rattle.core_search.specs.Pools.{IsHaltOf, is_disk}
+use Rattle.vipr_print.specs.Unique.{IsWord}
+use Rattle.resume.specs.Models.{IsModelOf}
+use Rattle.resume.specs.Events.{node_limit, IsReadAs}
+use Rattle.resume.specs.Journals.{IsReadFrom, StandsFor, IsFreshOrStands}
+use Rattle.solve_top.specs.declared.request.Request.{Request}
+use Rattle.solve_top.specs.Requests.{limits_in}
+use Rattle.solve_top.specs.Changes.{DiskChange, FaultCount, Rises, disk_change, moments_before, moments_after}
+use Rattle.solve_top.specs.Journals.{IsKept}
+use Rattle.solve_top.specs.Searches.{Search, search_of, begin_of, end_of, events_read}
+use Rattle.solve_top.specs.Steps.{IsWithin}
+use Rattle.resume.specs.Lemmas.Standing.{given_read, journal_stands, prefix_stands}
+use Rattle.solve_top.proofs.Uniqueness.{names_are_words}
+
+-- ---- what was read
+pub read_names : (c : Recorded) → IsReadFrom c → All IsWord c.state.problem.names
+read_names c read = names_are_words _ _ c.state.problem read.1.model.is.reads
+
+pub read_few : (c : Recorded) → c.state ≡ state_of c.state.problem c.history → IsReadFrom c → length c.state.nodes ≤ node_limit
+read_few c stands read = subst (λ (s : State). length s.nodes ≤ node_limit) (sym stands) read.1.read.few
+
+of_worker_none : (es : List Entry) → All IsOfWorker es → events_read es ≡ []
+of_worker_none [] all = refl
+of_worker_none (e ∷ es) all = let w : e.worker ≡ Some 0 = All-head IsOfWorker e es all in rw w refl
+
+if_none : (w : Option ℕ) (a b : List Entry) → w ≡ None → (if is_none w then a else b) ≡ a
+if_none w a b h = rw h
+
+read_first : (hs es : List Entry) → AllByRecursion IsStored hs → All IsOfWorker es → events_read (hs ++ es) ≡ hs
+read_first [] es stored all = of_worker_none es all
+read_first (h ∷ hs) es stored all = if_none h.worker (h ∷ events_read (hs ++ es)) [] stored.0.worker ∙ ap (λ (l : List Entry). h ∷ l) (read_first hs es stored.1 all)
+
+-- ---- how far it went
+pub within_limits : (q : Request) (old new : Recorded) → old.state ≡ state_of old.state.problem old.history → IsReadFrom old → ExtendsHistory old new → new.state.problem ≡ old.state.problem
+    → new.state ≡ state_of new.state.problem new.history → AreLegal new.state.problem new.history
+    → length new.state.nodes ≤ max (limits_in q).nodes (length old.state.nodes) → length new.state.cuts ≤ max (limits_in q).cuts (length old.state.cuts)
+    → IsWithin q old.state.problem (search_of new)
+within_limits q old new begins read goes same stands legal nodes cuts = record {
+  same = same;
+  legal = legal;
+  within = subst (λ (s : State). length s.nodes ≤ max (limits_in q).nodes (length (begin_of (search_of new)).nodes)) stands
+      (subst (λ (s : State). length new.state.nodes ≤ max (limits_in q).nodes (length s.nodes)) (sym began) nodes);
+  few_cuts = subst (λ (s : State). length s.cuts ≤ max (limits_in q).cuts (length (begin_of (search_of new)).cuts)) stands
+      (subst (λ (s : State). length new.state.cuts ≤ max (limits_in q).cuts (length s.cuts)) (sym began) cuts);
+}
+  where
+    began : begin_of (search_of new) ≡ old.state
+    began =
+        ap (λ (l : List Entry). state_of new.state.problem (events_read l)) goes.history
+        ∙ ap (λ (l : List Entry). state_of new.state.problem l) (read_first old.history goes.entries read.1.read.stored goes.of_worker)
+        ∙ ap (λ (p : Problem). state_of p old.history) same ∙ sym begins
+
+most : (limit n k : ℕ) → limit ≤ node_limit → n ≤ node_limit → k ≤ max limit n → k ≤ node_limit
+most limit n k few begun within = grind arith
+
+-- ---- faults
+pub unless_risen : (e : Ending) (before after : ℕ) → Counts before after (is_disk e) → ¬ Rose before after → is_disk e ≡ false
+unless_risen ending.Finished before after counts none = refl
+unless_risen ending.Spent before after counts none = refl
+unless_risen ending.Disk before after counts none = absurd (none counts.1)
+unless_risen ending.Memory before after counts none = refl
+
+pub sound_unless : (e : Ending) (h : Option Halt) (faults budget count : ℕ) (fault : Option ℕ) (s : State) → IsHaltOf e h → IsHalt faults budget count fault s h → is_disk e ≡ false → fault ≡ None
+sound_unless ending.Finished h faults budget count fault s of is other = (subst (λ (x : Option Halt). IsHalt faults budget count fault s x) of is).sound
+sound_unless ending.Spent h faults budget count fault s of is other = (subst (λ (x : Option Halt). IsHalt faults budget count fault s x) of.1 is).sound.sound
+sound_unless ending.Disk h faults budget count fault s of is other = absurd cc
+sound_unless ending.Memory h faults budget count fault s of is other = (subst (λ (x : Option Halt). IsHalt faults budget count fault s x) of is).sound
+
+-- ---- its journal
+pub at_rest : (file : List ℕ) (m : Moment) → m ≡ resting file → AtRest m
+at_rest file m e = subst AtRest (sym e) (λ c is. rested file c is)
+
+pub kept_by : (opened : ℕ) (p : Problem) (d : DiskChange) (es : List Entry) (h : Option Halt) → ExtendsMoments (moments_before d) (moments_after d) → IsHistory opened (moments_after d)
+    → (¬ Rises d.faults → EachFrom opened (moments_after d) (λ c. IsPrefixOf (payloads_in d.now_after) (records c))) → LeavesPrefixes opened d.past_after d.now_after es h → IsModelOf (model_in (payloads_in d.now_after)) p
+    → (fs : List Entry) × (codes_given es h ≡ codes fs) × IsReadAs p (codes fs) fs → (¬ Rises d.faults → AtRest d.now_after) → IsKept opened p d
+kept_by opened p d es h extends history prefixes leaves model given rests = record {
+  extends = extends;
+  history = history;
+  prefixes = prefixes;
+  stands = λ i m c ge at is. prefix_stands p (model_in (payloads_in d.now_after)) given.0 model given.2 c
+      (subst (λ (l : List (List ℕ)). IsPrefixOf (model_in (payloads_in d.now_after) ∷ l) (records c)) given.1 (leaves i m c ge at is));
+  rests = rests;
+}
+
+-- ---- a search, from the pool that it began with to the state and the disk that it left
+module _ {D : Type 0} (tells : Bool) (past : D → List Moment) (now : D → Moment) (count : D → ℕ) (a b e : D) (same_disk : e ≡ b) (old new last : Recorded) (same_state : last ≡ new)
+    (same_problem : new.state.problem ≡ old.state.problem) (begins : old.state ≡ state_of old.state.problem old.history) (read : IsReadFrom old)
+    (stands : last.state ≡ state_of last.state.problem last.history) (legal : AreLegal last.state.problem last.history) (problem : Problem) (problem_is : problem ≡ last.state.problem) (law : JournalsAreLegal problem)
+    (stored : AllByRecursion IsStored (journaled new.history)) (limit : ℕ) (few : limit ≤ node_limit) (within : length new.state.nodes ≤ max limit (length old.state.nodes)) where
+  abbrev p : Problem
+  p = old.state.problem
+
+  problem_at_end : last.state.problem ≡ p
+  problem_at_end = ap (λ (r : Recorded). r.state.problem) same_state ∙ same_problem
+
+  stands_there : new.state ≡ state_of p new.history
+  stands_there = subst (λ (x : Problem). new.state ≡ state_of x new.history) same_problem (subst (λ (r : Recorded). r.state ≡ state_of r.state.problem r.history) same_state stands)
+
+  legal_there : AreLegal p new.history
+  legal_there = subst (λ (x : Problem). AreLegal x new.history) same_problem (subst (λ (r : Recorded). AreLegal r.state.problem r.history) same_state legal)
+
+  law_there : JournalsAreLegal p
+  law_there = subst JournalsAreLegal (problem_is ∙ problem_at_end) law
+
+  few_there : length new.state.nodes ≤ node_limit
+  few_there = most limit (length old.state.nodes) (length new.state.nodes) few (read_few old begins read) within
+
+  module _ (faults budget : ℕ) (fault : Option ℕ) (h : Option Halt) (halted : IsHalt faults budget (count b) fault new.state h) (within_budget : budget ≤ node_limit)
+      (ending : Ending) (of : IsHaltOf ending h) where
+    given : (fs : List Entry) × (codes_given new.history h ≡ codes fs) × IsReadAs p (codes fs) fs
+    given = given_read p new.history new.state stands_there legal_there law_there stored few_there faults budget (count b) fault h halted within_budget
+
+    sound : is_disk ending ≡ false → fault ≡ None
+    sound other = sound_unless ending h faults budget (count b) fault new.state of halted other
+
+    pub kept_search : Counts (count a) (count b) (is_disk ending) → (opened opened' : ℕ) → opened' ≡ opened → ExtendsMoments (past a ++ now a ∷ []) (past b ++ now b ∷ []) → KeepsHistory opened' (past b) (now b) (payloads_in (now b)) fault
+        → LeavesPrefixes opened' (past b) (now b) new.history h → IsModelOf (model_in (payloads_in (now a))) p → model_in (payloads_in (now b)) ≡ model_in (payloads_in (now a))
+        → (fault ≡ None → AtRest (now b)) → IsKept opened p (disk_change tells past now count a e)
+    kept_search cause opened opened' same extends kept leaves model model_is rests =
+        let unless : ¬ Rises (record { before = count a; after = count b }) → fault ≡ None = λ calm. sound (unless_risen ending (count a) (count b) cause calm) in
+        subst (λ (x : D). IsKept opened p (disk_change tells past now count a x)) (sym same_disk)
+        (kept_by opened p (disk_change tells past now count a b) new.history h extends (subst (λ (k : ℕ). IsHistory k (past b ++ now b ∷ [])) same kept.history)
+        (λ calm. subst (λ (k : ℕ). EachFrom k (past b ++ now b ∷ []) (λ c. IsPrefixOf (payloads_in (now b)) (records c))) same (kept.prefixes (unless calm)))
+        (subst (λ (k : ℕ). LeavesPrefixes k (past b) (now b) new.history h) same leaves) (subst (λ (l : List ℕ). IsModelOf l p) (sym model_is) model) given
+        (λ calm. rests (unless calm)))
+
+    pub stands_search : is_disk ending ≡ false → (fault ≡ None → IsJournalOf (payloads_in (now b)) new.history) → IsModelOf (model_in (payloads_in (now a))) p
+        → model_in (payloads_in (now b)) ≡ model_in (payloads_in (now a)) → StandsFor p (payloads_in (now e)) (journaled last.history)
+    stands_search other journal model model_is =
+        subst (λ (x : D). StandsFor p (payloads_in (now x)) (journaled last.history)) (sym same_disk)
+        (subst (λ (r : Recorded). StandsFor p (payloads_in (now b)) (journaled r.history)) (sym same_state)
+        (journal_stands p new.history new.state stands_there legal_there law_there stored few_there (payloads_in (now b)) (subst (λ (l : List ℕ). IsModelOf l p) (sym model_is) model) (journal (sound other))))

@@ -1,0 +1,21 @@
+use Rattle.solve_top.proofs.Opened.{before_or_begun, not_by_disk, same_model}
+use Rattle.solve_top.proofs.opening.open_kept.Goals as goal
+
+pub returns-in-Ok-clause-opened : goal.returns-in-Ok-clause-opened
+returns-in-Ok-clause-opened g c = λ told. record {
+  next = c.in-Ok.ensures.opened told;
+  begun = (c.history_holds.ensures.kept told).begun;
+  of_model = same_model _ _ (c.in-Ok.ensures.held told);
+  stands = c.in-Ok.ensures.stands told;
+  all = c.in-Ok.ensures.kept told;
+  kept = c.in-Ok.ensures.history told;
+  any_moment = λ rests. before_or_begun _ _ _ _ _ _ (c.in-Ok.ensures.any_moment told rests);
+}
+
+pub returns-in-Err-clause-kept : goal.returns-in-Err-clause-kept
+returns-in-Err-clause-kept g c = λ told rests. record {
+  history = λ ps held. (c.in-Err.ensures.history_err told rests ps held).history;
+  prefixes = λ ps held calm. (c.in-Err.ensures.history_err told rests ps held).prefixes (not_by_disk _ _ _ c.in-Err.ensures.cause_err calm);
+  any_moment = before_or_begun _ _ _ _ _ _ (c.in-Err.ensures.any_moment_err told rests);
+  rests = λ calm. c.in-Err.ensures.rests_err told rests (not_by_disk _ _ _ c.in-Err.ensures.cause_err calm);
+}

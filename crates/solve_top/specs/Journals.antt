@@ -1,0 +1,82 @@
+-- What a run keeps of a journal, whatever crash comes.
+use Rattle.std.specs.Prelude.{◌≡◌, ◌+◌, ◌≤◌, ℕ, true, List, length, None}
+use Rattle.problem.specs.Problem.{Problem}
+use Rattle.outside.specs.Images.{AtRest, LeavesOnly}
+use Rattle.event_core.specs.declared.entry.Entry.{Entry}
+use Rattle.event_core.specs.Histories.{journaled}
+use Rattle.node_journal.specs.Records.{Holds, records}
+use Rattle.node_journal.specs.Whole.{payloads_in}
+use Rattle.node_journal.specs.History.{EachFrom, ExtendsMoments, IsHistory, IsPrefixOf, Keeps, KeepsHistory}
+use Rattle.node_pool.specs.Payloads.{model_in}
+use Rattle.resume.specs.Journals.{StandsFor, IsFreshOrStands}
+use Rattle.resume.specs.Refusals.{is_refusal}
+use Rattle.resume.specs.declared.fault.ResumeFault.{ResumeFault}
+use Rattle.resume.specs.Crashes.{IsAsBeforeOrBegun}
+use Rattle.solve_top.specs.declared.outcome.Refusal.{Refusal}
+use Rattle.solve_top.specs.declared.outcome.Refusal.TheVariants as refusal
+use Rattle.solve_top.specs.declared.request.Request.{Request}
+use Rattle.solve_top.specs.declared.request.Request.TheVariants.{Solve, Resume, Show, Drill}
+use Rattle.solve_top.specs.Changes.{DiskChange, Rises, Stays, IsUntouched, moments_before, moments_after}
+use Rattle.solve_top.specs.Searches.{Search}
+
+-- Of a disk that was at rest before the call. `IsOwn` says which problem the run is about.
+pub record KeepsJournal (d : DiskChange) (IsOwn : Problem → Type 0) : Type 0 where
+  -- Where the disk held a journal, so does what each crash leaves at each moment of the call; of two such journals one begins the other; and what all
+  -- crashes at one moment leave, all crashes at each later moment leave. So no event that was acknowledged is ever gone.
+  pub history : (ps : List (List ℕ)) → records d.now_before.seen ≡ Holds ps → IsHistory (length d.past_before) (moments_after d)
+  -- Where no call of the disk failed, each crash leaves a prefix of the payloads that it holds at the end.
+  pub prefixes : (ps : List (List ℕ)) → records d.now_before.seen ≡ Holds ps → ¬ Rises d.faults → EachFrom (length d.past_before) (moments_after d) (λ c. IsPrefixOf (payloads_in d.now_after) (records c))
+  -- Where it was fresh or stood for the problem, so does what each crash leaves.
+  pub stands : (p : Problem) → IsOwn p → IsFreshOrStands p d.now_before.seen → EachFrom (length d.past_before) (moments_after d) (IsFreshOrStands p)
+  -- Where no call of the disk failed, it is at rest again.
+  pub rests : ¬ Rises d.faults → AtRest d.now_after
+
+-- What a search keeps of a journal that was opened at the moment of this number, by the disk's change since then.
+pub record IsKept (opened : ℕ) (p : Problem) (d : DiskChange) : Type 0 where
+  pub extends : ExtendsMoments (moments_before d) (moments_after d)
+  pub history : IsHistory opened (moments_after d)
+  pub prefixes : ¬ Rises d.faults → EachFrom opened (moments_after d) (λ c. IsPrefixOf (payloads_in d.now_after) (records c))
+  pub stands : EachFrom opened (moments_after d) (IsFreshOrStands p)
+  pub rests : ¬ Rises d.faults → AtRest d.now_after
+
+-- What a pool knows of its journal as it is opened, by the disk's change until then: the moment of this number is the next after the first. The journal
+-- has the record of this model and the events of this history, and each crash leaves them. Of a disk that was at rest it tells what crashes left before.
+pub record IsOpened (model : List ℕ) (p : Problem) (history : List Entry) (opened : ℕ) (d : DiskChange) : Type 0 where
+  pub next : opened ≡ length d.past_before + 1
+  pub begun : opened ≤ length d.past_after
+  pub of_model : model_in (payloads_in d.now_after) ≡ model
+  pub stands : StandsFor p (payloads_in d.now_after) history
+  pub all : Keeps (payloads_in d.now_after) d.now_after
+  pub any_moment : AtRest d.now_before → LeavesOnly d.past_before d.now_before d.past_after d.now_after (IsAsBeforeOrBegun (records d.now_before.seen) model)
+  pub kept : AtRest d.now_before → KeepsHistory (length d.past_before) d.past_after d.now_after (payloads_in d.now_after) None
+
+-- Why a journal was not opened, by the disk's change: its content is refused, and untouched; or the disk failed; or memory was wanting.
+abbrev pub IsUnopened : (ResumeFault → Type 0) → DiskChange → Refusal → Type 0
+IsUnopened P d refusal.Usage = ⊥
+IsUnopened P d (refusal.Model line k) = ⊥
+IsUnopened P d (refusal.Journal f) = (is_refusal f ≡ true) × (d.tells ≡ true → P f) × Stays d.faults × IsUntouched d
+IsUnopened P d refusal.Read = ⊥
+IsUnopened P d refusal.Disk = Rises d.faults
+IsUnopened P d refusal.Sink = ⊥
+IsUnopened P d refusal.Memory = Stays d.faults
+
+-- What is kept of a disk that was at rest, where its journal was not opened, by the record of the model.
+pub record IsKeptUnopened (model : List ℕ) (d : DiskChange) : Type 0 where
+  pub history : (ps : List (List ℕ)) → records d.now_before.seen ≡ Holds ps → IsHistory (length d.past_before) (moments_after d)
+  pub prefixes : (ps : List (List ℕ)) → records d.now_before.seen ≡ Holds ps → ¬ Rises d.faults → EachFrom (length d.past_before) (moments_after d) (λ c. IsPrefixOf (payloads_in d.now_after) (records c))
+  pub any_moment : LeavesOnly d.past_before d.now_before d.past_after d.now_after (IsAsBeforeOrBegun (records d.now_before.seen) model)
+  pub rests : ¬ Rises d.faults → AtRest d.now_after
+
+-- `show` and `drill` don't touch the disk
+abbrev pub LeavesAlone : Request → DiskChange → Type 0
+LeavesAlone (Solve limits upper) d = Unit {0}
+LeavesAlone (Resume limits) d = Unit {0}
+LeavesAlone Show d = IsUntouched d
+LeavesAlone (Drill seed limits) d = IsUntouched d
+
+-- the disk holds the model's record and the events of the search, and nothing more; a drill doesn't touch it
+abbrev pub HoldsSearch : Request → DiskChange → Search → Type 0
+HoldsSearch (Solve limits upper) d s = d.tells ≡ true → StandsFor s.problem (payloads_in d.now_after) (journaled s.history)
+HoldsSearch (Resume limits) d s = d.tells ≡ true → StandsFor s.problem (payloads_in d.now_after) (journaled s.history)
+HoldsSearch Show d s = ⊥
+HoldsSearch (Drill seed limits) d s = IsUntouched d

@@ -1,0 +1,89 @@
+// Solves the model of a seed, with its journal on a disk in memory.
+ghost use Rattle.std.specs.Prelude.{◌≡◌, ◌≤◌, [], None, IfErr, IfOk, option_map};
+ghost use Rattle.mps_reader.specs.Reading.{Reads};
+ghost use Rattle.resume.specs.Journals.{IsReadFrom};
+ghost use Rattle.drill_instance.specs.Texts.{generated};
+ghost use Rattle.solve_top.specs.Requests.{HasRanges};
+ghost use Rattle.solve_top.specs.Changes.{sink_change};
+ghost use Rattle.solve_top.specs.Searches.{search_of};
+ghost use Rattle.solve_top.specs.Steps.{IsDrilled, IsRefusedDrill, without_disk};
+
+use crate::model::{Model, problem_of};
+use crate::opening::open_of;
+use crate::outcome::{Answer, Refusal};
+use crate::request::Request;
+use crate::search::{Searched, search_on};
+use drill_instance::generate;
+use event_core::State;
+use node_pool::Pool;
+use outside::{MemDisk, Sink};
+use std::alloc::Global;
+use std::hash::BuildHasher;
+
+// The model of a seed.
+fn drilled_model<B: BuildHasher + Drop>(alloc: Global, keys: B, seed: u32) -> Result<Model, Refusal>
+    ensures read { IfOk result (λ m. (m.text.items ≡ generated seed) × Reads m.text.items None m.problem) }
+    ensures refused { IfErr result (IsRefusedDrill seed) }
+{
+    let text = generate(alloc, u64::from(seed))?;
+    match problem_of(alloc, keys, &text, None) {
+        Ok(problem) => Ok(Model { text, problem }),
+        Err(refusal) => Err(refusal),
+    }
+}
+
+// The pool of the search of a seed's model, with its journal on a disk in memory. What that disk may fail for is want of memory.
+fn drilled_pool<B: BuildHasher + Clone + Drop>(
+    alloc: Global,
+    keys: B,
+    seed: u32,
+    nodes: u32,
+) -> Result<Pool<MemDisk>, Refusal>
+    requires few { nodes ≤ 1_000_000_000 }
+    ensures read { IfOk result (λ p. IsReadFrom p.state) }
+    ensures problem { IfOk result (λ p. Reads (generated seed) None p.state.state.problem) }
+    ensures unheld { IfOk result (λ p. p.state.state.holds ≡ []) }
+    ensures budget { IfOk result (λ p. p.budget ≡ nodes) }
+    ensures halt { IfOk result (λ p. p.halt ≡ None) }
+    ensures refused { IfErr result (IsRefusedDrill seed) }
+{
+    let again = keys.clone()?;
+    let model = drilled_model(alloc, keys, seed)?;
+    match open_of(alloc, again, MemDisk::new(alloc), model, None, nodes) {
+        Ok(pool) => Ok(pool),
+        Err((_, _)) => Err(Refusal::Memory),
+    }
+}
+
+// What comes of a search over a disk in memory. What that disk may fail for is want of memory.
+fn without_disk(outcome: Result<Answer, Refusal>) -> Result<Answer, Refusal>
+    ensures { result ≡ without_disk outcome }
+{
+    match outcome {
+        Err(Refusal::Disk) => Err(Refusal::Memory),
+        outcome => outcome,
+    }
+}
+
+// What comes of solving the model of a seed, and the state at which the search ended, if it began.
+pub fn drill<B: BuildHasher + Clone + Drop, C: Sink>(
+    alloc: Global,
+    keys: B,
+    seed: u32,
+    request: &Request,
+    cert: &mut C,
+) -> (Result<Answer, Refusal>, Option<State>)
+    requires { HasRanges request.now }
+    ensures { IsDrilled request.now seed (sink_change C.tells C.taken C.faults cert.old cert.new) (option_map search_of result.1) result.0 }
+{
+    let pool = match drilled_pool(alloc, keys, seed, request.limits().nodes) {
+        Ok(pool) => pool,
+        Err(refusal) => return (Err(refusal), None),
+    };
+    let Searched {
+        outcome,
+        state,
+        disk: _,
+    } = search_on(alloc, pool, request, cert);
+    (without_disk(outcome), Some(state))
+}
