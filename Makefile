@@ -4,7 +4,8 @@
 # make demo: solves examples/one.mps, and shows the answer and the certificate. It takes the proved program where there is one. Else it
 # builds the same program without its proof, and says so.
 # make build: builds the proved program. What was proved in this checkout before is kept.
-# make install PREFIX=DIR: puts the proved program into DIR/bin, by default /usr/local/bin.
+# make install PREFIX=DIR: puts the proved program into DIR/bin, and its manual page into DIR/share/man/man1. DIR is /usr/local by default.
+# DESTDIR=DIR puts all of that below another root.
 
 PREFIX ?= /usr/local
 program = crates/bnc_cli/out/bnc_cli
@@ -23,6 +24,8 @@ demo: kit
 install: build
 	install -d '$(DESTDIR)$(PREFIX)/bin'
 	install -m 755 $(program) '$(DESTDIR)$(PREFIX)/bin/bnc'
+	install -d '$(DESTDIR)$(PREFIX)/share/man/man1'
+	install -m 644 docs/bnc.1 '$(DESTDIR)$(PREFIX)/share/man/man1/bnc.1'
 
 # `rt run` proves and builds the program. The run itself only shows that it starts.
 build: kit
