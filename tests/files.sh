@@ -178,6 +178,15 @@ N1 G 1 0 { lin 3 0 1 2 -2 5 -2 } -1
 N0 G 1 0 { uns 12 5 11 6 } -1
 END
 
+# A model whose search without cuts takes some hundred nodes.
+{
+    printf '%s\n' 'NAME odd' ROWS ' N obj' ' E r' COLUMNS " m 'MARKER' 'INTORG'"
+    printf ' x%d r 2\n' {1..10}
+    printf '%s\n' " m 'MARKER' 'INTEND'" RHS ' rhs r 11' BOUNDS
+    printf ' BV b x%d\n' {1..10}
+    echo ENDATA
+} | text odd
+
 # A certificate is made, or takes the place of an older one.
 try 'a new certificate' 0 'bnc solve one.mps j c >out' c=cert out=lines
 try 'over an older certificate' 0 'cp "$texts/long" c; bnc solve one.mps j c >out' c=cert out=lines
@@ -185,6 +194,9 @@ try 'over a link to an older certificate' 0 'cp "$texts/long" old; ln -s old c; 
 try 'through a link to no file' 0 'ln -s new c; bnc solve one.mps j c >out' new=cert out=lines
 try 'into a named pipe' 0 'mkfifo c; cat c >got & bnc solve one.mps j c >out && wait' got=cert out=lines
 try 'to the null device' 0 'bnc solve one.mps j /dev/null >out' out=lines
+try 'a new certificate in another folder' 0 'mkdir d; bnc solve one.mps j d/c >out' d/c=cert out=lines
+try 'through a link to no file in another folder' 0 'mkdir d; ln -s d/new c; bnc solve one.mps j c >out' d/new=cert out=lines
+try 'into a file that is open already' 0 'bnc solve one.mps j /dev/fd/3 3<>c >out' c=cert out=lines
 try 'words that are no command' 2 'bnc solve one.mps j >out' out=usage
 try 'one path twice' 2 'bnc solve one.mps one.mps c >out' out=usage c=none
 
@@ -294,9 +306,14 @@ if command -v flock >/dev/null; then
     try 'the journal is in use' 6 'flock j "$scratch/bnc" solve one.mps j c >out' out=disk c=none
     try 'the journal is in use, and only begun' 6 'cp "$texts/begun" j; flock j "$scratch/bnc" resume j c >out' j=begun out=disk c=none
     try 'the journal is in use, and is shown' 0 'flock j "$scratch/bnc" show j >out' out=shown
+    for cert in c ./c hard soft /dev/fd/3; do
+        try "the certificate is a file in use: $cert" 7 "cp \"\$texts/earlier\" c; ln c hard; ln -s c soft; flock c \"\$scratch/bnc\" solve one.mps j $cert 3<>c >out" out=sink c=earlier
+    done
 else
-    echo 'not tried, for want of the command flock: a journal that is in use'
+    echo 'not tried, for want of the command flock: a journal or a certificate that is in use'
 fi
+try 'the certificate is the journal, which is renamed while the search goes on' 7 'cp "$texts/odd" m; bnc solve m k c --cuts 0 >out & until [ -e k ] && [ "$(stat -c %s k)" -gt 1000 ]; do :; done
+    mv k c; wait $! || status=$?; bnc show c | grep -qx "open 0"; exit $status' out=sink k=none
 
 # The disk is full.
 try 'no file may get longer' 6 'set -o pipefail; (trap "" XFSZ; ulimit -f 0; bnc solve one.mps new c) | cat >out' out=disk new=empty c=none
@@ -343,6 +360,10 @@ try 'the certificate is in a file' 7 'bnc solve one.mps j one.mps/c >out' out=si
 try 'the certificate is on a full device' 7 'bnc solve one.mps j /dev/full >out' out=sink
 try 'the certificate may only be read' 7 'cp "$texts/earlier" c; chmod 444 c; bnc_as_user solve one.mps j c >out' out=sink c=earlier
 try 'the folder of the certificate may only be read' 7 'mkdir -m 555 d; bnc_as_user solve one.mps j d/c >out; status=$?; chmod 755 d; exit $status' out=sink d/c=none
+for cert in d/c c; do
+    try "the folder of the certificate may not be read: $cert" 7 "mkdir -m 333 d; ln -s d/c c; bnc_as_user solve one.mps j $cert >out; status=\$?; chmod 755 d; exit \$status" out=sink d/c=cert
+done
+try 'the certificate is a file without a name' 7 'exec 3<>gone; rm gone; bnc solve one.mps j /dev/fd/3 >out' out=sink gone=none
 try 'the lines go to a full device' 7 'bnc solve one.mps j c >/dev/full' c=cert
 try 'the certificate and the lines go to a full device' 7 'bnc solve one.mps j /dev/stdout >/dev/full'
 try 'the model is a folder' 5 'mkdir m; bnc solve m j c >out' out=read c=none

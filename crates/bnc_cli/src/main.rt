@@ -42,8 +42,7 @@ fn words_of(rt: &HostRuntime) -> Result<Words, AllocError> {
     Ok(words)
 }
 
-/// One run over the files of the paths, of which the certificate spares the other two. Its status, but `Sink` where all was written and
-/// the certificate can't be kept.
+/// The status of one run over the files of the paths, of which the certificate spares the other two.
 fn status_of<
     R: Threads + Wait + Sync + Files<File = File>,
     B: BuildHasher + Clone + Drop,
@@ -59,7 +58,7 @@ fn status_of<
 ) -> u8 {
     let mut model = FileSource::open(rt, paths.model.as_deref());
     let destination = Destination {
-        path: paths.cert.as_deref(),
+        path: paths.cert.as_ref(),
         spared: Spared {
             open: model.inode(),
             paths: [paths.model.as_deref(), paths.journal.as_deref()],
@@ -71,9 +70,6 @@ fn status_of<
     let ran = run(
         rt, alloc, keys, words, &mut model, disk, &mut cert, &mut out, &NoHold,
     );
-    if cert.finish().is_err() && ran.status == Status::Done.number() {
-        return Status::Sink.number();
-    }
     ran.status
 }
 

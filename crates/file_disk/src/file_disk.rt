@@ -2,7 +2,6 @@
 ghost use Rattle.std.specs.Prelude.{◌≡◌, is_err};
 ghost use Rattle.outside.specs.Faults.{Counts};
 
-use crate::entry::sync_entry;
 use crate::opened::Opened;
 use outside::{Disk, Failed};
 use std::fs::File;
@@ -144,7 +143,7 @@ impl<'a, R: Files<File = File>> FileDisk<'a, R> {
         };
         opened.sync()?;
         if !self.entered {
-            sync_entry(self.files, path, opened)?;
+            opened.sync_entry(self.files, path)?;
             self.entered = true;
         }
         Ok(())

@@ -1,11 +1,9 @@
 //! A disk that is a file of the system. No contract can say which bytes a file holds, so that a user's journal is kept rests on these lines.
 //!
-//! - `opened`: how the file is found, made, taken for writing, read and written.
-//! - `entry`: that the file is still there after a crash.
+//! - `opened`: how the file is found, made, taken for writing, read, written and synced.
 //! - `file_disk`: the disk, with its count of faults.
 #![tactic(auto)]
 
-mod entry;
 mod file_disk;
 mod opened;
 #[cfg(test)]

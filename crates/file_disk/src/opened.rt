@@ -1,4 +1,5 @@
 // The file of a disk: how it is found, made, taken for writing, read and written.
+use file_entry::{is_link, sync_entry};
 use outside::Failed;
 use std::fs;
 use std::fs::{File, Metadata, OpenOptions};
@@ -135,14 +136,14 @@ impl Opened {
             Err(_) => Err(Failed),
         }
     }
-}
 
-/// Whether the path is a link. It needn't lead to a file.
-pub(crate) fn is_link<R: Files>(files: &R, path: &str) -> Result<bool, Failed> {
-    match fs::symlink_metadata(files, path) {
-        Ok(data) => Ok(data.is_symlink()),
-        Err(error) if error.kind() == ErrorKind::NotFound => Ok(false),
-        Err(_) => Err(Failed),
+    /// Waits until the file's entry at the path is on the disk.
+    pub(crate) fn sync_entry<R: Files<File = File>>(
+        &self,
+        files: &R,
+        path: &String,
+    ) -> Result<(), Failed> {
+        sync_entry(files, path, &self.file)
     }
 }
 

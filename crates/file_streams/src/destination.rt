@@ -5,7 +5,7 @@ use crate::inode::Inode;
 use crate::spared::Spared;
 use crate::target::Target;
 use outside::Failed;
-use std::fs::{File, OpenOptions};
+use std::fs::{File, OpenOptions, TryLockError};
 use std::io::{Stderr, Stdout};
 use std::rt::Files;
 
@@ -13,7 +13,7 @@ use std::rt::Files;
 #[derive(Clone, Copy)]
 pub struct Destination<'a> {
     /// The file, if there is to be one.
-    pub path: Option<&'a str>,
+    pub path: Option<&'a String>,
     /// The files that this one must not be.
     pub spared: Spared<'a>,
     /// The program's own streams, whose files this one may be.
@@ -21,12 +21,13 @@ pub struct Destination<'a> {
 }
 
 impl Destination<'_> {
-    /// Finds the file, or makes it. A standard stream's own is left as it stands, and another is emptied. It fails at a file that is to be spared, and
-    /// where it can't be told which file it is, and then no byte of it has changed.
+    /// Finds the file, or makes it. A standard stream's own is left as it stands, and another is emptied. It fails at a file that is to be spared or is in
+    /// use, and where it can't be told which file it is, and then no byte of it has changed.
     pub(crate) fn target<R: Files<File = File>>(&self, files: &R) -> Result<Target, Failed> {
         let Some(path) = self.path else {
             return Err(Failed);
         };
+        let path = path.as_str();
         match self.stream_at(files, path)? {
             Some(target) => Ok(target),
             None => self.emptied(files, path),
@@ -59,7 +60,7 @@ impl Destination<'_> {
         };
         let inode = Inode::of(&file)?;
         self.check(files, inode)?;
-        if inode.keeps_bytes && file.set_len(0).is_err() {
+        if inode.keeps_bytes && (is_in_use(&file) || file.set_len(0).is_err()) {
             return Err(Failed);
         }
         Ok(Target::Own(file))
@@ -75,4 +76,10 @@ impl Destination<'_> {
             Ok(())
         }
     }
+}
+
+// Locks the file until it is closed, and tells whether another had it locked, as a run has its journal, whatever the name of that is by now. Where
+// the file system has no locks, no journal is in use.
+fn is_in_use(file: &File) -> bool {
+    matches!(file.try_lock(), Err(TryLockError::WouldBlock))
 }

@@ -1,6 +1,5 @@
 // A sink that is a file.
-ghost use Rattle.std.specs.Prelude.{◌≡◌, ◌≤◌, length, is_err, IfOk};
-ghost use Rattle.outside.specs.Faults.{Counts};
+ghost use Rattle.std.specs.Prelude.{◌≡◌, ◌≤◌, length, IfOk};
 
 use crate::destination::Destination;
 use crate::target::Target;
@@ -9,11 +8,13 @@ use std::fs::File;
 use std::rt::Files;
 
 /// A file, found or made at the first write. It keeps nothing back: a write that succeeds was handed to the system, so one that the system refuses
-/// fails at once. Its count stays at the last number of 64 bits.
+/// fails at once. To finish is to sync the file and its entry in its folder. Its count stays at the last number of 64 bits.
 pub struct FileSink<'a, R: Files<File = File>> {
     files: &'a R,
     destination: Destination<'a>,
     target: Option<Target>,
+    /// Whether a sync has failed. The system may then have dropped what it couldn't write, and tell so only once.
+    unsynced: bool,
     faults: u64,
 }
 
@@ -23,6 +24,7 @@ impl<'a, R: Files<File = File>> Drop for FileSink<'a, R> {
             files: _,
             destination: _,
             target: _,
+            unsynced: _,
             faults: _,
         } = self;
     }
@@ -37,21 +39,28 @@ impl<'a, R: Files<File = File>> FileSink<'a, R> {
             files,
             destination,
             target: None,
+            unsynced: false,
             faults: 0,
         }
     }
 
-    /// Waits until what was written lies on the disk, if anything was.
-    pub fn finish(&mut self) -> Result<(), Failed>
-        ensures { Counts self.old.faults self.new.faults (is_err result) }
-    {
-        let synced = match &self.target {
-            Some(target) => target.sync(),
-            None => Ok(()),
-        };
-        if synced.is_err() {
-            self.faults = self.faults.saturating_add(1);
+    // Waits until what was written lies on the disk, if anything was.
+    fn sync(&self) -> Result<(), Failed> {
+        match (&self.target, self.destination.path) {
+            (Some(target), Some(path)) => target.sync(self.files, path),
+            _ => Ok(()),
         }
+    }
+
+    // The same, unless that has failed before.
+    fn try_finish(&mut self) -> Result<(), Failed>
+        ensures { self.new.faults ≡ self.old.faults }
+    {
+        if self.unsynced {
+            return Err(Failed);
+        }
+        let synced = self.sync();
+        self.unsynced = synced.is_err();
         synced
     }
 
@@ -79,6 +88,8 @@ impl<'a, R: Files<File = File>> Sink for FileSink<'a, R> {
 
     ghost faults = { λ s. s.faults };
 
+    ghost kept = { λ _. [] };
+
     // A file that takes nothing of a piece has failed.
     fn write(&mut self, piece: &[u8]) -> Put {
         match self.try_write(piece) {
@@ -88,5 +99,13 @@ impl<'a, R: Files<File = File>> Sink for FileSink<'a, R> {
                 Put::Failed
             }
         }
+    }
+
+    fn finish(&mut self) -> Result<(), Failed> {
+        let finished = self.try_finish();
+        if finished.is_err() {
+            self.faults = self.faults.saturating_add(1);
+        }
+        finished
     }
 }

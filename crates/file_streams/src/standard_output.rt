@@ -2,7 +2,7 @@
 ghost use Rattle.std.specs.Prelude.{◌≡◌};
 
 use crate::retried::write_some;
-use outside::{Put, Sink};
+use outside::{Failed, Put, Sink};
 use std::io::Stdout;
 
 /// The standard output. It keeps nothing back.
@@ -30,6 +30,8 @@ impl Sink for StandardOutput {
 
     ghost faults = { λ s. s.faults };
 
+    ghost kept = { λ _. [] };
+
     // An output that takes nothing of a piece has failed.
     fn write(&mut self, piece: &[u8]) -> Put {
         match write_some(&mut self.out, piece) {
@@ -39,5 +41,10 @@ impl Sink for StandardOutput {
                 Put::Failed
             }
         }
+    }
+
+    // What was taken was handed to the system, and `std` can't sync a stream.
+    fn finish(&mut self) -> Result<(), Failed> {
+        Ok(())
     }
 }

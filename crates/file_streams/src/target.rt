@@ -2,9 +2,11 @@
 ghost use Rattle.std.specs.Prelude.{◌≤◌, length, IfOk};
 
 use crate::retried::write_some;
+use file_entry::sync_entry;
 use outside::Failed;
 use std::fs::File;
 use std::io::{ErrorKind, Stderr, Stdout};
+use std::rt::Files;
 
 /// What a file's sink writes to.
 #[derive(Drop)]
@@ -31,15 +33,24 @@ impl Target {
         done.map_err(|_| Failed)
     }
 
-    /// Waits until what was written lies on the disk. Nothing is to be waited for at a standard stream, nor at a device or a pipe, which can't be
-    /// synced.
-    pub(crate) fn sync(&self) -> Result<(), Failed> {
+    /// Waits until what was written lies on the disk, and the entry of the file, which the path leads to. Nothing is to be waited for at a standard
+    /// stream, nor at a device or a pipe, which can't be synced.
+    pub(crate) fn sync<R: Files<File = File>>(
+        &self,
+        files: &R,
+        path: &String,
+    ) -> Result<(), Failed> {
         let Target::Own(file) = self else {
             return Ok(());
         };
         match file.sync_all() {
-            Ok(()) => Ok(()),
-            Err(error) if error.kind() == ErrorKind::InvalidInput => Ok(()),
+            Ok(()) => {}
+            Err(error) if error.kind() == ErrorKind::InvalidInput => return Ok(()),
+            Err(_) => return Err(Failed),
+        }
+        match file.metadata() {
+            Ok(data) if data.is_file() => sync_entry(files, path, file),
+            Ok(_) => Ok(()),
             Err(_) => Err(Failed),
         }
     }

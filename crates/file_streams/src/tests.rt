@@ -2,6 +2,7 @@
 use crate::retried::{read_some, write_some};
 use crate::{Destination, FileSink, FileSource, Spared};
 use outside::{Got, Put, Sink, Source, write_all};
+use std::fs::File;
 use std::io::{ErrorKind, Read, Write};
 use std::test::Fail;
 use std::{env, fs, io, process};
@@ -24,7 +25,7 @@ fn sink(rt: HostRuntime) -> Result<(), Fail> {
     let path = scratch(&rt, "sink")?;
     fs::write(&rt, path.as_str(), "old and long\n")?;
     let there = Destination {
-        path: Some(path.as_str()),
+        path: Some(&path),
         spared: NONE,
         streams: (rt.stdout(), rt.stderr()),
     };
@@ -58,7 +59,7 @@ fn a_file_under_another_name_is_spared(rt: HostRuntime) -> Result<(), Fail> {
     fs::write(&rt, path.as_str(), "NAME one\n")?;
     fs::hard_link(&rt, path.as_str(), other.as_str())?;
     let by_path = Destination {
-        path: Some(other.as_str()),
+        path: Some(&other),
         spared: Spared {
             open: Ok(None),
             paths: [None, Some(path.as_str())],
@@ -68,7 +69,7 @@ fn a_file_under_another_name_is_spared(rt: HostRuntime) -> Result<(), Fail> {
     assert_eq!(rt; FileSink::new(&rt, by_path).write(b"VER"), Put::Failed);
     let source = FileSource::open(&rt, Some(path.as_str()));
     let while_open = Destination {
-        path: Some(other.as_str()),
+        path: Some(&other),
         spared: Spared {
             open: source.inode(),
             paths: [None, None],
@@ -81,6 +82,49 @@ fn a_file_under_another_name_is_spared(rt: HostRuntime) -> Result<(), Fail> {
     let after = fs::read_to_string(&rt, other.as_str())?;
     assert_eq!(rt; after.as_str(), "NAME one\n");
     fs::remove_file(&rt, other.as_str())?;
+    Ok(())
+}
+
+#[test]
+fn a_file_in_use_is_spared(rt: HostRuntime) -> Result<(), Fail> {
+    let path = scratch(&rt, "in-use")?;
+    fs::write(&rt, path.as_str(), "BNCJRNL1")?;
+    let there = Destination {
+        path: Some(&path),
+        spared: NONE,
+        streams: (rt.stdout(), rt.stderr()),
+    };
+    let mut sink = FileSink::new(&rt, there);
+    let user = File::open(&rt, path.as_str())?;
+    assert!(rt; user.try_lock().is_ok());
+    assert_eq!(rt; sink.write(b"VER"), Put::Failed);
+    let held = fs::read_to_string(&rt, path.as_str())?;
+    assert_eq!(rt; held.as_str(), "BNCJRNL1");
+    drop(user);
+    assert_eq!(rt; sink.write(b"VER"), Put::Took(3));
+    assert_eq!(rt; FileSink::new(&rt, there).write(b"VER"), Put::Failed);
+    assert!(rt; sink.finish().is_ok());
+    fs::remove_file(&rt, path.as_str())?;
+    Ok(())
+}
+
+#[test]
+fn a_file_whose_name_is_gone_is_not_kept(rt: HostRuntime) -> Result<(), Fail> {
+    let path = scratch(&rt, "gone")?;
+    let other = scratch(&rt, "renamed")?;
+    let there = Destination {
+        path: Some(&path),
+        spared: NONE,
+        streams: (rt.stdout(), rt.stderr()),
+    };
+    let mut sink = FileSink::new(&rt, there);
+    assert!(rt; sink.finish().is_ok());
+    assert_eq!(rt; sink.write(b"VER"), Put::Took(3));
+    fs::rename(&rt, path.as_str(), other.as_str())?;
+    assert!(rt; sink.finish().is_err());
+    fs::rename(&rt, other.as_str(), path.as_str())?;
+    assert!(rt; sink.finish().is_err());
+    fs::remove_file(&rt, path.as_str())?;
     Ok(())
 }
 

@@ -1,5 +1,5 @@
 -- What the source and the sink in memory hold.
-use Rattle.std.specs.Prelude.{ℕ, List, drop}
+use Rattle.std.specs.Prelude.{ℕ, List, take, drop}
 use Rattle.outside.specs.declared.mem_source.MemSource.{MemSource}
 use Rattle.outside.specs.declared.mem_sink.MemSink.{MemSink}
 
@@ -23,7 +23,11 @@ source_failing s = s.failing.items
 abbrev pub sink_taken : MemSink → List ℕ
 sink_taken s = s.bytes.items
 
--- how often a write has failed
+-- the bytes that are kept
+abbrev pub sink_kept : MemSink → List ℕ
+sink_kept s = take s.finished s.bytes.items
+
+-- how often a call has failed
 abbrev pub sink_faults : MemSink → ℕ
 sink_faults s = s.faults
 

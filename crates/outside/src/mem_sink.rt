@@ -1,23 +1,26 @@
 // A sink in memory, for tests.
-ghost use Rattle.std.specs.Prelude.{◌≡◌, ◌<◌, ℕ, List, [], IfOk};
+ghost use Rattle.std.specs.Prelude.{◌≡◌, ◌<◌, ◌≤◌, ℕ, List, [], length, IfOk};
 
-use crate::{Put, Sink};
+use crate::{Failed, Put, Sink};
 use std::alloc::{AllocError, Global};
 
-/// A sink in memory, which tells all. It takes at most `most` bytes at a call, and fails at the calls that are listed,
-/// counted from 0, and for want of memory.
+/// A sink in memory, which tells all. It takes at most `most` bytes at a write, and fails at the calls that are listed,
+/// counted from 0, and for want of memory. It keeps what it had taken at the last `finish` that succeeded.
 #[derive(Drop)]
 pub struct MemSink {
     bytes: Vec<u8>,
+    /// How many of the bytes are kept.
+    finished: usize,
     most: usize,
     failing: Vec<u64>,
     calls: u64,
     faults: u64,
     ghost some: { 0 < most },
+    ghost within: { finished ≤ length bytes.items },
 }
 
 impl MemSink {
-    ghost use Rattle.outside.specs.InMemory.{sink_taken, sink_faults, sink_failing, sink_calls, sink_most};
+    ghost use Rattle.outside.specs.InMemory.{sink_taken, sink_kept, sink_faults, sink_failing, sink_calls, sink_most};
 
     /// A sink that has taken nothing, of which no call is to fail.
     pub fn new(alloc: Global) -> MemSink
@@ -28,6 +31,7 @@ impl MemSink {
     {
         MemSink {
             bytes: Vec::new(alloc),
+            finished: 0,
             most: usize::MAX,
             failing: Vec::new(alloc),
             calls: 0,
@@ -44,6 +48,7 @@ impl MemSink {
     {
         Ok(MemSink {
             bytes: Vec::new(alloc),
+            finished: 0,
             most: usize::MAX,
             failing: failing.to_vec(alloc)?,
             calls: 0,
@@ -62,6 +67,7 @@ impl MemSink {
     {
         let MemSink {
             bytes,
+            finished,
             most: _,
             failing,
             calls,
@@ -69,6 +75,7 @@ impl MemSink {
         } = self;
         MemSink {
             bytes,
+            finished,
             most,
             failing,
             calls,
@@ -83,7 +90,14 @@ impl MemSink {
         &self.bytes
     }
 
-    /// How many writes have failed.
+    /// The bytes that are kept.
+    pub fn kept(&self) -> &[u8]
+        ensures { result.now ≡ sink_kept self.now }
+    {
+        &self.bytes[..self.finished]
+    }
+
+    /// How many calls have failed.
     pub fn faults(&self) -> u64
         ensures { result ≡ sink_faults self.now }
     {
@@ -93,13 +107,15 @@ impl MemSink {
 
 impl Sink for MemSink {
     ghost use Rattle.std.specs.Prelude.{true};
-    ghost use Rattle.outside.specs.InMemory.{sink_taken, sink_faults};
+    ghost use Rattle.outside.specs.InMemory.{sink_taken, sink_kept, sink_faults};
 
     ghost tells = { true };
 
     ghost taken = { sink_taken };
 
     ghost faults = { sink_faults };
+
+    ghost kept = { sink_kept };
 
     fn write(&mut self, piece: &[u8]) -> Put {
         let call = self.calls;
@@ -110,5 +126,16 @@ impl Sink for MemSink {
             return Put::Failed;
         }
         Put::Took(count)
+    }
+
+    fn finish(&mut self) -> Result<(), Failed> {
+        let call = self.calls;
+        self.calls = self.calls.saturating_add(1);
+        if self.failing.contains(&call) {
+            self.faults = self.faults.saturating_add(1);
+            return Err(Failed);
+        }
+        self.finished = self.bytes.len();
+        Ok(())
     }
 }

@@ -1,7 +1,9 @@
 // A sink of bytes.
-ghost use Rattle.std.specs.Prelude.{◌≡◌, ◌<◌, List, ℕ, Bool, true, length};
+ghost use Rattle.std.specs.Prelude.{◌≡◌, ◌<◌, List, ℕ, Bool, true, length, OnOk, is_err};
 ghost use Rattle.outside.specs.Faults.{Counts};
 ghost use Rattle.outside.specs.Stream.{IsPut, Appends, failed_write};
+
+use crate::Failed;
 
 /// What one write took.
 #[derive(Clone, Copy, Debug, PartialEq, Eq)]
@@ -20,8 +22,11 @@ pub trait Sink {
     /// The bytes that were taken.
     ghost taken: { Self → List ℕ };
 
-    /// How often a write has failed.
+    /// How often a call has failed.
     ghost faults: { Self → ℕ };
+
+    /// Bytes that outlive the end of the program and a crash.
+    ghost kept: { Self → List ℕ };
 
     /// Appends a prefix of the piece, of at least one byte, to what was taken.
     fn write(&mut self, piece: &[u8]) -> Put
@@ -30,4 +35,11 @@ pub trait Sink {
         ensures bytes { tells ≡ true → Appends (taken self.old) (taken self.new) piece.now result }
         // The count rises exactly in a call that fails.
         ensures cause { Counts (faults self.old) (faults self.new) (failed_write result) };
+
+    /// Ends the writing: where it succeeds, all that was taken is kept. It takes nothing.
+    fn finish(&mut self) -> Result<(), Failed>
+        ensures bytes { tells ≡ true → taken self.new ≡ taken self.old }
+        ensures kept { tells ≡ true → OnOk result (kept self.new ≡ taken self.new) }
+        // The count rises exactly in a call that fails.
+        ensures cause { Counts (faults self.old) (faults self.new) (is_err result) };
 }

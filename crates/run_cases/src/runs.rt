@@ -6,13 +6,13 @@ use anyhow::Result;
 use outside::{MemDisk, MemSink, MemSource};
 use std::alloc::Global;
 
-/// Prints the status of a run, its lines and its certificate.
-fn show_run<R: Print + Alloc<A = Global>>(
+/// A run of the command over these, and how it ended: its status and its lines, and how often the certificate's sink failed and what it keeps.
+fn show_end<R: Print + Alloc<A = Global>>(
     rt: &R,
     model: MemSource,
     cert: MemSink,
     out: MemSink,
-) -> Result<()> {
+) -> Result<Answered> {
     let alloc = rt.alloc();
     let ran = Answered::run(
         alloc,
@@ -23,11 +23,37 @@ fn show_run<R: Print + Alloc<A = Global>>(
         out,
     )?;
     let (status, lines) = (ran.status, text_on(&ran.out));
-    println!(rt; "run status {status}, lines {lines:?}")?;
-    ran.show_certificate(rt, "run certificate")
+    let (faults, kept, taken) = (
+        ran.cert.faults(),
+        ran.cert.kept().len(),
+        ran.cert.bytes().len(),
+    );
+    println!(rt;
+        "run status {status}, lines {lines:?}, faults {faults}, kept {kept} of {taken} bytes"
+    )?;
+    Ok(ran)
 }
 
-/// Prints a run in pieces, and one for each stream that fails at its second call.
+/// The same, and prints the certificate.
+fn show_run<R: Print + Alloc<A = Global>>(
+    rt: &R,
+    model: MemSource,
+    cert: MemSink,
+    out: MemSink,
+) -> Result<()> {
+    show_end(rt, model, cert, out)?.show_certificate(rt, "run certificate")
+}
+
+/// Prints a run whose certificate is written whole, in a write for each of its 16 lines, and can't be kept.
+fn show_unfinished<R: Print + Alloc<A = Global>>(rt: &R) -> Result<()> {
+    let alloc = rt.alloc();
+    let model = MemSource::new(alloc, ONE.as_bytes())?;
+    let cert = MemSink::failing(alloc, &[16])?;
+    show_end(rt, model, cert, MemSink::new(alloc))?;
+    Ok(())
+}
+
+/// Prints a run in pieces, one for each stream that fails at its second call, and one whose certificate fails at its end.
 pub(crate) fn show<R: Print + Alloc<A = Global>>(rt: &R) -> Result<()> {
     let alloc = rt.alloc();
     let text = ONE.as_bytes();
@@ -42,5 +68,6 @@ pub(crate) fn show<R: Print + Alloc<A = Global>>(rt: &R) -> Result<()> {
     let cert = MemSink::failing(alloc, &[1])?;
     show_run(rt, MemSource::new(alloc, text)?, cert, MemSink::new(alloc))?;
     let out = MemSink::failing(alloc, &[1])?.in_pieces(10);
-    show_run(rt, MemSource::new(alloc, text)?, MemSink::new(alloc), out)
+    show_run(rt, MemSource::new(alloc, text)?, MemSink::new(alloc), out)?;
+    show_unfinished(rt)
 }

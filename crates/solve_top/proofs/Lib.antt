@@ -2,6 +2,7 @@ mod Texts
 mod LongTexts
 mod Labels
 mod Uniqueness
+mod Keeping
 mod Searching
 mod Opened
 mod Completeness

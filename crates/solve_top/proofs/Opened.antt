@@ -27,7 +27,7 @@ use Rattle.resume.specs.declared.fault.ResumeFault.{ResumeFault}
 use Rattle.resume.specs.declared.fault.ResumeFault.TheVariants as fault
 use Rattle.resume.specs.Refusals.{is_disk, is_refusal}
 use Rattle.solve_top.specs.Statuses.{refusal_of}
-use Rattle.solve_top.specs.Changes.{DiskChange, FaultCount, IsUntouched, Rises, disk_change}
+use Rattle.solve_top.specs.Changes.{DiskChange, IsUntouched, Rises, disk_change}
 use Rattle.solve_top.specs.Journals.{IsKept, IsKeptUnopened, IsOpened, IsUnopened, KeepsJournal}
 use Rattle.solve_top.specs.Models.{record_of}
 

@@ -1,5 +1,5 @@
 -- What a search that has ended keeps of its journal, and how far it went.
-use Rattle.std.specs.Prelude.{◌≡◌, ◌⊎◌, ◌≤◌, ℕ, max, Bool, true, false, is_none, if◌then◌else◌, List, [], ◌∷◌, ◌++◌, length, All, Option, Some, None, refl}
+use Rattle.std.specs.Prelude.{◌≡◌, ◌≤◌, ℕ, max, Bool, false, is_none, if◌then◌else◌, List, [], ◌∷◌, ◌++◌, length, All, Option, Some, None, refl}
 use Rattle.std.specs.List.{AllByRecursion}
 use Rattle.std.proofs.Common.{arith, sym, ◌∙◌, ap, subst}
 use Rattle.std.proofs.lemmas.List.Elements.{All-head}
@@ -7,7 +7,6 @@ use Rattle.outside.specs.Faults.{Rose, Counts}
 use Rattle.outside.specs.Images.{AtRest, resting}
 use Rattle.outside.specs.declared.moment.Moment.{Moment}
 use Rattle.problem.specs.Problem.{Problem}
-use Rattle.node_events.specs.declared.event.Event.{Event}
 use Rattle.event_core.specs.declared.entry.Entry.{Entry}
 use Rattle.event_core.specs.States.{State}
 use Rattle.event_core.specs.Histories.{state_of, journaled, AreLegal}
@@ -28,12 +27,12 @@ use Rattle.core_search.specs.Pools.{IsHaltOf, is_disk}
 use Rattle.vipr_print.specs.Unique.{IsWord}
 use Rattle.resume.specs.Models.{IsModelOf}
 use Rattle.resume.specs.Events.{node_limit, IsReadAs}
-use Rattle.resume.specs.Journals.{IsReadFrom, StandsFor, IsFreshOrStands}
+use Rattle.resume.specs.Journals.{IsReadFrom, StandsFor}
 use Rattle.solve_top.specs.declared.request.Request.{Request}
 use Rattle.solve_top.specs.Requests.{limits_in}
-use Rattle.solve_top.specs.Changes.{DiskChange, FaultCount, Rises, disk_change, moments_before, moments_after}
+use Rattle.solve_top.specs.Changes.{DiskChange, Rises, disk_change, moments_before, moments_after}
 use Rattle.solve_top.specs.Journals.{IsKept}
-use Rattle.solve_top.specs.Searches.{Search, search_of, begin_of, end_of, events_read}
+use Rattle.solve_top.specs.Searches.{search_of, begin_of, events_read}
 use Rattle.solve_top.specs.Steps.{IsWithin}
 use Rattle.resume.specs.Lemmas.Standing.{given_read, journal_stands, prefix_stands}
 use Rattle.solve_top.proofs.Uniqueness.{names_are_words}

@@ -15,7 +15,7 @@ use Rattle.cert_merge.specs.Merged.{merged, claim_of}
 use Rattle.cert_tree.specs.Laws.{IsTrueClaim, MergedIsValid, MergedIsTrue, InfeasibilityIsExact}
 use Rattle.vipr_print.specs.Spelling.{text_of}
 use Rattle.vipr_print.specs.Unique.{SpellsOnly}
-use Rattle.solve_top.specs.Changes.{SinkChange, Takes, TakesPrefix}
+use Rattle.solve_top.specs.Changes.{SinkChange, Takes, TakesPrefix, KeepsAll}
 use Rattle.solve_top.specs.Output.{answer_line, answer_lines, finished_lines, spent_lines}
 use Rattle.solve_top.specs.declared.request.Request.{Request}
 use Rattle.solve_top.specs.declared.request.Request.TheVariants.{Solve, Resume, Show, Drill}
@@ -81,8 +81,8 @@ module _ (r : Recorded) (stands : r.state ≡ state_of r.state.problem r.history
     prefix_end cert h = subst (λ (d : Cert). TakesPrefix cert (text_of d)) merges h
 
     pub solved_end : (cert : SinkChange) → MergedIsValid r.state.problem → MergedIsTrue r.state.problem → InfeasibilityIsExact r.state.problem
-        → SpellsOnly c → Takes cert (text_of c) → IsSolved (search_of r) cert
-    solved_end cert valid true_claim exact only spells = record {
+        → SpellsOnly c → Takes cert (text_of c) → KeepsAll cert → IsSolved (search_of r) cert
+    solved_end cert valid true_claim exact only spells lasts = record {
       certificate = c;
       finished = has_finished;
       merges = merges;
@@ -91,4 +91,5 @@ module _ (r : Recorded) (stands : r.state ≡ state_of r.state.problem r.history
       valid = valid_end valid;
       claim = subst (λ (d : Cert). IsTrueClaim r.state.problem d.points d.claim) (sym merges) (true_claim r.history has_finished);
       exact = subst (λ (d : Cert). IsVoid r.state.problem ↔ (d.claim ≡ Infeas)) (sym merges) (exact r.history has_finished);
+      lasts = lasts;
     }

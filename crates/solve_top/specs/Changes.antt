@@ -24,11 +24,12 @@ pub record SourceChange : Type 0 where
   pub text : List ℕ
   pub faults : FaultCount
 
--- a sink: whether it tells what it took, all that it had taken before and after the call, and its faults
+-- a sink: whether it tells what it took, all that it had taken before and after the call, what a crash leaves of that after it, and its faults
 pub record SinkChange : Type 0 where
   pub tells : Bool
   pub bytes_before : List ℕ
   pub bytes_after : List ℕ
+  pub kept_after : List ℕ
   pub faults : FaultCount
 
 -- a disk: whether it tells what a crash leaves, the moments that went by before the call and the moment then, the same after the call, and its faults
@@ -45,9 +46,14 @@ abbrev pub source_change : {A : Type 0} → Bool → (A → List ℕ) → (A →
 source_change tells left faults old new = record { tells = tells; text = left old; faults = record { before = faults old; after = faults new } }
 
 -- the change of a sink, by what its kind says of it
-abbrev pub sink_change : {A : Type 0} → Bool → (A → List ℕ) → (A → ℕ) → A → A → SinkChange
-sink_change tells taken faults old new =
-    record { tells = tells; bytes_before = taken old; bytes_after = taken new; faults = record { before = faults old; after = faults new } }
+abbrev pub sink_change : {A : Type 0} → Bool → (A → List ℕ) → (A → List ℕ) → (A → ℕ) → A → A → SinkChange
+sink_change tells taken kept faults old new = record {
+  tells = tells;
+  bytes_before = taken old;
+  bytes_after = taken new;
+  kept_after = kept new;
+  faults = record { before = faults old; after = faults new };
+}
 
 -- the change of a disk, by what its kind says of it
 abbrev pub disk_change : {A : Type 0} → Bool → (A → List Moment) → (A → Moment) → (A → ℕ) → A → A → DiskChange
@@ -83,6 +89,10 @@ TakesPrefix sink text = sink.tells ≡ true → AppendsPrefix sink.bytes_before 
 -- it took no byte
 abbrev pub TakesNothing : SinkChange → Type 0
 TakesNothing sink = sink.tells ≡ true → sink.bytes_after ≡ sink.bytes_before
+
+-- a crash leaves all that it has taken
+abbrev pub KeepsAll : SinkChange → Type 0
+KeepsAll sink = sink.tells ≡ true → sink.kept_after ≡ sink.bytes_after
 
 -- it took all of the text and did not fail, or it took a prefix and failed
 abbrev pub IsTold : SinkChange → List ℕ → Type 0

@@ -104,7 +104,7 @@ pub record EndsAsDiskFault (q : Request) (r : Run) : Type 0 where
   pub kept : Stays r.cert.faults
   pub search : (s : Search) → r.last ≡ Some s → IsSearchOf q r.model r.disk s
 
--- 0: the search is finished, and the certificate and the lines are written; or the figures of the journal are
+-- 0: the search is finished, the certificate is kept, and the lines are written; or the figures of the journal are
 pub record EndsAsDone (q : Request) (r : Run) : Type 0 where
   pub number : r.number ≡ exit_number status.Done
   pub search : Search
@@ -143,7 +143,8 @@ pub record EndsAsSpent (q : Request) (r : Run) : Type 0 where
   pub kept : Stays r.cert.faults
   pub quiet : Stays r.out.faults
 
--- 7: the certificate's sink failed, after a prefix of the certificate of a finished search; or the lines' sink did, after a prefix of the lines
+-- 7: the certificate's sink failed, after a prefix of the certificate of a finished search, or at its end; or the lines' sink did, after a prefix of
+-- the lines
 pub record EndsAsCertificateFault (q : Request) (r : Run) : Type 0 where
   pub number : r.number ≡ exit_number status.Sink
   pub search : Search
@@ -153,7 +154,7 @@ pub record EndsAsCertificateFault (q : Request) (r : Run) : Type 0 where
   pub rises : Rises r.cert.faults
   pub told : IsTold r.out (codes "fault sink\n")
 
--- The lines' sink failed after a prefix of the lines that were due: of a search that is handed back and whose certificate is written, or which is spent,
+-- The lines' sink failed after a prefix of the lines that were due: of a search that is handed back and whose certificate is kept, or which is spent,
 -- or of a journal that is shown.
 pub data BreaksOff (q : Request) (r : Run) : Type 0 where
   in_answer : (s : Search) → HandsBack q r s → IsSolved s r.cert → TakesPrefix r.out (lines_for q s) → BreaksOff q r

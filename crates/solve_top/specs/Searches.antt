@@ -18,7 +18,7 @@ use Rattle.vipr_print.specs.Spelling.{text_of}
 use Rattle.vipr_print.specs.Unique.{SpellsOnly}
 use Rattle.solve_top.specs.declared.request.Request.{Request}
 use Rattle.solve_top.specs.declared.request.Request.TheVariants.{Solve, Resume, Show, Drill}
-use Rattle.solve_top.specs.Changes.{SourceChange, SinkChange, DiskChange, Takes}
+use Rattle.solve_top.specs.Changes.{SourceChange, SinkChange, DiskChange, Takes, KeepsAll}
 use Rattle.solve_top.specs.Requests.{limits_in}
 use Rattle.solve_top.specs.Models.{IsProblemOf}
 use Rattle.solve_top.specs.Output.{answer_line, answer_lines, spent_lines}
@@ -92,7 +92,7 @@ lines_for Show s = lines_due s
 lines_for (Drill seed limits) s = answer_due s
 
 -- The search is finished, and what the sink took spells its certificate, which is valid and claims the truth: infeasibility exactly where no point
--- is feasible, else a best point. No other spellable certificate has that text.
+-- is feasible, else a best point. No other spellable certificate has that text. The sink keeps it.
 pub record IsSolved (s : Search) (cert : SinkChange) : Type 0 where
   pub certificate : Cert
   pub finished : HasFinished s
@@ -102,3 +102,4 @@ pub record IsSolved (s : Search) (cert : SinkChange) : Type 0 where
   pub valid : IsValid s.problem certificate
   pub claim : IsTrueClaim s.problem certificate.points certificate.claim
   pub exact : IsVoid s.problem ↔ (certificate.claim ≡ Infeas)
+  pub lasts : KeepsAll cert

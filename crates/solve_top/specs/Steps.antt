@@ -48,8 +48,8 @@ IsReading source upper (Err refusal.Read) = Rises source.faults
 IsReading source upper (Err refusal.Memory) = Stays source.faults
 IsReading source upper (Err q) = ⊥
 
--- What came of a search that has ended. The sink took its certificate; or nothing, since the search is spent, each with the lines that are due. Or it
--- failed at a prefix of the certificate; or the disk failed; or memory was wanting, before the certificate or in it.
+-- What came of a search that has ended. The sink keeps its certificate; or it took nothing, since the search is spent, each with the lines that are
+-- due. Or it failed at a prefix of the certificate, or at its end; or the disk failed; or memory was wanting, before the certificate or in it.
 abbrev pub IsSolution : Request → Search → SinkChange → Result Answer Refusal → Type 0
 IsSolution q s cert (Ok (answer.Done lines)) = IsSolved s cert × Stays cert.faults × (lines.items ≡ lines_for q s)
 IsSolution q s cert (Ok (answer.Spent lines)) =

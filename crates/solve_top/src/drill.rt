@@ -74,7 +74,7 @@ pub fn drill<B: BuildHasher + Clone + Drop, C: Sink>(
     cert: &mut C,
 ) -> (Result<Answer, Refusal>, Option<State>)
     requires { HasRanges request.now }
-    ensures { IsDrilled request.now seed (sink_change C.tells C.taken C.faults cert.old cert.new) (option_map search_of result.1) result.0 }
+    ensures { IsDrilled request.now seed (sink_change C.tells C.taken C.kept C.faults cert.old cert.new) (option_map search_of result.1) result.0 }
 {
     let pool = match drilled_pool(alloc, keys, seed, request.limits().nodes) {
         Ok(pool) => pool,

@@ -1,7 +1,8 @@
 // Searches on in the pool of a journal, and writes the certificate of a search that is finished.
-ghost use Rattle.std.specs.Prelude.{◌≡◌, ◌≤◌, ◌<◌, [], true, false, None, All};
+ghost use Rattle.std.specs.Prelude.{◌≡◌, ◌≤◌, ◌<◌, ◌++◌, [], true, false, None, All, OnOk, OnErr};
 ghost use Rattle.outside.specs.Faults.{Counts};
 ghost use Rattle.outside.specs.Images.{AtRest};
+ghost use Rattle.outside.specs.Stream.{AppendsPrefix};
 ghost use Rattle.cert_rows.specs.Validity.{IsValid};
 ghost use Rattle.cert_merge.specs.Merged.{merged};
 ghost use Rattle.event_core.specs.States.{open_count};
@@ -12,6 +13,8 @@ ghost use Rattle.node_journal.specs.Whole.{payloads_in};
 ghost use Rattle.node_pool.specs.Payloads.{model_in};
 ghost use Rattle.resume.specs.Journals.{IsReadFrom, StandsFor};
 ghost use Rattle.resume.specs.Models.{IsModelOf};
+ghost use Rattle.vipr_print.specs.Printed.{is_sink_fault};
+ghost use Rattle.vipr_print.specs.Spelling.{text_of};
 ghost use Rattle.vipr_print.specs.Unique.{IsWord, SpellsOnly};
 ghost use Rattle.solve_top.specs.Requests.{HasRanges, limits_in};
 ghost use Rattle.solve_top.specs.Changes.{SinkChange, Stays, TakesNothing, disk_change, sink_change};
@@ -30,7 +33,7 @@ use core_search::{Ending, search};
 use event_core::State;
 use event_core::laws::journals_are_legal;
 use node_pool::Pool;
-use outside::{Disk, Sink};
+use outside::{Disk, Failed, Sink};
 use std::alloc::Global;
 use vipr_print::laws::{numbers_are_short, texts_spell_one_certificate, valid_points_are_whole};
 use vipr_print::{PrintFault, print};
@@ -49,6 +52,21 @@ fn text_spells_no_other(state: &State, certificate: &Cert)
     texts_spell_one_certificate();
 }
 
+// Writes the certificate to a sink that keeps it. After an error a prefix of it was taken, which is all of it where the sink fails at the end.
+#[tactic(auto, using(crate::proofs::Keeping::whole_is_prefix))]
+fn keep<C: Sink>(alloc: Global, certificate: &Cert, cert: &mut C) -> Result<(), PrintFault>
+    ensures whole { C.tells ≡ true → OnOk result (C.taken cert.new ≡ C.taken cert.old ++ text_of certificate.now) }
+    ensures kept { C.tells ≡ true → OnOk result (C.kept cert.new ≡ C.taken cert.new) }
+    ensures prefix { C.tells ≡ true → OnErr result (AppendsPrefix (C.taken cert.old) (C.taken cert.new) (text_of certificate.now)) }
+    ensures cause { Counts (C.faults cert.old) (C.faults cert.new) (is_sink_fault result) }
+{
+    print(alloc, certificate, cert)?;
+    match cert.finish() {
+        Ok(()) => Ok(()),
+        Err(Failed) => Err(PrintFault::Sink),
+    }
+}
+
 // Writes the certificate of a search that is finished, and makes the lines that are due then.
 fn certify<C: Sink>(
     alloc: Global,
@@ -58,7 +76,7 @@ fn certify<C: Sink>(
 ) -> Result<Answer, Refusal>
     requires names { All IsWord state.now.state.problem.names }
     requires ended { open_count state.now.state ≡ 0 }
-    ensures solution { IsSolution request.now (search_of state.now) (sink_change C.tells C.taken C.faults cert.old cert.new) result }
+    ensures solution { IsSolution request.now (search_of state.now) (sink_change C.tells C.taken C.kept C.faults cert.old cert.new) result }
     ensures disk { fails_by_disk result ≡ false }
 {
     state.conditions_hold();
@@ -72,7 +90,7 @@ fn certify<C: Sink>(
         state.book().len(),
     )?;
     text_spells_no_other(state, &certificate);
-    match print(alloc, &certificate, cert) {
+    match keep(alloc, &certificate, cert) {
         Ok(()) => Ok(Answer::Done(lines)),
         Err(PrintFault::Sink) => Err(Refusal::Sink),
         Err(PrintFault::Memory) => Err(Refusal::Memory),
@@ -121,7 +139,7 @@ fn conclude<C: Sink>(
     requires finished { ending ≡ Ending.Finished → open_count state.now.state ≡ 0 }
     requires spent { ending ≡ Ending.Spent → IsSpent (limits_in request.now).nodes state.now.state }
     requires left { ending ≡ Ending.Spent → 0 < open_count state.now.state }
-    ensures solution { IsSolution request.now (search_of state.now) (sink_change C.tells C.taken C.faults cert.old cert.new) result }
+    ensures solution { IsSolution request.now (search_of state.now) (sink_change C.tells C.taken C.kept C.faults cert.old cert.new) result }
     ensures disk { fails_by_disk result ≡ is_disk ending }
 {
     match ending {
@@ -156,7 +174,7 @@ pub fn search_on<D: Disk, C: Sink>(
     requires sound { pool.halt ≡ None }
     requires read { IsReadFrom pool.state }
     ensures within { IsWithin request.now pool.state.state.problem (search_of result.state) }
-    ensures solution { IsSolution request.now (search_of result.state) (sink_change C.tells C.taken C.faults cert.old cert.new) result.outcome }
+    ensures solution { IsSolution request.now (search_of result.state) (sink_change C.tells C.taken C.kept C.faults cert.old cert.new) result.outcome }
     ensures cause { Counts (D.count pool.journal.disk) (D.count result.disk) (fails_by_disk result.outcome) }
     // Where the journal has the record of a model of the problem, crashes leave the beginnings of a history.
     ensures kept { D.tells ≡ true → IsModelOf (model_in (payloads_in (D.now pool.journal.disk))) pool.state.state.problem → IsKept pool.journal.opened pool.state.state.problem (disk_change D.tells D.past D.now D.count pool.journal.disk result.disk) }

@@ -11,14 +11,14 @@ use std::alloc::{AllocError, Global};
 
 // Tells of a fault. That the sink fails here changes nothing of the status.
 fn tell<O: Sink>(out: &mut O, line: &[u8])
-    ensures { IsTold (sink_change O.tells O.taken O.faults out.old out.new) line.now }
+    ensures { IsTold (sink_change O.tells O.taken O.kept O.faults out.old out.new) line.now }
 {
     let _ = write_all(out, line);
 }
 
 // Tells the line of a refusal with this status, and gives the status of the run. Want of memory for the line is a status of its own.
 fn tell_line<O: Sink>(out: &mut O, line: Result<Vec<u8>, AllocError>, wanted: Status) -> Status
-    ensures { (text : List ℕ) → IfOk line (λ v. v.items ≡ text) → IsLineTold (sink_change O.tells O.taken O.faults out.old out.new) text wanted result }
+    ensures { (text : List ℕ) → IfOk line (λ v. v.items ≡ text) → IsLineTold (sink_change O.tells O.taken O.kept O.faults out.old out.new) text wanted result }
 {
     let Ok(line) = line else {
         tell(out, b"no memory\n");
@@ -30,7 +30,7 @@ fn tell_line<O: Sink>(out: &mut O, line: Result<Vec<u8>, AllocError>, wanted: St
 
 // Writes the lines of an answer with this status, and gives the status of the run.
 fn write_lines<O: Sink>(out: &mut O, lines: &[u8], wanted: Status) -> Status
-    ensures { IsWritten (sink_change O.tells O.taken O.faults out.old out.new) lines.now wanted result }
+    ensures { IsWritten (sink_change O.tells O.taken O.kept O.faults out.old out.new) lines.now wanted result }
 {
     match write_all(out, lines) {
         Ok(()) => wanted,
@@ -40,7 +40,7 @@ fn write_lines<O: Sink>(out: &mut O, lines: &[u8], wanted: Status) -> Status
 
 // Tells an answer, and gives the status of the run.
 fn tell_answer<O: Sink>(answer: Answer, out: &mut O) -> Status
-    ensures { IsToldAs (sink_change O.tells O.taken O.faults out.old out.new) (Ok answer) result }
+    ensures { IsToldAs (sink_change O.tells O.taken O.kept O.faults out.old out.new) (Ok answer) result }
 {
     match answer {
         Answer::Done(lines) => write_lines(out, &lines, Status::Done),
@@ -51,7 +51,7 @@ fn tell_answer<O: Sink>(answer: Answer, out: &mut O) -> Status
 
 // Tells why there is no answer, and gives the status of the run. Want of memory for the line is a status of its own.
 fn tell_refusal<O: Sink>(alloc: Global, refusal: Refusal, out: &mut O) -> Status
-    ensures { IsToldAs (sink_change O.tells O.taken O.faults out.old out.new) (Err refusal) result }
+    ensures { IsToldAs (sink_change O.tells O.taken O.kept O.faults out.old out.new) (Err refusal) result }
 {
     match refusal {
         Refusal::Usage => {
@@ -83,7 +83,7 @@ fn tell_refusal<O: Sink>(alloc: Global, refusal: Refusal, out: &mut O) -> Status
 
 // Tells an outcome, and gives the status of the run.
 pub fn tell_outcome<O: Sink>(alloc: Global, outcome: Result<Answer, Refusal>, out: &mut O) -> Status
-    ensures { IsToldAs (sink_change O.tells O.taken O.faults out.old out.new) outcome result }
+    ensures { IsToldAs (sink_change O.tells O.taken O.kept O.faults out.old out.new) outcome result }
 {
     match outcome {
         Ok(answer) => tell_answer(answer, out),

@@ -100,7 +100,7 @@ fn solve<B: BuildHasher + Clone + Drop, S: Source, D: Disk, C: Sink>(
 ) -> Performed<D>
     requires ranges { HasRanges request.now }
     requires solves { request.now ≡ Request.Solve (limits_in request.now) upper }
-    ensures outcome { IsPerformed request.now (source_change S.tells S.left S.faults model.old model.new) (disk_change D.tells D.past D.now D.count disk result.disk) (sink_change C.tells C.taken C.faults cert.old cert.new) (option_map search_of result.last) result.outcome }
+    ensures outcome { IsPerformed request.now (source_change S.tells S.left S.faults model.old model.new) (disk_change D.tells D.past D.now D.count disk result.disk) (sink_change C.tells C.taken C.kept C.faults cert.old cert.new) (option_map search_of result.last) result.outcome }
     ensures journal { D.tells ≡ true → AtRest (D.now disk) → KeepsJournal (disk_change D.tells D.past D.now D.count disk result.disk) (IsOwnProblem request.now (source_change S.tells S.left S.faults model.old model.new) (disk_change D.tells D.past D.now D.count disk result.disk)) }
 {
     let Ok(again) = keys.clone() else {
@@ -126,7 +126,7 @@ fn resume<B: BuildHasher + Drop, D: Disk, C: Sink>(
 ) -> Performed<D>
     requires ranges { HasRanges request.now }
     requires resumes { request.now ≡ Request.Resume (limits_in request.now) }
-    ensures outcome { (m : SourceChange) → Stays m.faults → IsPerformed request.now m (disk_change D.tells D.past D.now D.count disk result.disk) (sink_change C.tells C.taken C.faults cert.old cert.new) (option_map search_of result.last) result.outcome }
+    ensures outcome { (m : SourceChange) → Stays m.faults → IsPerformed request.now m (disk_change D.tells D.past D.now D.count disk result.disk) (sink_change C.tells C.taken C.kept C.faults cert.old cert.new) (option_map search_of result.last) result.outcome }
     ensures journal { (m : SourceChange) → D.tells ≡ true → AtRest (D.now disk) → KeepsJournal (disk_change D.tells D.past D.now D.count disk result.disk) (IsOwnProblem request.now m (disk_change D.tells D.past D.now D.count disk result.disk)) }
 {
     records_tell_apart();
@@ -147,7 +147,7 @@ fn perform<B: BuildHasher + Clone + Drop, S: Source, D: Disk, C: Sink>(
 ) -> Performed<D>
     requires { HasRanges request.now }
     ensures alone { LeavesAlone request.now (disk_change D.tells D.past D.now D.count disk result.disk) }
-    ensures outcome { IsPerformed request.now (source_change S.tells S.left S.faults model.old model.new) (disk_change D.tells D.past D.now D.count disk result.disk) (sink_change C.tells C.taken C.faults cert.old cert.new) (option_map search_of result.last) result.outcome }
+    ensures outcome { IsPerformed request.now (source_change S.tells S.left S.faults model.old model.new) (disk_change D.tells D.past D.now D.count disk result.disk) (sink_change C.tells C.taken C.kept C.faults cert.old cert.new) (option_map search_of result.last) result.outcome }
     ensures journal { D.tells ≡ true → AtRest (D.now disk) → KeepsJournal (disk_change D.tells D.past D.now D.count disk result.disk) (IsOwnProblem request.now (source_change S.tells S.left S.faults model.old model.new) (disk_change D.tells D.past D.now D.count disk result.disk)) }
 {
     match request {
@@ -176,7 +176,7 @@ fn perform<B: BuildHasher + Clone + Drop, S: Source, D: Disk, C: Sink>(
 
 // Tells what came of a command.
 fn tell<D, O: Sink>(alloc: Global, performed: Performed<D>, out: &mut O) -> Ran<D>
-    ensures status { (t : Status) × (result.status ≡ exit_number t) × IsToldAs (sink_change O.tells O.taken O.faults out.old out.new) performed.outcome t }
+    ensures status { (t : Status) × (result.status ≡ exit_number t) × IsToldAs (sink_change O.tells O.taken O.kept O.faults out.old out.new) performed.outcome t }
     ensures disk { result.disk ≡ performed.disk }
     ensures last { result.last ≡ performed.last }
 {
@@ -230,8 +230,8 @@ pub fn run_one<B: BuildHasher + Clone + Drop, S: Source, D: Disk, C: Sink, O: Si
       words = words.now;
       model = source_change S.tells S.left S.faults model.old model.new;
       disk = disk_change D.tells D.past D.now D.count disk result.disk;
-      cert = sink_change C.tells C.taken C.faults cert.old cert.new;
-      out = sink_change O.tells O.taken O.faults out.old out.new;
+      cert = sink_change C.tells C.taken C.kept C.faults cert.old cert.new;
+      out = sink_change O.tells O.taken O.kept O.faults out.old out.new;
       last = option_map search_of result.last;
       number = result.status;
     }) }
@@ -273,8 +273,8 @@ pub fn run<
       words = words.now;
       model = source_change S.tells S.left S.faults model.old model.new;
       disk = disk_change D.tells D.past D.now D.count disk result.disk;
-      cert = sink_change C.tells C.taken C.faults cert.old cert.new;
-      out = sink_change O.tells O.taken O.faults out.old out.new;
+      cert = sink_change C.tells C.taken C.kept C.faults cert.old cert.new;
+      out = sink_change O.tells O.taken O.kept O.faults out.old out.new;
       last = option_map search_of result.last;
       number = result.status;
     }) }

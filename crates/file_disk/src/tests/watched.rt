@@ -9,7 +9,7 @@ use std::rt::Files;
 
 /// It counts how often one path was opened, and can refuse that; or it refuses each opening for writing.
 #[derive(Drop)]
-pub struct Watched<'a> {
+pub(super) struct Watched<'a> {
     rt: &'a HostRuntime,
     unwritable: Option<ErrorKind>,
     path: &'a str,
@@ -18,13 +18,13 @@ pub struct Watched<'a> {
 }
 
 impl<'a> Watched<'a> {
-    pub fn refusing(rt: &'a HostRuntime, kind: ErrorKind) -> Watched<'a> {
+    pub(super) fn refusing(rt: &'a HostRuntime, kind: ErrorKind) -> Watched<'a> {
         let mut watched = Watched::at(rt, "");
         watched.unwritable = Some(kind);
         watched
     }
 
-    pub fn at(rt: &'a HostRuntime, path: &'a str) -> Watched<'a> {
+    pub(super) fn at(rt: &'a HostRuntime, path: &'a str) -> Watched<'a> {
         Watched {
             rt,
             unwritable: None,
@@ -34,15 +34,15 @@ impl<'a> Watched<'a> {
         }
     }
 
-    pub fn tries(&self) -> u32 {
+    pub(super) fn tries(&self) -> u32 {
         self.tries.get()
     }
 
-    pub fn close(&self) {
+    pub(super) fn close(&self) {
         self.closed.set(true);
     }
 
-    pub fn open(&self) {
+    pub(super) fn open(&self) {
         self.closed.set(false);
     }
 }

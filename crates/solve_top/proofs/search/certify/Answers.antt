@@ -16,7 +16,7 @@ returns-in-Ok-clause-solution g c =
     let l = c.finished_searches_are_certified.ensures in (
       solved_end c.args.state.now k.state _ k.legal c.requires.ended c.in_ok-certificate.ensures _ (subst MergedIsValid c.problem.ensures l.valid)
           (subst MergedIsTrue c.problem.ensures l.answered) (subst InfeasibilityIsExact c.problem.ensures l.exact) c.text_spells_no_other.ensures
-          c.in-Ok.ensures.whole,
+          c.in-Ok.ensures.whole c.in-Ok.ensures.kept,
       c.in-Ok.ensures.cause,
       finished_lines_are c.args.state.now k.state _ k.legal c.requires.ended c.in_ok-certificate.ensures c.args.request.now _ _ _
           (c.len.ensures ∙ ap length c.tree.ensures.nodes) (c.len-2.ensures ∙ ap length c.book.ensures) c.in_ok-lines.ensures,
@@ -27,7 +27,7 @@ returns-in-Err-Sink-clause-solution g c =
     let k = c.conditions_hold.ensures in (
       has_finished c.args.state.now k.state _ k.legal c.requires.ended c.in_ok-certificate.ensures,
       prefix_end c.args.state.now k.state _ k.legal c.requires.ended c.in_ok-certificate.ensures
-          (sink_change g.C.Sink.tells g.C.Sink.taken g.C.Sink.faults c.args.cert.now c.print.new.sink) c.in-Err-Sink.ensures.prefix,
+          (sink_change g.C.Sink.tells g.C.Sink.taken g.C.Sink.kept g.C.Sink.faults c.args.cert.now c.keep.new.cert) c.in-Err-Sink.ensures.prefix,
       (rw c.in-Err-Sink.field-0-is at c.in-Err-Sink.ensures.cause).1,
     )
 
@@ -37,7 +37,7 @@ returns-clause-solution g c =
       inr (
         has_finished c.args.state.now k.state _ k.legal c.requires.ended c.in_ok-certificate.ensures,
         prefix_end c.args.state.now k.state _ k.legal c.requires.ended c.in_ok-certificate.ensures
-            (sink_change g.C.Sink.tells g.C.Sink.taken g.C.Sink.faults c.args.cert.now c.print.new.sink) c.in-Err-Memory.ensures.prefix,
+            (sink_change g.C.Sink.tells g.C.Sink.taken g.C.Sink.kept g.C.Sink.faults c.args.cert.now c.keep.new.cert) c.in-Err-Memory.ensures.prefix,
       ),
       rw c.in-Err-Memory.field-0-is at c.in-Err-Memory.ensures.cause,
     )

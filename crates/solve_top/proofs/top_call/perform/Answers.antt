@@ -1,5 +1,5 @@
 use Rattle.std.specs.Prelude.{option_map, refl}
-use Rattle.solve_top.specs.Changes.{source_change}
+use Rattle.solve_top.specs.Changes.{sink_change, source_change}
 use Rattle.solve_top.specs.Searches.{search_of}
 use Rattle.solve_top.proofs.Opened.{kept_untouched}
 use Rattle.solve_top.proofs.Performing.{alone_by, alone_resumed, alone_searched, drilled_by, left_alone, resumes, shown, solves}
@@ -20,7 +20,8 @@ returns-in-Resume-clause-journal g c = c.resume.ensures.journal _
 pub returns-in-Show-clause-outcome : goal.returns-in-Show-clause-outcome
 returns-in-Show-clause-outcome g c =
     let m = source_change g.S.Source.tells g.S.Source.left g.S.Source.faults c.args.model.now c.args.model.now in
-    shown c.args.request.now c.in-Show.is m _ _ c.show.result c.show.ensures refl (λ told. refl) refl
+    let s = sink_change g.C.Sink.tells g.C.Sink.taken g.C.Sink.kept g.C.Sink.faults c.args.cert.now c.args.cert.now in
+    shown c.args.request.now c.in-Show.is m _ s c.show.result c.show.ensures refl (λ told. refl) refl
 
 pub returns-in-Show-clause-journal : goal.returns-in-Show-clause-journal
 returns-in-Show-clause-journal g c = λ told rests.

@@ -22,7 +22,7 @@ returns-in-Ok g c =
     opened.ensures.opened opened.ensures.cause (g.met.D.Disk.seen_is_image end.result.disk)
     (resume_about c.args.request.now _ m d c.requires.resumes c.records_tell_apart.ensures pool.state.state.problem
     (λ told. model_opened model pool.state.state.problem pool.state.history pool.journal.opened _ (opened.ensures.opened told)))
-    (sink_change g.C.Sink.tells g.C.Sink.taken g.C.Sink.faults c.args.cert.now end.new.cert) (search_of end.result.state) end.result.outcome
+    (sink_change g.C.Sink.tells g.C.Sink.taken g.C.Sink.kept g.C.Sink.faults c.args.cert.now end.new.cert) (search_of end.result.state) end.result.outcome
     end.ensures.within end.ensures.solution end.ensures.cause end.ensures.kept end.ensures.stands in
     record {
       outcome = λ m stays. rw (c.searched.ensures.outcome, c.searched.ensures.disk, c.searched.ensures.last) ((h m).0 stays);
@@ -34,7 +34,7 @@ returns-in-Err g c =
     let refused = c.in-Err in
     let d = disk_change g.D.Disk.tells g.D.Disk.past g.D.Disk.now g.D.Disk.count c.args.disk refused.disk in
     let h = λ (m : SourceChange).
-    came_to_nothing c.args.request.now m d (sink_change g.C.Sink.tells g.C.Sink.taken g.C.Sink.faults c.args.cert.now c.args.cert.now) (model_in (payloads_in (g.D.Disk.now c.args.disk)))
+    came_to_nothing c.args.request.now m d (sink_change g.C.Sink.tells g.C.Sink.taken g.C.Sink.kept g.C.Sink.faults c.args.cert.now c.args.cert.now) (model_in (payloads_in (g.D.Disk.now c.args.disk)))
     (λ f. Refuses RefusesPayloads f (records (g.D.Disk.now c.args.disk).seen)) (resume_refuses c.args.request.now _ m d c.requires.resumes) (resume_own_model c.args.request.now _ m d c.requires.resumes)
     refused.refusal refused.ensures.unopened refused.ensures.kept (λ told. refl) refl in
     record {

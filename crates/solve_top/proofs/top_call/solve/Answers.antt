@@ -23,7 +23,7 @@ pub returns-in-Err : goal.returns-in-Err
 returns-in-Err g c = record {
   outcome = rw (c.refused-in-Err.ensures.outcome, c.refused-in-Err.ensures.disk, c.refused-in-Err.ensures.last)
       (unread c.args.request.now _ c.args.upper c.requires.solves (source_change g.S.Source.tells g.S.Source.left g.S.Source.faults c.args.model.now c.read_model.new.model)
-      (disk_change g.D.Disk.tells g.D.Disk.past g.D.Disk.now g.D.Disk.count c.args.disk c.args.disk) (sink_change g.C.Sink.tells g.C.Sink.taken g.C.Sink.faults c.args.cert.now c.args.cert.now)
+      (disk_change g.D.Disk.tells g.D.Disk.past g.D.Disk.now g.D.Disk.count c.args.disk c.args.disk) (sink_change g.C.Sink.tells g.C.Sink.taken g.C.Sink.kept g.C.Sink.faults c.args.cert.now c.args.cert.now)
       c.in-Err.refusal c.in-Err.ensures refl (record { none = refl; same = refl }) (λ told. refl) refl);
   journal = λ told rests. rw c.refused-in-Err.ensures.disk
       (kept_untouched g.D.Disk.tells g.D.Disk.past g.D.Disk.now g.D.Disk.count c.args.disk c.args.disk (record { none = refl; same = refl }) rests _);
@@ -40,7 +40,7 @@ returns-in-Ok-open_of g c =
     let h = went_on g.D.Disk.tells g.D.Disk.past g.D.Disk.now g.D.Disk.count c.args.disk pool.journal.disk end.result.disk c.args.request.now m (record_of read.read.text.items c.args.upper) pool.state.state.problem
     pool.state.history pool.journal.opened opened.ensures.opened opened.ensures.cause (g.met.D.Disk.seen_is_image end.result.disk)
     (solve_about c.args.request.now _ c.args.upper m d read.read.text.items c.requires.solves read.ensures.0 pool.state.state.problem opened.ensures.reads_as)
-    (sink_change g.C.Sink.tells g.C.Sink.taken g.C.Sink.faults c.args.cert.now end.new.cert) (search_of end.result.state) end.result.outcome
+    (sink_change g.C.Sink.tells g.C.Sink.taken g.C.Sink.kept g.C.Sink.faults c.args.cert.now end.new.cert) (search_of end.result.state) end.result.outcome
     end.ensures.within end.ensures.solution end.ensures.cause end.ensures.kept end.ensures.stands in
     record {
       outcome = rw (c.searched.ensures.outcome, c.searched.ensures.disk, c.searched.ensures.last) (h.0 read.ensures.2);
@@ -54,7 +54,7 @@ returns-in-Err-open_of g c =
     let m = source_change g.S.Source.tells g.S.Source.left g.S.Source.faults c.args.model.now c.read_model.new.model in
     let d = disk_change g.D.Disk.tells g.D.Disk.past g.D.Disk.now g.D.Disk.count c.args.disk refused.disk in
     let model = record_of read.read.text.items c.args.upper in
-    let h = came_to_nothing c.args.request.now m d (sink_change g.C.Sink.tells g.C.Sink.taken g.C.Sink.faults c.args.cert.now c.args.cert.now) model (λ f. Refuses (RefusesPayloadsFor model) f (records (g.D.Disk.now c.args.disk).seen))
+    let h = came_to_nothing c.args.request.now m d (sink_change g.C.Sink.tells g.C.Sink.taken g.C.Sink.kept g.C.Sink.faults c.args.cert.now c.args.cert.now) model (λ f. Refuses (RefusesPayloadsFor model) f (records (g.D.Disk.now c.args.disk).seen))
     (solve_refuses c.args.request.now _ c.args.upper m d read.read.text.items c.requires.solves read.ensures.0)
     (solve_own_model c.args.request.now _ c.args.upper m d read.read.text.items c.requires.solves read.ensures.0 (subst HasRanges c.requires.solves c.requires.ranges).1)
     refused.refusal refused.ensures.unopened refused.ensures.kept (λ told. refl) refl in
