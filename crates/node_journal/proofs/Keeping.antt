@@ -5,14 +5,13 @@ use Rattle.std.proofs.lemmas.List.{append-nil, take_all}
 use Rattle.std.proofs.lemmas.Option.{none-some}
 use Rattle.std.specs.List.{list_all}
 use Rattle.outside.specs.Images.{IsImage, LeavesOnly, NoMomentPasses, resting}
-use Rattle.outside.specs.Lemmas.Passing.{weaker}
 use Rattle.outside.specs.Lemmas.SeenIsImage.{rests}
 use Rattle.outside.specs.declared.moment.Moment.{Moment}
 use Rattle.node_journal.specs.Appends.{IsWithOrWithout}
 use Rattle.node_journal.specs.Frames.{file_of, has_small_length}
 use Rattle.node_journal.specs.History.{EachFrom, SomeFrom, BeginsWith, IsPrefixOf, Keeps, KeepsHistory}
-use Rattle.node_journal.specs.Lemmas.Histories.{prefix_more, longer, prefixes_grow, history_grows, prefixes_begin, history_begins, kept_stands, some_weaker}
-use Rattle.node_journal.specs.Records.{Records, Holds, records}
+use Rattle.node_journal.specs.Lemmas.Histories.{prefix_more, longer, prefixes_grow, history_grows, kept_stands}
+use Rattle.node_journal.specs.Records.{Holds, records}
 use Rattle.node_journal.proofs.Ends.{before_records}
 use Rattle.node_journal.specs.Lemmas.Resting.{rested}
 

@@ -1,5 +1,5 @@
 -- Where the payloads of a file stand.
-use Rattle.std.specs.Prelude.{◌≡◌, ◌⊎◌, ℕ, ◌≤◌, true, false, List, [], ◌++◌, length, take, drop}
+use Rattle.std.specs.Prelude.{◌≡◌, ◌⊎◌, ℕ, ◌<◌, ◌≤◌, true, false, List, [], ◌++◌, length, take, drop}
 use Rattle.std.specs.List.{list_all}
 use Rattle.node_journal.specs.Records.{Records, Foreign, BrokenAt, mark, is_gate_open}
 use Rattle.node_journal.specs.Frames.{frames_of, places_from, payloads_at, end_of, has_small_length}
@@ -25,6 +25,13 @@ Refuses fault.NotAJournal r = r ≡ Foreign
 Refuses (fault.Damaged place) r = r ≡ BrokenAt place
 Refuses fault.Disk r = Unit {0}
 Refuses fault.Memory r = Unit {0}
+
+-- a damage lies before this end
+abbrev pub IsInside : ℕ → JournalFault → Type 0
+IsInside end fault.NotAJournal = Unit {0}
+IsInside end (fault.Damaged place) = place < end
+IsInside end fault.Disk = Unit {0}
+IsInside end fault.Memory = Unit {0}
 
 -- What a file of these payloads looks like before it is recovered.
 abbrev pub ReadsTo : List ℕ → List (List ℕ) → Type 0

@@ -1,7 +1,7 @@
 // Where the payloads of a file stand.
 ghost use Rattle.std.specs.Prelude.{◌≡◌, ◌+◌, ◌<◌, ◌≤◌, ◌++◌, List, ℕ, true, false, length, take, drop, IfOk, IfErr, IsErrOf};
 ghost use Rattle.node_journal.specs.Records.{records, is_gate_open, mark};
-ghost use Rattle.node_journal.specs.Index.{IsIndexed, Refuses};
+ghost use Rattle.node_journal.specs.Index.{IsIndexed, IsInside, Refuses};
 
 use crate::JournalFault;
 use crate::frame_at::{is_gate_open, whole_size};
@@ -14,13 +14,14 @@ pub struct Gates {
     pub end: usize,
 }
 
-/// OneMomentPasses from gate to gate, up to the first that is closed.
+/// Goes from gate to gate, up to the first that is closed.
 pub fn find_gates(alloc: Global, file: &[u8]) -> Result<Gates, JournalFault>
     requires long { 9 < length file.now }
     requires marked { take 8 file.now ≡ mark }
     ensures indexed { IfOk result (λ x. IsIndexed file.now x.places.items x.end) }
     ensures closed { IfOk result (λ x. is_gate_open (drop x.end file.now) ≡ false) }
     ensures refused { IfErr result (λ e. Refuses e (records file.now)) }
+    ensures inside { IfErr result (λ e. IsInside (length file.now) e) }
     ensures own { ¬ IsErrOf result JournalFault.Disk }
     ensures marked { ¬ IsErrOf result JournalFault.NotAJournal }
 {

@@ -1,5 +1,8 @@
 // What no clause says: worked files by the format, and runs that are stopped at each call of the disk.
+mod growing;
+
 use crate::*;
+use growing::Growing;
 use outside::MemDisk;
 use std::alloc::{AllocError, Global};
 use std::test::Fail;
@@ -58,6 +61,21 @@ fn altered_files_read_as_the_format_says(rt: HostRuntime) -> Result<(), Fail> {
 fn a_foreign_file_is_refused_by_one_read(rt: HostRuntime) -> Result<(), Fail> {
     let mut disk = MemDisk::stopping_at(rt.alloc(), b"not a journal", 2)?;
     assert!(rt; matches!(scan(rt.alloc(), &mut disk), Err(JournalFault::NotAJournal)));
+    Ok(())
+}
+
+#[test]
+fn a_frame_in_the_writing_is_no_damage(rt: HostRuntime) -> Result<(), Fail> {
+    for size in 0..28 {
+        let mut disk = Growing::seen_first(&FILE, size);
+        let scanned = scan(rt.alloc(), &mut disk)?;
+        let want = if size < 16 {
+            0
+        } else {
+            1 + (size > 25) as usize
+        };
+        assert_eq!(rt; scanned.count(), want, "seen first with {size} bytes");
+    }
     Ok(())
 }
 
