@@ -14,6 +14,11 @@ use problem::Term;
 fn with_product(total: Frac, coefficient: Frac, number: Frac) -> Option<Frac>
     ensures { result ≡ with_product total coefficient number }
 {
+    // Most numbers of a vertex are 0.
+    if number.numer() == 0 {
+        total.limits_hold();
+        return Some(total);
+    }
     total.add(coefficient.mul(number)?)
 }
 

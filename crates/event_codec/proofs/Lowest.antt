@@ -6,7 +6,8 @@ use Rattle.event_codec.specs.Reading.{is_lowest}
 use Rattle.std.proofs.lemmas.Bool.{cases_eq, eq-eqb, ne_eqb, cases_lt}
 use Rattle.std.proofs.lemmas.Nat.{mul-le}
 use Rattle.std.proofs.Math.Nat.{mul-div-le, div-one}
-use Rattle.fraction.specs.Rational.{ℚ, frac}
+use Rattle.fraction.specs.Rational.{ℚ, frac, whole}
+use Rattle.fraction.specs.Lemmas.Bounds.{whole_parts}
 use Rattle.fraction.specs.Gcd.{gcd}
 use Rattle.fraction.specs.Lemmas.Gcd.{gcd_pos}
 
@@ -38,6 +39,11 @@ lowest_kept num den f positive is e =
     let test : int_lt (pos 0) den ≡ true = grind (arith, ints) in
     let one : eqb (gcd (nat_abs num) (nat_abs den)) 1 ≡ true = eq-eqb _ _ (kept_den num (nat_abs den) some (ap (λ (q : ℚ). q.den) (sym is) ∙ e)) in
     rw (test, one, is) refl
+
+pub whole_kept : (num den : ℤ) (f : ℚ) → den ≡ pos 1 → f ≡ whole num → Some f ≡ (if is_lowest num den then Some (frac num (nat_abs den)) else None)
+whole_kept num den f one is =
+    let back : 1 ≡ nat_abs den = sym (ap nat_abs one) in
+    lowest_kept num den f (omega (arith, ints, one)) (is ∙ ap (frac num) back) (ap (λ (q : ℚ). q.den) is ∙ (whole_parts num).1 ∙ back)
 
 pub not_lowest : (num den : ℤ) (f : ℚ) → pos 0 <ℤ den → f ≡ frac num (nat_abs den) → (f.den ≡ nat_abs den → ⊥) → None ≡ (if is_lowest num den then Some (frac num (nat_abs den)) else None)
 not_lowest num den f positive is differs =

@@ -13,6 +13,9 @@ use node_events::{Mult, RationalPoint};
 use problem::{Point, Terms};
 use std::alloc::Global;
 
+/// How many bytes a fraction has.
+const FRACTION_BYTES: usize = 32;
+
 /// Whether a fraction may have the numerator.
 fn is_small(num: i128) -> bool
     ensures { result ≡ is_small num }
@@ -25,6 +28,10 @@ fn lowest(num: i128, den: i128) -> Option<Frac>
     requires { nat_abs num < 2 ^ 127 }
     ensures { result ≡ (if is_lowest num den then Some (frac num (nat_abs den)) else None) }
 {
+    // Most numbers are whole.
+    if den == 1 {
+        return Some(Frac::of(num));
+    }
     if den < 1 {
         return None;
     }
@@ -101,7 +108,9 @@ pub(crate) fn point(alloc: Global, cursor: &mut Cursor<'_>) -> Result<Point, Cod
 fn fractions(alloc: Global, count: u32, cursor: &mut Cursor<'_>) -> Result<Vec<Frac>, CodecError>
     ensures { ReadsList result cursor.new (elements_at (fraction_at is_small) count cursor.old) }
 {
-    let mut numbers = Vec::new(alloc);
+    // Room for no more numbers than there are bytes for.
+    let room = (cursor.rest().len() / FRACTION_BYTES).min(count as usize);
+    let mut numbers = Vec::with_capacity(alloc, room)?;
     for _ in 0..count {
         let number = fraction(cursor)?;
         numbers.push(number)?;

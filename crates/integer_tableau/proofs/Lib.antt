@@ -27,3 +27,4 @@ mod Answering
 mod Denominators
 mod Statuses
 mod ToFractions
+mod Products

@@ -53,6 +53,13 @@ combined_value d (a ∷ coefficients) (s ∷ positions) [] vs = pos 0
 combined_value d (a ∷ coefficients) (s ∷ positions) (x ∷ xs) [] = pos 0
 combined_value d (a ∷ coefficients) (s ∷ positions) (x ∷ xs) (v ∷ vs) = a *ℤ value_numerator d s x v +ℤ combined_value d coefficients positions xs vs
 
+-- the numerators of the columns' values
+abbrev pub value_numerators : ℤ → List Position → List ℤ → List ℤ → List ℤ
+value_numerators d [] xs vs = []
+value_numerators d (s ∷ positions) [] vs = []
+value_numerators d (s ∷ positions) (x ∷ xs) [] = []
+value_numerators d (s ∷ positions) (x ∷ xs) (v ∷ vs) = value_numerator d s x v ∷ value_numerators d positions xs vs
+
 -- ---- all variables
 abbrev pub expanded_rows : ℕ → List (List ℤ) → List Position → List (List ℤ) → List (List ℤ)
 expanded_rows d program_rows positions rows = rows ++ rows_behind (combined_row d positions rows) (drop (length rows) positions) program_rows

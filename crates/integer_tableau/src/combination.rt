@@ -1,13 +1,15 @@
 // Combinations of columns: what a row of the linear program says of its variable.
 
-ghost use Rattle.std.specs.Prelude.{◌≡◌, ℕ, ◌+◌, ◌*◌, ◌-◌, ◌<◌, ◌≤◌, ◌^◌, [], pos, nat_abs, ◌+ℤ◌, ◌*ℤ◌, ◌<ℤ◌, length, IfSome, IsTrue, slice_index_or};
+ghost use Rattle.std.specs.Prelude.{◌≡◌, ℕ, ◌+◌, ◌*◌, ◌-◌, ◌<◌, ◌≤◌, ◌^◌, [], pos, nat_abs, ◌+ℤ◌, ◌*ℤ◌, ◌<ℤ◌, length, IfOk, IfSome, IsTrue, slice_index_or};
 ghost use Rattle.integer_tableau.specs.Numbers.{number_at, IsWithin, total_size};
-ghost use Rattle.integer_tableau.specs.Combined.{numerator_of, combined, value_numerator, combined_value};
+ghost use Rattle.integer_tableau.specs.Combined.{numerator_of, combined, value_numerator, value_numerators, combined_value};
+ghost use Rattle.integer_tableau.specs.Positions.{products};
 
 use crate::integer_row::IntegerRow;
 use crate::position::Position;
 use crate::program_row::ProgramRow;
 use crate::wide_numbers::{product, sum};
+use std::alloc::{AllocError, Global};
 
 // ---- values
 
@@ -44,6 +46,43 @@ fn value_term(
         coefficient,
         column_value(position, nonbasic_value, value, denominator),
     )
+}
+
+/// The numerators of the columns' values over the denominator. The one error is want of memory.
+pub(crate) fn column_numerators(
+    alloc: Global,
+    positions: &[Position],
+    nonbasic_values: &[i64],
+    values: &[i64],
+    denominator: i64,
+) -> Result<Vec<i64>, AllocError>
+    requires positions_there { length values.now ≤ length positions.now }
+    requires nonbasic_values_there { length values.now ≤ length nonbasic_values.now }
+    requires near { (j : ℕ) → j < length values.now → nat_abs (number_at nonbasic_values.now j) * nat_abs denominator < 2 ^ 63 }
+    ensures value { IfOk result (λ v. v.items ≡ value_numerators denominator positions.now nonbasic_values.now values.now) }
+    ensures count { IfOk result (λ v. length v.items ≡ length values.now) }
+{
+    let mut all = Vec::with_capacity(alloc, values.len())?;
+    for (j, value) in values.iter().enumerate() {
+        all.push(column_value(positions[j], nonbasic_values[j], *value, denominator))?;
+    }
+    Ok(all)
+}
+
+/// The sum of the products of a row's coefficients and as many numbers.
+pub(crate) fn sum_of_products(coefficients: &ProgramRow, numbers: &[i64]) -> i128
+    requires width { length numbers.now ≡ length coefficients.now }
+    requires light { total_size coefficients.now < 2 ^ 62 }
+    ensures { result ≡ products coefficients.now numbers.now }
+{
+    let numerators = coefficients.numerators();
+    let places = coefficients.places();
+    let mut total = 0;
+    for place in places {
+        let j = *place;
+        total += product(numerators[j], numbers[j]);
+    }
+    total
 }
 
 /// The numerator of the value of a row's variable.

@@ -75,14 +75,18 @@ impl IntegerTableau {
         ensures within { IfSome result (λ p. PlaceIsWithin (length self.now.statuses) p) }
         ensures exact { IfSome result (λ p. p ≢ Place.Cramped) }
     {
-        match leaving(
+        let Ok(found) = leaving(
+            *self.rows.allocator(),
             &self.fixed.rows,
             &self.positions,
             &self.fixed.bounds,
             &self.nonbasic_values,
             &self.values,
             self.denominator,
-        ) {
+        ) else {
+            return None;
+        };
+        match found {
             None => Some(Place::Done),
             Some((row, direction)) => place_where_leaving(
                 *self.rows.allocator(),

@@ -1,15 +1,17 @@
 // The leaving variable.
 
-ghost use Rattle.std.specs.Prelude.{◌≡◌, ℕ, ◌+◌, ◌*◌, ◌<◌, ◌≤◌, ◌^◌, [], map, drop, pos, nat_abs, ◌<ℤ◌, length, IfSome, slice_index_or};
+ghost use Rattle.std.specs.Prelude.{◌≡◌, ℕ, ◌+◌, ◌*◌, ◌<◌, ◌≤◌, ◌^◌, [], map, drop, pos, nat_abs, ◌<ℤ◌, length, IfOk, IfSome, slice_index_or};
 ghost use Rattle.integer_tableau.specs.Numbers.{number_at, total_size};
 ghost use Rattle.integer_tableau.specs.Combined.{combined_value, expanded_values};
+ghost use Rattle.integer_tableau.specs.Positions.{products};
 ghost use Rattle.integer_tableau.specs.Leaving.{violation_at, leaving_by_numerators};
 
-use crate::combination::combined_value;
+use crate::combination::{column_numerators, sum_of_products};
 use crate::integer_bounds::IntegerBounds;
 use crate::integer_row::IntegerRow;
 use crate::position::Position;
 use crate::program_row::ProgramRow;
+use std::alloc::{AllocError, Global};
 use tableau::Direction;
 
 /// In which direction a basic variable outside its bounds has to go.
@@ -60,63 +62,46 @@ fn row_violation(
     position: Position,
     bounds: &IntegerBounds,
     coefficients: &ProgramRow,
-    positions: &[Position],
-    nonbasic_values: &[i64],
-    values: &[i64],
+    numerators: &[i64],
     denominator: i64,
 ) -> Option<Direction>
-    requires values_there { length values.now ≡ length coefficients.now }
-    requires positions_there { length coefficients.now ≤ length positions.now }
-    requires nonbasic_values_there { length coefficients.now ≤ length nonbasic_values.now }
+    requires width { length numerators.now ≡ length coefficients.now }
     requires light { total_size coefficients.now < 2 ^ 62 }
-    requires near { (j : ℕ) → j < length coefficients.now → nat_abs (number_at nonbasic_values.now j) * nat_abs denominator < 2 ^ 63 }
     requires positive { pos 0 <ℤ denominator }
-    ensures { result ≡ violation_at (nat_abs denominator) position bounds.now (combined_value denominator coefficients.now positions.now nonbasic_values.now values.now) }
+    ensures { result ≡ violation_at (nat_abs denominator) position bounds.now (products coefficients.now numerators.now) }
 {
     match position {
         Position::InBasis => {
-            let value = combined_value(
-                coefficients,
-                positions,
-                nonbasic_values,
-                values,
-                denominator,
-            );
-            bounds.violation(value, denominator)
+            bounds.violation(sum_of_products(coefficients, numerators), denominator)
         }
         Position::InColumn(_) => None,
     }
 }
 
-/// The same for the variables of rows.
+/// The same for the variables of rows, by the numerators of the columns' values.
 fn leaving_row(
     program_rows: &[ProgramRow],
     positions: &[Position],
     bounds: &[IntegerBounds],
-    nonbasic_values: &[i64],
-    values: &[i64],
+    numerators: &[i64],
     denominator: i64,
 ) -> Option<(usize, Direction)>
-    requires positions_there { length positions.now ≡ length values.now + length program_rows.now }
+    requires positions_there { length positions.now ≡ length numerators.now + length program_rows.now }
     requires bounds_there { length bounds.now ≡ length positions.now }
-    requires nonbasic_values_there { length nonbasic_values.now ≡ length positions.now }
-    requires full { (i : ℕ) → i < length program_rows.now → length (slice_index_or program_rows.now i []) ≡ length values.now }
+    requires full { (i : ℕ) → i < length program_rows.now → length (slice_index_or program_rows.now i []) ≡ length numerators.now }
     requires light { (i : ℕ) → i < length program_rows.now → total_size (slice_index_or program_rows.now i []) < 2 ^ 62 }
-    requires near { (j : ℕ) → j < length values.now → nat_abs (number_at nonbasic_values.now j) * nat_abs denominator < 2 ^ 63 }
     requires positive { pos 0 <ℤ denominator }
-    ensures value { result ≡ leaving_by_numerators (nat_abs denominator) (length values.now) (drop (length values.now) positions.now) (drop (length values.now) bounds.now) (map (λ a. combined_value denominator a positions.now nonbasic_values.now values.now) program_rows.now) }
+    ensures value { result ≡ leaving_by_numerators (nat_abs denominator) (length numerators.now) (drop (length numerators.now) positions.now) (drop (length numerators.now) bounds.now) (map (λ a. products a numerators.now) program_rows.now) }
     ensures within { IfSome result (λ l. l.0 < length positions.now) }
 {
-    let columns = values.len();
+    let columns = numerators.len();
     for (i, coefficients) in program_rows.iter().enumerate() {
         let variable = columns + i;
         if let Some(direction) = row_violation(
             positions[variable],
             &bounds[variable],
             coefficients,
-            positions,
-            nonbasic_values,
-            values,
+            numerators,
             denominator,
         ) {
             return Some((variable, direction));
@@ -125,15 +110,16 @@ fn leaving_row(
     None
 }
 
-/// The least basic variable outside its bounds, if there is one, and the direction in which it has to go.
+/// The least basic variable outside its bounds, if there is one, and the direction in which it has to go. The one error is want of memory.
 pub(crate) fn leaving(
+    alloc: Global,
     program_rows: &[ProgramRow],
     positions: &[Position],
     bounds: &[IntegerBounds],
     nonbasic_values: &[i64],
     values: &[i64],
     denominator: i64,
-) -> Option<(usize, Direction)>
+) -> Result<Option<(usize, Direction)>, AllocError>
     requires positions_there { length positions.now ≡ length values.now + length program_rows.now }
     requires bounds_there { length bounds.now ≡ length positions.now }
     requires nonbasic_values_there { length nonbasic_values.now ≡ length positions.now }
@@ -141,18 +127,20 @@ pub(crate) fn leaving(
     requires light { (i : ℕ) → i < length program_rows.now → total_size (slice_index_or program_rows.now i []) < 2 ^ 62 }
     requires near { (j : ℕ) → j < length values.now → nat_abs (number_at nonbasic_values.now j) * nat_abs denominator < 2 ^ 63 }
     requires positive { pos 0 <ℤ denominator }
-    ensures value { result ≡ leaving_by_numerators (nat_abs denominator) 0 positions.now bounds.now (expanded_values (nat_abs denominator) program_rows.now positions.now nonbasic_values.now values.now) }
-    ensures within { IfSome result (λ l. l.0 < length positions.now) }
+    ensures value { IfOk result (λ l. l ≡ leaving_by_numerators (nat_abs denominator) 0 positions.now bounds.now (expanded_values (nat_abs denominator) program_rows.now positions.now nonbasic_values.now values.now)) }
+    ensures within { IfOk result (λ o. IfSome o (λ l. l.0 < length positions.now)) }
 {
     match leaving_column(positions, bounds, values, denominator) {
-        Some(found) => Some(found),
-        None => leaving_row(
-            program_rows,
-            positions,
-            bounds,
-            nonbasic_values,
-            values,
-            denominator,
-        ),
+        Some(found) => Ok(Some(found)),
+        None => {
+            let numerators = column_numerators(
+                alloc,
+                positions,
+                nonbasic_values,
+                values,
+                denominator,
+            )?;
+            Ok(leaving_row(program_rows, positions, bounds, &numerators, denominator))
+        }
     }
 }

@@ -21,7 +21,7 @@ use std::alloc::{AllocError, Global};
 fn column_positions(alloc: Global, columns: usize) -> Result<Vec<Position>, AllocError>
     ensures { IfOk result (λ v. v.items ≡ columns_from 0 columns) }
 {
-    let mut positions = Vec::new(alloc);
+    let mut positions = Vec::with_capacity(alloc, columns)?;
     for column in 0..columns {
         positions.push(Position::InColumn(column))?;
     }
@@ -43,7 +43,7 @@ fn start_positions(alloc: Global, columns: usize, rows: usize) -> Result<Vec<Pos
 fn columns_at_upper(alloc: Global, costs: &[i64]) -> Result<Vec<bool>, AllocError>
     ensures { IfOk result (λ v. v.items ≡ map is_negative costs.now) }
 {
-    let mut at_upper = Vec::new(alloc);
+    let mut at_upper = Vec::with_capacity(alloc, costs.len())?;
     for cost in costs {
         at_upper.push(*cost < 0)?;
     }
@@ -81,7 +81,7 @@ fn column_numbers(
     requires { length costs.now ≤ length bounds.now }
     ensures { IfOk result (λ v. v.items ≡ start_numbers costs.now bounds.now) }
 {
-    let mut numbers = Vec::new(alloc);
+    let mut numbers = Vec::with_capacity(alloc, costs.len())?;
     for (column, cost) in costs.iter().enumerate() {
         numbers.push(start_number(*cost, &bounds[column]))?;
     }
@@ -109,7 +109,7 @@ fn start_numbers(
 fn empty_rows(alloc: Global, count: usize) -> Result<Vec<IntegerRow>, AllocError>
     ensures { IfOk result (λ v. v.items ≡ replicate count []) }
 {
-    let mut rows = Vec::new(alloc);
+    let mut rows = Vec::with_capacity(alloc, count)?;
     for _i in 0..count {
         rows.push(IntegerRow::empty(alloc))?;
     }

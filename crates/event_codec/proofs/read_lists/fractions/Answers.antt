@@ -6,7 +6,7 @@ use Rattle.event_codec.proofs.read_lists.fractions.Goals as goal
 
 pub returns-in_err-number : goal.returns-in_err-number
 returns-in_err-number c =
-    let p = err_from_is_err_and c.from_residual.result c.from_residual.ensures.1 in
+    let p = err_from_is_err_and c.from_residual-in_err-number.result c.from_residual-in_err-number.ensures.1 in
     rw (p.1, p.2) (ends (fraction_at is_small) c.in_err-number.field-0.0 c.loop.numbers.items c.args.count c.loop.counter c.loop.cursor (elements_at (fraction_at is_small) c.args.count c.args.cursor.now) c.loop-test.true c.in_err-number.ensures c.loop.invariant)
 
 pub loop-preserved : goal.loop-preserved

@@ -2,9 +2,16 @@ use Rattle.std.proofs.Common.{◌≡◌, sym, ap, ◌∙◌, arith}
 use Rattle.std.specs.Prelude.{pos, ◌<ℤ◌, nat_abs}
 use Rattle.std.specs.Int.{w128}
 use Rattle.std.proofs.lemmas.Int.{ints, to_z-of_z}
-use Rattle.fraction.specs.Rational.{frac}
-use Rattle.event_codec.proofs.Lowest.{lowest_kept, not_lowest}
+use Rattle.fraction.specs.Rational.{frac, whole}
+use Rattle.event_codec.proofs.Lowest.{lowest_kept, not_lowest, whole_kept}
 use Rattle.event_codec.proofs.read_lists.lowest.Goals as goal
+
+pub returns-then-den-eq1 : goal.returns-then-den-eq1
+returns-then-den-eq1 c =
+    let num = c.args.num in
+    let den = c.args.den in
+    let one : den ≡ pos 1 = omega (arith, ints) in
+    whole_kept num den c.of.result one (c.of.ensures ∙ ap whole (to_z-of_z w128 num c.ranges.num))
 
 pub returns-then-denom-unsigned_abs : goal.returns-then-denom-unsigned_abs
 returns-then-denom-unsigned_abs c =

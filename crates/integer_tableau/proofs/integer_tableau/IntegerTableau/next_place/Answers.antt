@@ -1,4 +1,4 @@
-use Rattle.std.proofs.Common.{ap, ◌∙◌, [], subst, w64, nat_abs, get_or, length, rules, None}
+use Rattle.std.proofs.Common.{ap, sym, ◌∙◌, [], subst, w64, nat_abs, get_or, length, rules, None}
 use mir.Val.{SFits}
 use Rattle.std.proofs.lemmas.Int.{to_z-of_z}
 use Rattle.integer_tableau.proofs.FromCode.{chosen_from_code, near_from_code, place_from_code, statuses_as_many}
@@ -22,7 +22,7 @@ returns-in-None-clause-value c =
     let f : SFits w64 n.denominator = search rules in
     let d = to_z-of_z w64 n.denominator f in
     place_from_code _ _ _ _ _ _ c.args.self.now c.self.invariant.0 c.self.view_is None
-    (c.in-None.ensures.value ∙ (λ i. leaving_by_numerators (nat_abs (d i)) 0 (c.deref-2.ensures.value i) (c.deref-3.ensures.value i)
+    (sym c.in-None.is ∙ c.in-Ok.ensures.value ∙ (λ i. leaving_by_numerators (nat_abs (d i)) 0 (c.deref-2.ensures.value i) (c.deref-3.ensures.value i)
     (expanded_values (nat_abs (d i)) (c.deref.ensures.value i) (c.deref-2.ensures.value i) (c.deref-4.ensures.value i) (c.deref-5.ensures.value i))))
 
 pub returns-in-Some-clause-value : goal.returns-in-Some-clause-value
@@ -35,7 +35,7 @@ returns-in-Some-clause-value c =
     ∙ (λ i. place_of_candidate c.in-Some.row (entering_by_numerators 0 c.in-Some.direction None (c.deref-in-Some-2.ensures.value i) (c.deref-in-Some-3.ensures.value i) (c.deref-in-Some-4.ensures.value i)
     n.reduced_costs (get_or (expanded_rows (nat_abs (d i)) (c.deref-in-Some.ensures.value i) (c.deref-in-Some-2.ensures.value i) (c.deref-in-Some-5.ensures.value i)) c.in-Some.row [])))
     ∙ chosen_from_code _ _ _ _ _ _ c.args.self.now c.self.invariant.0 c.self.view_is (c.in-Some.row, c.in-Some.direction)
-    (c.in-Some.ensures.value ∙ (λ i. leaving_by_numerators (nat_abs (d i)) 0 (c.deref-2.ensures.value i) (c.deref-3.ensures.value i)
+    (sym c.in-Some.is ∙ c.in-Ok.ensures.value ∙ (λ i. leaving_by_numerators (nat_abs (d i)) 0 (c.deref-2.ensures.value i) (c.deref-3.ensures.value i)
     (expanded_values (nat_abs (d i)) (c.deref.ensures.value i) (c.deref-2.ensures.value i) (c.deref-4.ensures.value i) (c.deref-5.ensures.value i)))))
     c.place_where_leaving.ensures.value
 
