@@ -97,6 +97,13 @@ impl<D: Disk> Pool<D> {
         self.budget
     }
 
+    /// How many payloads were given to the journal and acknowledged: the model's record, and the events that a journal has.
+    pub fn payloads(&self) -> u64
+        ensures { result ≡ self.now.journal.count }
+    {
+        self.journal.count() as u64
+    }
+
     /// Halts the pool for want of memory, unless it is halted already.
     pub fn halt(&mut self)
         ensures halt { self.new.halt ≡ Some (unwrap_or self.old.halt Halt.Memory) }
