@@ -1,6 +1,7 @@
 """Runs the programs in turn, and prints what bench/resume.sh says."""
 
 import os
+import shutil
 import subprocess
 import sys
 
@@ -18,7 +19,7 @@ SPENT = 8
 
 folder, bench, program = sys.argv[1:4]
 others = sys.argv[4:5]
-journal, certificate = (os.path.join(folder, name) for name in ("journal", "certificate"))
+journal, copied, certificate = (os.path.join(folder, name) for name in ("journal", "copied", "certificate"))
 
 
 def run(*words, status=0):
@@ -76,7 +77,8 @@ def read_row(command, words, status):
     seen = {name: [] for name in [program] + others}
     for _ in range(RUNS):
         for name, runs in seen.items():
-            runs.append(run(name, command, *words, status=status))
+            shutil.copyfile(journal, copied)  # a run that goes on may write to it
+            runs.append(run(name, command, copied, *words, status=status))
     if len({lines for runs in seen.values() for lines, _, _ in runs}) != 1:
         sys.exit(f"{command}: other lines")
     least = [min(seconds for _, seconds, _ in runs) for runs in seen.values()]
@@ -89,5 +91,5 @@ print("each line: the program, then the search with no file, and the ratio of th
 for kind, columns, rows, seed, budget in MODELS:
     search_row(f"{kind} {columns} x {rows}, {seed}", make(kind, columns, rows, seed), budget)
 solve(make(*LONG[:4]), LONG[4])
-read_row("show", (journal,), 0)
-read_row("resume", (journal, certificate, "--cuts", 0, "--nodes", LONG[4]), SPENT)
+read_row("show", (), 0)
+read_row("resume", (certificate, "--cuts", 0, "--nodes", LONG[4]), SPENT)
