@@ -255,7 +255,7 @@ impl IntegerTableau {
             combined_coefficients(
                 alloc,
                 first,
-                &self.fixed.rows[row - columns],
+                self.fixed.row(row - columns),
                 &self.positions,
                 &self.rows,
                 self.denominator,

@@ -15,12 +15,13 @@ use fraction::Frac;
 use problem_box::{IntBox, Span};
 use std::alloc::{AllocError, Global};
 use std::marker::Model;
+use std::rc::RcSlice;
 use tableau::{Bounds, LinearProgram};
 
 /// A linear program of whole numbers, made ready for tableaus over many boxes. Contracts see the linear program itself.
 #[derive(Drop)]
 pub struct IntegerProgram {
-    pub(crate) rows: Vec<ProgramRow>,
+    pub(crate) rows: RcSlice<ProgramRow>,
     /// No row has coefficients that are greater together.
     pub(crate) weight: u64,
     pub(crate) costs: IntegerRow,
@@ -34,9 +35,9 @@ impl Model for IntegerProgram {
 
     ghost Value = { Described };
 
-    ghost view = { λ p. fraction_program p.rows.items p.costs p.bounds.items p.numbers.items };
+    ghost view = { λ p. fraction_program p.rows.items.value.items p.costs p.bounds.items p.numbers.items };
 
-    ghost invariant = { λ p. IsReady p.rows.items p.weight p.costs p.bounds.items };
+    ghost invariant = { λ p. IsReady p.rows.items.value.items p.weight p.costs p.bounds.items };
 }
 
 /// The whole number of a fraction; none where it isn't whole, or has more than 64 bits.
@@ -241,7 +242,7 @@ impl IntegerProgram {
         }
         let numbers = Vec::from_slice(alloc, program.numbers())?;
         Ok(Some(IntegerProgram {
-            rows,
+            rows: RcSlice::from_vec(rows)?,
             weight,
             costs,
             bounds,

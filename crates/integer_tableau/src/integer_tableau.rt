@@ -1,6 +1,6 @@
 // Tableaus on whole numbers.
 
-ghost use Rattle.std.specs.Prelude.{◌≡◌, ◌≢◌, length, IfSome};
+ghost use Rattle.std.specs.Prelude.{◌≡◌, ◌≢◌, ◌<◌, [], length, slice_index_or, IfSome};
 ghost use Rattle.tableau.specs.Place.{place, PlaceIsWithin};
 
 use crate::integer_bounds::IntegerBounds;
@@ -10,6 +10,7 @@ use crate::place::place_where_leaving;
 use crate::position::Position;
 use crate::program_row::ProgramRow;
 use std::marker::Model;
+use std::rc::RcSlice;
 use tableau::Place;
 
 /// What pivots leave as it is.
@@ -18,12 +19,22 @@ pub(crate) struct Fixed {
     /// The numbers by which multipliers name the rows.
     pub(crate) numbers: Vec<u32>,
     pub(crate) bounds: Vec<IntegerBounds>,
-    /// The coefficients of the linear program's rows.
-    pub(crate) rows: Vec<ProgramRow>,
+    /// The coefficients of the linear program's rows, which its tableaus share.
+    pub(crate) rows: RcSlice<ProgramRow>,
     /// No row has coefficients that are greater together.
     pub(crate) weight: u64,
     /// No column has a greater bound.
     pub(crate) reach: u64,
+}
+
+impl Fixed {
+    /// The coefficients of a row of the linear program.
+    pub(crate) fn row(&self, place: usize) -> &ProgramRow
+        requires { place < length self.now.rows.items.value.items }
+        ensures { result.now ≡ slice_index_or self.now.rows.items.value.items place [] }
+    {
+        &self.rows[place]
+    }
 }
 
 /// A tableau of a linear program on whole numbers over one denominator. Contracts see the tableau of fractions that it stands for.
@@ -56,9 +67,9 @@ impl Model for IntegerTableau {
 
     ghost Value = { Described };
 
-    ghost view = { λ t. tableau_of (length t.rows.items) t.fixed.numbers.items (expanded t.fixed.rows.items (of_parts t.fixed.bounds.items t.positions.items t.at_upper.items t.nonbasic_values.items t.rows.items t.reduced_costs t.values.items t.denominator t.pivots)) };
+    ghost view = { λ t. tableau_of (length t.rows.items) t.fixed.numbers.items (expanded t.fixed.rows.items.value.items (of_parts t.fixed.bounds.items t.positions.items t.at_upper.items t.nonbasic_values.items t.rows.items t.reduced_costs t.values.items t.denominator t.pivots)) };
 
-    ghost invariant = { λ t. IsCompact t.fixed.rows.items t.fixed.weight t.fixed.reach (of_parts t.fixed.bounds.items t.positions.items t.at_upper.items t.nonbasic_values.items t.rows.items t.reduced_costs t.values.items t.denominator t.pivots) × (pos 0 <ℤ t.denominator) };
+    ghost invariant = { λ t. IsCompact t.fixed.rows.items.value.items t.fixed.weight t.fixed.reach (of_parts t.fixed.bounds.items t.positions.items t.at_upper.items t.nonbasic_values.items t.rows.items t.reduced_costs t.values.items t.denominator t.pivots) × (pos 0 <ℤ t.denominator) };
 }
 
 impl IntegerTableau {

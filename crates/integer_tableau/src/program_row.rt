@@ -53,18 +53,6 @@ impl ProgramRow {
         })
     }
 
-    /// A copy. The one error is want of memory.
-    pub(crate) fn copy(&self, alloc: Global) -> Result<ProgramRow, AllocError>
-        ensures { IfOk result (λ r. r ≡ self.now) }
-    {
-        let coefficients = Vec::from_slice(alloc, &self.coefficients)?;
-        let places = Vec::from_slice(alloc, &self.places)?;
-        Ok(ProgramRow {
-            coefficients,
-            places,
-        })
-    }
-
     /// The coefficients.
     #[inline(always)]
     pub(crate) fn numerators(&self) -> &[i64]

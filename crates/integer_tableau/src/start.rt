@@ -16,6 +16,7 @@ use crate::position::Position;
 use crate::program_row::ProgramRow;
 use problem_box::IntBox;
 use std::alloc::{AllocError, Global};
+use std::rc::RcSlice;
 
 /// The columns' positions. The one error is want of memory.
 fn column_positions(alloc: Global, columns: usize) -> Result<Vec<Position>, AllocError>
@@ -116,17 +117,6 @@ fn empty_rows(alloc: Global, count: usize) -> Result<Vec<IntegerRow>, AllocError
     Ok(rows)
 }
 
-/// Copies of rows. The one error is want of memory.
-fn copies(alloc: Global, rows: &[ProgramRow]) -> Result<Vec<ProgramRow>, AllocError>
-    ensures { IfOk result (λ v. v.items ≡ rows.now) }
-{
-    let mut all = Vec::with_capacity(alloc, rows.len())?;
-    for row in rows {
-        all.push(row.copy(alloc)?)?;
-    }
-    Ok(all)
-}
-
 /// Whether the sizes of all bounds add up to less than 2^62.
 fn has_room(bounds: &[IntegerBounds]) -> bool
     ensures { IsTrue result → total_bound_size bounds.now < 2 ^ 62 }
@@ -181,15 +171,15 @@ impl IntegerTableau {
     /// The same from its parts.
     fn start_from(
         alloc: Global,
-        rows: &[ProgramRow],
+        rows: &RcSlice<ProgramRow>,
         weight: u64,
         costs: &IntegerRow,
         bounds: Vec<IntegerBounds>,
         numbers: Vec<u32>,
     ) -> Result<Option<IntegerTableau>, AllocError>
-        requires { IsReady rows.now weight costs.now bounds.items }
-        ensures value { IfOk result (λ o. IfSome o (λ t. started (fraction_program rows.now costs.now bounds.items numbers.items) ≡ Some t)) }
-        ensures size { IfOk result (λ o. IfSome o (λ t. length t.statuses ≡ length costs.now + length rows.now)) }
+        requires { IsReady rows.now.items.value.items weight costs.now bounds.items }
+        ensures value { IfOk result (λ o. IfSome o (λ t. started (fraction_program rows.now.items.value.items costs.now bounds.items numbers.items) ≡ Some t)) }
+        ensures size { IfOk result (λ o. IfSome o (λ t. length t.statuses ≡ length costs.now + length rows.now.items.value.items)) }
         ensures pivots { IfOk result (λ o. IfSome o (λ t. t.pivots ≡ 0)) }
     {
         let columns = costs.width();
@@ -206,7 +196,7 @@ impl IntegerTableau {
             fixed: Fixed {
                 numbers,
                 bounds,
-                rows: copies(alloc, rows)?,
+                rows: rows.clone()?,
                 weight,
                 reach,
             },

@@ -35,12 +35,11 @@ slice_bounds-coefficients-count c = first_there c
 pub slice_bounds-coefficients-start : goal.slice_bounds-coefficients-start
 slice_bounds-coefficients-start c = let l = first_there c in search rules
 
-pub index-requires-else-row-columns : goal.index-requires-else-row-columns
-index-requires-else-row-columns c =
+pub row-requires : goal.row-requires
+row-requires c =
     omega (
       arith,
       is_there _ _ _ _ _ _ c.args.self.now c.self.invariant.0 c.self.view_is c.self.inside.positions.items c.args.row refl c.requires.row_there,
-      c.self.inside.fixed.rows.ok,
       c.self.inside.rows.ok,
       c.len-columns.ensures,
       c.self.invariant.0.variables,
@@ -49,7 +48,7 @@ index-requires-else-row-columns c =
 
 -- the row of the linear program that is read
 module _ (c : goal.After-combined_coefficients-arg-1) where
-  place_there : c.args.row - c.len-columns.result < length c.self.inside.fixed.rows.items
+  place_there : c.args.row - c.len-columns.result < length c.self.inside.fixed.rows.items.value.items
   place_there =
       omega (
         arith,
@@ -60,10 +59,10 @@ module _ (c : goal.After-combined_coefficients-arg-1) where
         c.if-row-columns.false,
       )
 
-  row_is : c.index-else-row-columns.result.now ≡ get_or c.self.inside.fixed.rows.items (c.args.row - c.len-columns.result) []
-  row_is = c.index-else-row-columns.ensures ∙ get_or_default c.self.inside.fixed.rows.items (c.args.row - c.len-columns.result) c.index-else-row-columns.result.now [] place_there
+  row_is : c.row.result.now ≡ get_or c.self.inside.fixed.rows.items.value.items (c.args.row - c.len-columns.result) []
+  row_is = c.row.ensures
 
-  row_full : length c.index-else-row-columns.result.now ≡ length c.self.inside.rows.items
+  row_full : length c.row.result.now ≡ length c.self.inside.rows.items
   row_full = ap length row_is ∙ c.self.invariant.0.full (c.args.row - c.len-columns.result) place_there
 
 pub combined_coefficients-requires-clause-rows_there : goal.combined_coefficients-requires-clause-rows_there
@@ -95,11 +94,11 @@ returns-else-row-columns c =
     let f : SFits w64 n.denominator = search rules in
     let there = is_there _ _ _ _ _ _ c.args.self.now c.self.invariant.0 c.self.view_is n.positions.items c.args.row refl c.requires.row_there in
     let i = c.args.row - c.len-columns.result in
-    let place_there : i < length n.fixed.rows.items = omega (arith, there, n.rows.ok, c.len-columns.ensures, c.self.invariant.0.variables, c.if-row-columns.false) in
+    let place_there : i < length n.fixed.rows.items.value.items = omega (arith, there, n.rows.ok, c.len-columns.ensures, c.self.invariant.0.variables, c.if-row-columns.false) in
     if_ok _ _ c.combined_coefficients.result (λ v h. h
     ∙ (λ i. coefficients (nat_abs (to_z-of_z w64 n.denominator f i)) (drop c.args.first (c.deref-else-row-columns.ensures.value i))
-    (combined_row (nat_abs (to_z-of_z w64 n.denominator f i)) (c.deref-else-row-columns.ensures.value i) (c.deref-else-row-columns-2.ensures.value i) c.index-else-row-columns.result.now))
-    ∙ combined_are _ _ _ _ _ _ c.args.self.now c.self.invariant.0 c.self.view_is refl c.args.row there c.args.first c.index-else-row-columns.result.now i
+    (combined_row (nat_abs (to_z-of_z w64 n.denominator f i)) (c.deref-else-row-columns.ensures.value i) (c.deref-else-row-columns-2.ensures.value i) c.row.result.now))
+    ∙ combined_are _ _ _ _ _ _ c.args.self.now c.self.invariant.0 c.self.view_is refl c.args.row there c.args.first c.row.result.now i
     (sym (get_or_default n.positions.items c.args.row c.index.result.now InBasis there) ∙ sym c.index.ensures ∙ c.in-InBasis.is)
     (omega (arith, n.rows.ok, c.len-columns.ensures, c.if-row-columns.false)) place_there
-    (c.index-else-row-columns.ensures ∙ get_or_default n.fixed.rows.items i c.index-else-row-columns.result.now [] place_there)) c.combined_coefficients.ensures
+    c.row.ensures) c.combined_coefficients.ensures

@@ -19,7 +19,7 @@ returns c =
     let w : IntegerTableau = of_parts n.fixed.bounds.items n.positions.items n.at_upper.items n.nonbasic_values.items n.rows.items n.reduced_costs n.values.items n.denominator n.pivots in
     subst (λ d. HasDenominator d c.args.self.now) (sym (c.unsigned_abs.ensures.value ∙ back))
     (subst (HasDenominator (nat_abs n.denominator)) c.self.view_is
-    (has_denominator (length n.rows.items) n.fixed.numbers.items n.fixed.rows.items n.fixed.weight n.fixed.reach w dd c.self.invariant.0 (subst (λ z. pos 0 <ℤ z) (sym is) c.self.invariant.1) back
+    (has_denominator (length n.rows.items) n.fixed.numbers.items n.fixed.rows.items.value.items n.fixed.weight n.fixed.reach w dd c.self.invariant.0 (subst (λ z. pos 0 <ℤ z) (sym is) c.self.invariant.1) back
     (λ j l. subst (λ m. m ≤ 2 ^ 62)
     (λ i. nat_abs (value_numerator dd (get_or (c.deref.ensures.value i) j InBasis) (number_at (c.deref-2.ensures.value i) j) (number_at (c.deref-3.ensures.value i) j)))
     (c.if-not-are_columns_small.ensures refl j (omega (arith, l, ap length c.deref-3.ensures.value))))

@@ -19,7 +19,7 @@ returns c =
     let direction = c.direction_of-direction.result in
     let place = c.if-row-columns.place in
     let columns_are : c.len-columns.result ≡ length n.rows.items = c.len-columns.ensures ∙ n.rows.ok.0 in
-    let before : c.args.row < length n.rows.items → length n.fixed.rows.items ≤ place =
+    let before : c.args.row < length n.rows.items → length n.fixed.rows.items.value.items ≤ place =
     elim c.if-row-columns.branch [
       | then-row-columns w ↦ λ l. omega (arith, w.place-is, w.len-place.ensures, n.positions.ok, c.self.invariant.0.variables)
       | else-row-columns w ↦ λ l. absurd (omega (arith, l, columns_are, w.if-row-columns.false))

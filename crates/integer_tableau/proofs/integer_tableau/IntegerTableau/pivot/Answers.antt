@@ -20,7 +20,7 @@ invariant_of-result c =
     let d = to_z-of_z w64 c.self.inside.denominator fd in
     let n = c.self.inside in
     let m = c.pivot_parts.new in
-    let t = (carried n.fixed.numbers.items c.deref-2.result.now n.fixed.rows.items n.fixed.weight n.fixed.reach c.args.leaving c.args.entering
+    let t = (carried n.fixed.numbers.items c.deref-2.result.now n.fixed.rows.items.value.items n.fixed.weight n.fixed.reach c.args.leaving c.args.entering
     (of_parts c.deref.result.now c.deref_mut.result.now c.deref_mut-2.result.now c.deref_mut-3.result.now c.deref_mut-4.result.now n.reduced_costs c.deref_mut-5.result.now (to_z w64 (of_z w64 n.denominator)) n.pivots)
     (of_parts n.fixed.bounds.items n.positions.items n.at_upper.items n.nonbasic_values.items n.rows.items n.reduced_costs n.values.items n.denominator n.pivots)
     (of_parts c.deref.result.now m.positions m.at_upper m.nonbasic_values m.rows m.reduced_costs m.values c.in_ok-denominator.denominator (n.pivots + 1))
@@ -47,7 +47,7 @@ returns-clause-value c =
     let d = to_z-of_z w64 c.self.inside.denominator fd in
     let n = c.self.inside in
     let m = c.pivot_parts.new in
-    (carried n.fixed.numbers.items c.deref-2.result.now n.fixed.rows.items n.fixed.weight n.fixed.reach c.args.leaving c.args.entering
+    (carried n.fixed.numbers.items c.deref-2.result.now n.fixed.rows.items.value.items n.fixed.weight n.fixed.reach c.args.leaving c.args.entering
     (of_parts c.deref.result.now c.deref_mut.result.now c.deref_mut-2.result.now c.deref_mut-3.result.now c.deref_mut-4.result.now n.reduced_costs c.deref_mut-5.result.now (to_z w64 (of_z w64 n.denominator)) n.pivots)
     (of_parts n.fixed.bounds.items n.positions.items n.at_upper.items n.nonbasic_values.items n.rows.items n.reduced_costs n.values.items n.denominator n.pivots)
     (of_parts c.deref.result.now m.positions m.at_upper m.nonbasic_values m.rows m.reduced_costs m.values c.in_ok-denominator.denominator (n.pivots + 1))

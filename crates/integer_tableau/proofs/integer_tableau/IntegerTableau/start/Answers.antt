@@ -12,7 +12,7 @@ returns-clause-value c =
     let bounds_are : c.in_ok-bounds.bounds.items ≡ map column_bounds c.args.area.now ++ drop (length p.costs) p.bounds.items =
     c.in_ok-bounds.ensures ∙ (λ i. map column_bounds c.args.area.now ++ drop (c.width.ensures i) (c.deref.ensures.value i)) in
     let numbers_are : c.in_ok-numbers.numbers.items ≡ p.numbers.items = c.in_ok-numbers.ensures.items ∙ c.deref-2.ensures.value in
-    let program_is : over c.args.program.now c.args.area.now ≡ fraction_program c.deref-3.result.now p.costs c.in_ok-bounds.bounds.items c.in_ok-numbers.numbers.items =
-    ap (λ p. over p c.args.area.now) (sym c.program.view_is) ∙ program_over p.rows.items p.costs p.bounds.items p.numbers.items c.args.area.now
-    ∙ (λ i. fraction_program (sym c.deref-3.ensures.value i) p.costs (sym bounds_are i) (sym numbers_are i)) in
+    let program_is : over c.args.program.now c.args.area.now ≡ fraction_program p.rows.items.value.items p.costs c.in_ok-bounds.bounds.items c.in_ok-numbers.numbers.items =
+    ap (λ p. over p c.args.area.now) (sym c.program.view_is) ∙ program_over p.rows.items.value.items p.costs p.bounds.items p.numbers.items c.args.area.now
+    ∙ (λ i. fraction_program p.rows.items.value.items p.costs (sym bounds_are i) (sym numbers_are i)) in
     subst (λ p. IfOk c.start_from.result (λ o. IfSome o (λ t. started p ≡ Some t))) (sym program_is) c.start_from.ensures.value

@@ -9,14 +9,17 @@ use Rattle.integer_tableau.proofs.integer_tableau.IntegerTableau.start_from.Goal
 
 -- what the parts are
 module _ (c : In_ok-copy) where
-  positions_are : c.in_ok-positions.positions.items ≡ columns_from 0 (length c.args.costs.now) ++ replicate (length c.args.rows.now) InBasis
-  positions_are = c.in_ok-positions.ensures ∙ ap (λ n. columns_from 0 n ++ replicate (length c.args.rows.now) InBasis) c.width-columns.ensures
+  count_is : c.len-count.result ≡ length c.args.rows.now.items.value.items
+  count_is = c.len-count.ensures
 
-  at_upper_are : c.in_ok-at_upper.at_upper.items ≡ map is_negative c.args.costs.now ++ replicate (length c.args.rows.now) false
-  at_upper_are = c.in_ok-at_upper.ensures ∙ ap (λ ds. map is_negative ds ++ replicate (length c.args.rows.now) false) c.numerators.ensures
+  positions_are : c.in_ok-positions.positions.items ≡ columns_from 0 (length c.args.costs.now) ++ replicate (length c.args.rows.now.items.value.items) InBasis
+  positions_are = c.in_ok-positions.ensures ∙ (λ i. columns_from 0 (c.width-columns.ensures i) ++ replicate (count_is i) InBasis)
 
-  nonbasic_values_are : c.in_ok-nonbasic_values.nonbasic_values.items ≡ start_numbers c.args.costs.now c.args.bounds.items ++ replicate (length c.args.rows.now) (pos 0)
-  nonbasic_values_are = c.in_ok-nonbasic_values.ensures ∙ (λ i. start_numbers (c.numerators-2.ensures i) (c.deref-3.ensures.value i) ++ replicate (length c.args.rows.now) (pos 0))
+  at_upper_are : c.in_ok-at_upper.at_upper.items ≡ map is_negative c.args.costs.now ++ replicate (length c.args.rows.now.items.value.items) false
+  at_upper_are = c.in_ok-at_upper.ensures ∙ (λ i. map is_negative (c.numerators.ensures i) ++ replicate (count_is i) false)
+
+  nonbasic_values_are : c.in_ok-nonbasic_values.nonbasic_values.items ≡ start_numbers c.args.costs.now c.args.bounds.items ++ replicate (length c.args.rows.now.items.value.items) (pos 0)
+  nonbasic_values_are = c.in_ok-nonbasic_values.ensures ∙ (λ i. start_numbers (c.numerators-2.ensures i) (c.deref-3.ensures.value i) ++ replicate (count_is i) (pos 0))
 
   rows_are : c.in_ok-empty_rows.field-0.items ≡ replicate (length c.args.costs.now) []
   rows_are = c.in_ok-empty_rows.ensures ∙ ap (λ n. replicate n []) c.width-columns.ensures
@@ -35,20 +38,20 @@ module _ (c : In_ok-copy) where
 
 pub invariant_of-result : goal.invariant_of-result
 invariant_of-result c = (
-  start_compact c.args.rows.now c.args.weight c.reach_of-reach.result c.args.costs.now c.args.bounds.items c.requires (reached c) (near c) (room c) c.in_ok-positions.positions.items c.in_ok-at_upper.at_upper.items
-      c.in_ok-nonbasic_values.nonbasic_values.items c.in_ok-empty_rows.field-0.items c.in_ok-copy.field-0 c.in_ok-values.values.items (pos 1) c.in_ok-copies.field-0.items
-      (positions_are c) (at_upper_are c) (nonbasic_values_are c) (rows_are c) c.in_ok-copy.ensures (values_are c) refl c.in_ok-copies.ensures,
+  start_compact c.args.rows.now.items.value.items c.args.weight c.reach_of-reach.result c.args.costs.now c.args.bounds.items c.requires (reached c) (near c) (room c) c.in_ok-positions.positions.items c.in_ok-at_upper.at_upper.items
+      c.in_ok-nonbasic_values.nonbasic_values.items c.in_ok-empty_rows.field-0.items c.in_ok-copy.field-0 c.in_ok-values.values.items (pos 1) c.in_ok-clone.field-0.items.value.items
+      (positions_are c) (at_upper_are c) (nonbasic_values_are c) (rows_are c) c.in_ok-copy.ensures (values_are c) refl c.in_ok-clone.ensures.cases,
   omega (arith, ints),
 )
 
 pub returns-clause-value : goal.returns-clause-value
 returns-clause-value c =
-    start_is c.args.rows.now c.args.weight c.reach_of-reach.result c.args.costs.now c.args.bounds.items c.requires (reached c) (near c) (room c) c.in_ok-positions.positions.items c.in_ok-at_upper.at_upper.items
-    c.in_ok-nonbasic_values.nonbasic_values.items c.in_ok-empty_rows.field-0.items c.in_ok-copy.field-0 c.in_ok-values.values.items (pos 1) c.in_ok-copies.field-0.items
-    (positions_are c) (at_upper_are c) (nonbasic_values_are c) (rows_are c) c.in_ok-copy.ensures (values_are c) refl c.in_ok-copies.ensures c.args.numbers.items
+    start_is c.args.rows.now.items.value.items c.args.weight c.reach_of-reach.result c.args.costs.now c.args.bounds.items c.requires (reached c) (near c) (room c) c.in_ok-positions.positions.items c.in_ok-at_upper.at_upper.items
+    c.in_ok-nonbasic_values.nonbasic_values.items c.in_ok-empty_rows.field-0.items c.in_ok-copy.field-0 c.in_ok-values.values.items (pos 1) c.in_ok-clone.field-0.items.value.items
+    (positions_are c) (at_upper_are c) (nonbasic_values_are c) (rows_are c) c.in_ok-copy.ensures (values_are c) refl c.in_ok-clone.ensures.cases c.args.numbers.items
 
 pub returns-clause-size : goal.returns-clause-size
 returns-clause-size c =
-    as_many_statuses c.args.rows.now c.args.weight c.reach_of-reach.result c.args.costs.now c.args.bounds.items c.requires (reached c) (near c) (room c) c.in_ok-positions.positions.items c.in_ok-at_upper.at_upper.items
-    c.in_ok-nonbasic_values.nonbasic_values.items c.in_ok-empty_rows.field-0.items c.in_ok-copy.field-0 c.in_ok-values.values.items (pos 1) c.in_ok-copies.field-0.items
-    (positions_are c) (at_upper_are c) (nonbasic_values_are c) (rows_are c) c.in_ok-copy.ensures (values_are c) refl c.in_ok-copies.ensures
+    as_many_statuses c.args.rows.now.items.value.items c.args.weight c.reach_of-reach.result c.args.costs.now c.args.bounds.items c.requires (reached c) (near c) (room c) c.in_ok-positions.positions.items c.in_ok-at_upper.at_upper.items
+    c.in_ok-nonbasic_values.nonbasic_values.items c.in_ok-empty_rows.field-0.items c.in_ok-copy.field-0 c.in_ok-values.values.items (pos 1) c.in_ok-clone.field-0.items.value.items
+    (positions_are c) (at_upper_are c) (nonbasic_values_are c) (rows_are c) c.in_ok-copy.ensures (values_are c) refl c.in_ok-clone.ensures.cases
