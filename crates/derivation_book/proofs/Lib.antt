@@ -2,3 +2,4 @@ mod ByColumns
 mod Leaving
 mod Worked
 mod WholeSums
+mod IntegerPrice

@@ -11,3 +11,4 @@ pub mod Exact
 pub mod Bounding
 pub mod Cutting
 pub mod Staying
+pub mod OneDenominator

@@ -10,6 +10,7 @@ mod columns;
 mod combination;
 mod cut;
 mod cut_rows;
+mod integer_price;
 pub mod laws;
 mod legal;
 mod place;

@@ -1,12 +1,13 @@
 //! The price of a combination.
 
-ghost use Rattle.std.specs.Prelude.{◌≡◌, ◌<◌, ◌≤◌, ◌+◌, ℕ, pos, IfOk, IsSome, All, length, drop, slice_index_or};
+ghost use Rattle.std.specs.Prelude.{◌≡◌, ◌<◌, ◌≤◌, ◌+◌, ◌^◌, ℕ, pos, IfOk, IsSome, All, length, map, drop, slice_index_or};
 ghost use Rattle.fraction.specs.Rational.{whole, ◌+ℚ◌, neg_ℚ};
 ghost use Rattle.fraction.specs.Checked.{sub_checked};
 ghost use Rattle.problem.specs.Linear.{coefficient};
 ghost use Rattle.problem.specs.Rising.{RiseFrom, AreRising};
 ghost use Rattle.cert_rows.specs.Combination.{combined_terms};
 ghost use Rattle.derivation_book.specs.Known.{known_lines};
+ghost use Rattle.derivation_book.specs.OverOne.{over};
 ghost use Rattle.derivation_book.specs.Price.{with_bound, with_reduced_cost, with_columns, price, reduced_cost, HasPrice};
 
 use crate::book::Book;
@@ -37,7 +38,7 @@ fn with_reduced_cost(total: Frac, wanted: Frac, combined: Frac, span: Span) -> O
 }
 
 /// The target's coefficient at a column, where the terms before `next` are of earlier columns; and the number of the first term behind the column.
-fn wanted_at(target: &[Term], next: usize, column: usize) -> (Frac, usize)
+pub(crate) fn wanted_at(target: &[Term], next: usize, column: usize) -> (Frac, usize)
     requires { RiseFrom column (drop next target.now) }
     ensures coefficient { result.0 ≡ coefficient (drop next target.now) column }
     ensures rising { RiseFrom (column + 1) (drop result.1 target.now) }
@@ -100,6 +101,23 @@ impl Combination {
         with_columns(self.side, target, &self.coefficients, area)
     }
 
+    /// The price over a box, where the combination has the numerators of its numbers over the denominator; none exactly where that is cramped.
+    fn price_over(mut self, denominator: u64, area: &IntBox, target: &[Term]) -> Option<Frac>
+        requires positive { 0 < denominator }
+        requires small { denominator < 2 ^ 62 }
+        requires columns { length area.now ≡ length self.coefficients }
+        requires rising { AreRising target.now }
+        ensures { result ≡ with_columns (over denominator self.side) target.now 0 (map (over denominator) self.coefficients) area.now }
+    {
+        match self.integer_price(denominator, area, target) {
+            Some(price) => Some(price),
+            None => {
+                self.divide(denominator);
+                self.price(area, target)
+            }
+        }
+    }
+
     /// What is left of a target at each column, no difference being cramped. The one error is want of memory.
     fn left_over(&self, alloc: Global, target: &[Term]) -> Result<Vec<Frac>, AllocError>
         requires rising { AreRising target.now }
@@ -129,11 +147,16 @@ impl Book {
         requires rising { AreRising target.now }
         ensures { IfOk result (λ v. v ≡ price problem.now self.now.cuts area.now target.now mult.now) }
     {
-        match self.combine(alloc, problem, mult.as_slice())? {
+        let mult = mult.as_slice();
+        if let Some((denominator, sums)) = self.scaled_sums(alloc, problem, mult)? {
+            return Ok(sums.price_over(denominator, area, target));
+        }
+        match self.combine_by_fractions(alloc, problem, mult)? {
             Some(sums) => Ok(sums.price(area, target)),
             None => Ok(None),
         }
     }
+
     /// What a combination of known rows leaves of each column of a target, where it has a price over some box. The target's columns rise.
     ///
     /// The one error is want of memory.

@@ -1,6 +1,6 @@
 //! Combinations by whole numbers, where all multipliers are taken over one denominator and all rows are whole.
 
-ghost use Rattle.std.specs.Prelude.{◌≡◌, ◌<◌, IsTrue, IfOk, IfSome, IfNone, All, length, Some, None};
+ghost use Rattle.std.specs.Prelude.{◌≡◌, ◌<◌, ◌^◌, IsTrue, IfOk, IfSome, IfNone, All, length, Some, None};
 ghost use Rattle.cert_rows.specs.Lines.{row_at};
 ghost use Rattle.derivation_book.specs.Known.{known_lines};
 ghost use Rattle.derivation_book.specs.Sums.{combined, combined_columns};
@@ -16,7 +16,7 @@ use std::alloc::{AllocError, Global};
 
 impl Combination {
     /// Divides whole numbers by the denominator.
-    fn divide(&mut self, denominator: u64)
+    pub(crate) fn divide(&mut self, denominator: u64)
         requires { 0 < denominator }
         ensures { self.new ≡ sums_over denominator self.old }
     {
@@ -53,16 +53,18 @@ impl Book {
         true
     }
 
-    /// The combination of known rows by whole numbers; none where this gives up: for a row that isn't whole, for multipliers without a small common
-    /// denominator, or where a sum is cramped. The one error is want of memory.
-    fn combine_by_integers(
+    /// A denominator, and the numerators over it of the combination of known rows; none where this gives up: for a row that isn't whole, for multipliers
+    /// without a small common denominator, or where a sum is cramped. The one error is want of memory.
+    pub(crate) fn scaled_sums(
         &self,
         alloc: Global,
         problem: &Problem,
         mult: &[Term],
-    ) -> Result<Option<Combination>, AllocError>
+    ) -> Result<Option<(u64, Combination)>, AllocError>
         requires { All (λ m. m.0 < length (known_lines problem.now self.now.cuts)) mult.now }
-        ensures { IfOk result (λ o. IfSome o (λ s. combined (known_lines problem.now self.now.cuts) mult.now (length problem.now.spans) ≡ Some s)) }
+        ensures positive { IfOk result (λ o. IfSome o (λ s. 0 < s.0)) }
+        ensures small { IfOk result (λ o. IfSome o (λ s. s.0 < 2 ^ 62)) }
+        ensures sums { IfOk result (λ o. IfSome o (λ s. combined (known_lines problem.now self.now.cuts) mult.now (length problem.now.spans) ≡ Some (sums_over s.0 s.1))) }
     {
         let Some(denominator) = common_denominator(mult) else {
             return Ok(None);
@@ -73,7 +75,23 @@ impl Book {
         let Some(scaled) = all_times(alloc, mult, denominator)? else {
             return Ok(None);
         };
-        let Some(mut sums) = self.combine_by_fractions(alloc, problem, scaled.as_slice())? else {
+        match self.combine_by_fractions(alloc, problem, scaled.as_slice())? {
+            Some(sums) => Ok(Some((denominator, sums))),
+            None => Ok(None),
+        }
+    }
+
+    /// The combination of known rows by whole numbers; none where this gives up, likewise. The one error is want of memory.
+    fn combine_by_integers(
+        &self,
+        alloc: Global,
+        problem: &Problem,
+        mult: &[Term],
+    ) -> Result<Option<Combination>, AllocError>
+        requires { All (λ m. m.0 < length (known_lines problem.now self.now.cuts)) mult.now }
+        ensures { IfOk result (λ o. IfSome o (λ s. combined (known_lines problem.now self.now.cuts) mult.now (length problem.now.spans) ≡ Some s)) }
+    {
+        let Some((denominator, mut sums)) = self.scaled_sums(alloc, problem, mult)? else {
             return Ok(None);
         };
         sums.divide(denominator);

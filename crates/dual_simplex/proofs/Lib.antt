@@ -6,3 +6,4 @@ mod Cutting
 mod CommonDenominator
 mod AnswerThere
 mod Ending
+mod Scaling

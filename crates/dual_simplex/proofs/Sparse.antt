@@ -52,7 +52,7 @@ all_past s j (t ∷ ts) x l r = at (nat_lt t.0 (length x)) refl (all_past s (suc
     at true e others = absurd (omega (arith, ltb-true _ _ e, r.0))
     at false e others = others
 
-term_there : (s : ℚ) (t : ℕ × ℚ) (ts : Terms) (x : RationalPoint) → t.0 < length x → sum_of_terms s (t ∷ ts) x ≡ option_and_then (λ u. sum_of_terms u ts x) (with_product s t.1 (rational_at x t.0))
+pub term_there : (s : ℚ) (t : ℕ × ℚ) (ts : Terms) (x : RationalPoint) → t.0 < length x → sum_of_terms s (t ∷ ts) x ≡ option_and_then (λ u. sum_of_terms u ts x) (with_product s t.1 (rational_at x t.0))
 term_there s t ts x l = at (nat_lt t.0 (length x)) refl
   where
     at : (b : Bool) → nat_lt t.0 (length x) ≡ b

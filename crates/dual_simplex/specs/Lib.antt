@@ -1,5 +1,6 @@
 pub mod Relaxation
 pub mod PointSums
+pub mod Scaled
 pub mod Answers
 pub mod Meaning
 pub mod Sizes

@@ -1,5 +1,5 @@
 // The test of points whose numbers need not be whole.
-ghost use Rattle.std.specs.Prelude.{◌≡◌, ◌≤◌, length, take};
+ghost use Rattle.std.specs.Prelude.{◌≡◌, ◌≤◌, IfOk, length, take};
 ghost use Rattle.std.specs.List.{list_all};
 ghost use Rattle.problem.specs.declared.row.Row.{Row as RowValue};
 ghost use Rattle.problem.specs.Rising.{AreRising};
@@ -10,11 +10,12 @@ ghost use Rattle.event_core.specs.Feasibility.{stands};
 ghost use Rattle.event_core.specs.Relaxed.{lies_in, lies_in_box, satisfies_row, is_relaxed, is_below_cutoff};
 
 use derivation_book::{Book, reaches};
-use dual_simplex::checked_sum;
+use dual_simplex::{PointSums, checked_sum};
 use fraction::Frac;
 use node_events::RationalPoint;
 use problem::{Problem, Row, Sense};
 use problem_box::{IntBox, Span};
+use std::alloc::{AllocError, Global};
 use std::cmp::Ordering;
 
 /// Whether the number lies between the ends of the span.
@@ -55,24 +56,24 @@ fn stands(sense: Sense, ordering: Ordering) -> bool
 }
 
 /// Whether the sum of a row whose columns rise is there, and satisfies the row.
-fn satisfies_row(point: &RationalPoint, row: &Row) -> bool
+fn satisfies_row(sums: &PointSums, row: &Row) -> bool
     requires { AreRising row.now.terms }
-    ensures { result ≡ satisfies_row point.now row.now }
+    ensures { result ≡ satisfies_row sums.now row.now }
 {
-    match checked_sum(point, row.terms.as_slice()) {
-        Some(value) => stands(row.sense, value.cmp(row.rhs)),
+    match sums.compare(row.terms.as_slice(), row.rhs) {
+        Some(ordering) => stands(row.sense, ordering),
         None => false,
     }
 }
 
 /// Whether the point satisfies each row of the problem, and each sum is there.
-fn satisfies_rows(problem: &Problem, point: &RationalPoint) -> bool
-    ensures { result ≡ list_all (λ (r : RowValue). satisfies_row point.now r) problem.now.rows }
+fn satisfies_rows(problem: &Problem, sums: &PointSums) -> bool
+    ensures { result ≡ list_all (λ (r : RowValue). satisfies_row sums.now r) problem.now.rows }
 {
     problem.limits_hold();
     for index in 0..problem.rows() {
         let row = problem.row(index);
-        if !satisfies_row(point, row) {
+        if !satisfies_row(sums, row) {
             return false;
         }
     }
@@ -80,31 +81,36 @@ fn satisfies_rows(problem: &Problem, point: &RationalPoint) -> bool
 }
 
 /// Whether the point satisfies each of the first cuts, and each sum is there.
-fn satisfies_cuts(book: &Book, cuts: usize, point: &RationalPoint) -> bool
+fn satisfies_cuts(book: &Book, cuts: usize, sums: &PointSums) -> bool
     requires { cuts ≤ length book.now.cuts }
-    ensures { result ≡ list_all (λ (c : Cut). satisfies_row point.now c.row) (take cuts book.now.cuts) }
+    ensures { result ≡ list_all (λ (c : Cut). satisfies_row sums.now c.row) (take cuts book.now.cuts) }
 {
     for index in 0..cuts {
         let row = book.cut(index);
-        if !satisfies_row(point, row) {
+        if !satisfies_row(sums, row) {
             return false;
         }
     }
     true
 }
 
-/// Whether the point lies in the box and satisfies all rows and the first cuts, and each sum is there.
+/// Whether the point lies in the box and satisfies all rows and the first cuts, and each sum is there. The one error is want of memory.
 pub fn is_relaxed(
+    alloc: Global,
     problem: &Problem,
     book: &Book,
     cuts: usize,
     area: &IntBox,
     point: &RationalPoint,
-) -> bool
+) -> Result<bool, AllocError>
     requires { cuts ≤ length book.now.cuts }
-    ensures { result ≡ is_relaxed problem.now (take cuts book.now.cuts) area.now point.now }
+    ensures { IfOk result (λ b. b ≡ is_relaxed problem.now (take cuts book.now.cuts) area.now point.now) }
 {
-    lies_in_box(area, point) && satisfies_rows(problem, point) && satisfies_cuts(book, cuts, point)
+    if !lies_in_box(area, point) {
+        return Ok(false);
+    }
+    let sums = PointSums::make(alloc, point)?;
+    Ok(satisfies_rows(problem, &sums) && satisfies_cuts(book, cuts, &sums))
 }
 
 /// Whether the objective is whole.

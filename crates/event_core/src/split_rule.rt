@@ -7,7 +7,7 @@ ghost use Rattle.problem_box.specs.declared.span.Span.{Span as SpanValue};
 ghost use Rattle.problem.specs.Limited.{IsModestSpan};
 ghost use Rattle.dual_simplex.specs.Relaxation.{rational_at};
 ghost use Rattle.dual_simplex.specs.Answers.{answer};
-ghost use Rattle.event_core.specs.Splits.{has_both, cuts_of, is_between, is_middle, is_cramped, is_stalled, is_given, is_reason};
+ghost use Rattle.event_core.specs.Splits.{has_both, cuts_of, is_between, is_middle, is_cramped, is_stalled, is_fractional, is_given, is_reason};
 
 use crate::relaxed::{is_below_cutoff, is_relaxed};
 use crate::split_place::{SplitPlace, middle};
@@ -120,6 +120,28 @@ fn cuts_of(reason: &Reason) -> u32
     }
 }
 
+/// Whether the point's number in the column lies between the bound and the number after it, and the point is one of the linear program with the first
+/// cuts whose objective is below the cutoff. The one error is want of memory.
+fn is_fractional(
+    alloc: Global,
+    problem: &Problem,
+    book: &Book,
+    cuts: usize,
+    area: &IntBox,
+    cutoff: Option<Frac>,
+    at: SplitPlace,
+    point: &RationalPoint,
+) -> Result<bool, AllocError>
+    requires { cuts ≤ length book.now.cuts }
+    ensures { IfOk result (λ b. b ≡ is_fractional problem.now (take cuts book.now.cuts) area.now cutoff at.column at.bound point.now) }
+{
+    if !is_between(number_in(point, at.column), at.bound) {
+        return Ok(false);
+    }
+    let relaxed = is_relaxed(alloc, problem, book, cuts, area, point)?;
+    Ok(relaxed && is_below_cutoff(problem, cutoff, point))
+}
+
 /// Whether what the reason says is so, where its cuts are there. The one error is want of memory.
 fn is_given(
     alloc: Global,
@@ -137,11 +159,18 @@ fn is_given(
     ensures { IfOk result (λ b. b ≡ is_given problem.now book.now.cuts area.now cutoff at.column at.bound reason.now) }
 {
     match reason {
-        Reason::Fractional { cuts, point } => Ok(
-            is_between(number_in(point, at.column), at.bound)
-                && is_relaxed(problem, book, *cuts as usize, area, point)
-                && is_below_cutoff(problem, cutoff, point),
-        ),
+        Reason::Fractional { cuts, point } => {
+            is_fractional(
+                alloc,
+                problem,
+                book,
+                *cuts as usize,
+                area,
+                cutoff,
+                at,
+                point,
+            )
+        }
         Reason::Cramped { cuts, pivots } => {
             if !is_middle(area, at.column, at.bound) {
                 return Ok(false);

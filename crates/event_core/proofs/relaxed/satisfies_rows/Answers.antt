@@ -9,11 +9,11 @@ use Rattle.event_core.proofs.relaxed.satisfies_rows.Goals as goal
 pub returns-then-not-satisfies_row : goal.returns-then-not-satisfies_row
 returns-then-not-satisfies_row c =
     let rows = c.args.problem.now.rows in
-    failed_at (λ (r : Row). satisfies_row c.args.point.now r) rows (length rows) c.loop-index.index c.row-row.result.now
+    failed_at (λ (r : Row). satisfies_row c.args.sums.now r) rows (length rows) c.loop-index.index c.row-row.result.now
     (omega arith) (omega arith) c.row-row.ensures (sym c.satisfies_row.ensures ∙ c.if-not-satisfies_row.true)
-    ∙ ap (list_all (λ (r : Row). satisfies_row c.args.point.now r)) (take_all (length rows) rows (omega arith))
+    ∙ ap (list_all (λ (r : Row). satisfies_row c.args.sums.now r)) (take_all (length rows) rows (omega arith))
 
 pub loop-index-preserved : goal.loop-index-preserved
 loop-index-preserved c =
-    passed_at (λ (r : Row). satisfies_row c.args.point.now r) c.args.problem.now.rows c.loop-index.index c.row-row.result.now
+    passed_at (λ (r : Row). satisfies_row c.args.sums.now r) c.args.problem.now.rows c.loop-index.index c.row-row.result.now
     (omega arith) c.row-row.ensures c.loop-index.invariant (sym c.satisfies_row.ensures ∙ c.if-not-satisfies_row.false)

@@ -5,4 +5,4 @@ use Rattle.event_core.specs.Relaxed.{satisfies_row}
 use Rattle.event_core.proofs.relaxed.satisfies_rows.Given as goal
 
 abbrev pub invariant-loop-index : goal.invariant-loop-index
-invariant-loop-index l = list_all (λ (r : Row). satisfies_row l.point r) (take l.index l.problem.rows) ≡ true
+invariant-loop-index l = list_all (λ (r : Row). satisfies_row l.sums r) (take l.index l.problem.rows) ≡ true

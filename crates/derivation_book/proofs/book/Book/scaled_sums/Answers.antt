@@ -1,9 +1,9 @@
-use Rattle.std.proofs.Common.{ap, sym, ◌∙◌, subst, arith, length, Some}
+use Rattle.std.proofs.Common.{sym, ◌∙◌, subst, arith, length}
 use Rattle.derivation_book.specs.Known.{known_lines}
 use Rattle.derivation_book.specs.OverOne.{AreScaled}
 use Rattle.derivation_book.proofs.WholeSums.{scaled_below, some_of, combined_over}
-use Rattle.derivation_book.proofs.book.Book.combine_by_integers.Goals as goal
-use Rattle.derivation_book.proofs.book.Book.combine_by_integers.Goals.{After-as_slice}
+use Rattle.derivation_book.proofs.book.Book.scaled_sums.Goals as goal
+use Rattle.derivation_book.proofs.book.Book.scaled_sums.Goals.{After-as_slice}
 
 -- the multipliers times the denominator
 scaled : (c : After-as_slice) → AreScaled c.in-Some.denominator c.args.mult.now c.as_slice.result.now
@@ -16,9 +16,8 @@ combine_by_fractions-requires c =
     let h = scaled (goal.at.combine_by_fractions-requires c).After-as_slice in
     scaled_below c.in-Some.denominator (length (known_lines c.args.problem.now c.args.self.now.cuts)) c.args.mult.now c.as_slice.result.now h c.requires
 
-pub returns : goal.returns
-returns c =
-    let h = scaled (goal.at.returns c).After-as_slice in
+pub returns-in-Some-3-clause-sums : goal.returns-in-Some-3-clause-sums
+returns-in-Some-3-clause-sums c =
+    let h = scaled (goal.at.returns-in-Some-3-clause-sums c).After-as_slice in
     combined_over (known_lines c.args.problem.now c.args.self.now.cuts) c.in-Some.denominator c.args.mult.now c.as_slice.result.now (length c.args.problem.now.spans) c.in-Some-3.sums
     c.in-Some.ensures.positive (omega (arith, c.in-Some.ensures.small)) (c.name_whole_rows.ensures c.if-not-name_whole_rows.false) h (sym c.in_ok-sums.ensures ∙ c.in-Some-3.is)
-    ∙ ap Some (sym c.divide.ensures)

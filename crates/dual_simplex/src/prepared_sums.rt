@@ -1,0 +1,80 @@
+//! Sums of many rows at one point.
+
+ghost use Rattle.std.specs.Prelude.{◌≡◌, IfOk, IfSome, Some, option_map};
+ghost use Rattle.fraction.specs.Checked.{compare};
+ghost use Rattle.problem.specs.Rising.{AreRising};
+ghost use Rattle.dual_simplex.specs.PointSums.{checked_sum};
+
+use crate::point_sums::checked_sum;
+use crate::scaled_point::ScaledPoint;
+use fraction::Frac;
+use node_events::RationalPoint;
+use problem::Term;
+use std::alloc::{AllocError, Global};
+use std::cmp::Ordering;
+use std::marker::Model;
+
+/// A point that is prepared for the sums of many rows, seen as the point.
+#[derive(Drop)]
+pub struct PointSums<'a> {
+    point: &'a RationalPoint,
+    /// The point over one denominator, where its numbers aren't too large for that.
+    scaled: Option<ScaledPoint>,
+}
+
+impl<'a> Model for PointSums<'a> {
+    ghost use Rattle.std.specs.Prelude.{◌≡◌, List, IfSome};
+    ghost use Rattle.std.specs.Coded.{coded_list};
+    ghost use Rattle.fraction.specs.Rational.{ℚ};
+    ghost use Rattle.fraction.specs.Code.{code_ℚ};
+
+    ghost Value = { List ℚ };
+
+    ghost coded = { coded_list code_ℚ };
+
+    ghost view = { λ s. s.point.now };
+
+    ghost invariant = { λ s. IfSome s.scaled (λ p. p ≡ s.point.now) };
+}
+
+/// How a sum of fractions compares with a right side; none exactly where the sum is cramped.
+fn compare_fractions(point: &RationalPoint, terms: &[Term], rhs: Frac) -> Option<Ordering>
+    requires { AreRising terms.now }
+    ensures { result ≡ option_map (λ v. compare v rhs) (checked_sum terms.now point.now) }
+{
+    let sum = checked_sum(point, terms)?;
+    Some(sum.cmp(rhs))
+}
+
+impl<'a> PointSums<'a> {
+    /// The point, prepared. The one error is want of memory.
+    pub fn make(alloc: Global, point: &'a RationalPoint) -> Result<PointSums<'a>, AllocError>
+        ensures { IfOk result (λ s. s ≡ point.now) }
+    {
+        let scaled = ScaledPoint::make(alloc, point)?;
+        Ok(PointSums { point, scaled })
+    }
+
+    /// How the sum of whole numbers compares with a right side, if whole numbers tell it.
+    fn compare_integers(&self, terms: &[Term], rhs: Frac) -> Option<Ordering>
+        requires { AreRising terms.now }
+        ensures { IfSome result (λ o. option_map (λ v. compare v rhs) (checked_sum terms.now self.now) ≡ Some o) }
+    {
+        match &self.scaled {
+            Some(scaled) => scaled.compare(terms, rhs),
+            None => None,
+        }
+    }
+
+    /// How the sum of coefficient times number, as `checked_sum` gives it, compares with a right side; none exactly where a product or a sum on the
+    /// way is cramped. The columns of the terms rise.
+    pub fn compare(&self, terms: &[Term], rhs: Frac) -> Option<Ordering>
+        requires { AreRising terms.now }
+        ensures { result ≡ option_map (λ v. compare v rhs) (checked_sum terms.now self.now) }
+    {
+        match self.compare_integers(terms, rhs) {
+            Some(ordering) => Some(ordering),
+            None => compare_fractions(self.point, terms, rhs),
+        }
+    }
+}

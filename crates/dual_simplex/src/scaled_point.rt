@@ -1,0 +1,259 @@
+//! Points over one common denominator, whose sums are compared in whole numbers.
+
+ghost use Rattle.std.specs.Prelude.{◌≡◌, ◌<◌, ◌≤◌, ◌*◌, ◌+◌, ◌^◌, ◌+ℤ◌, ◌*ℤ◌, nat_abs, IfOk, IfSome, Some, option_map, pos};
+ghost use Rattle.fraction.specs.Rational.{frac, whole};
+ghost use Rattle.fraction.specs.Checked.{compare};
+ghost use Rattle.problem.specs.Rising.{AreRising};
+ghost use Rattle.dual_simplex.specs.PointSums.{checked_sum};
+ghost use Rattle.dual_simplex.specs.Sizes.{IsIntegerTo};
+ghost use Rattle.dual_simplex.specs.Scaled.{point_over, numerator_at, IsDenominator, AreNumerators, IsSumOver};
+
+use fraction::Frac;
+use node_events::RationalPoint;
+use problem::Term;
+use std::alloc::{AllocError, Global};
+use std::cmp::Ordering;
+use std::marker::Model;
+
+/// The greatest size of a denominator and of a numerator.
+const MOST: u128 = 1 << 76;
+
+/// The greatest size of a coefficient.
+const MOST_COEFFICIENT: u128 = 1 << 40;
+
+/// The greatest size of a right side.
+const MOST_SIDE: u128 = 1 << 50;
+
+/// How many terms a sum has at most. So no sum has more than 126 bits.
+const MOST_TERMS: usize = 1000;
+
+/// A point over one common denominator, seen as the point itself.
+#[derive(Drop)]
+pub(crate) struct ScaledPoint {
+    denominator: u128,
+    /// The numerators of the numbers, column 0 first.
+    numerators: Vec<i128>,
+}
+
+impl Model for ScaledPoint {
+    ghost use Rattle.std.specs.Prelude.{List};
+    ghost use Rattle.std.specs.Coded.{coded_list};
+    ghost use Rattle.fraction.specs.Rational.{ℚ};
+    ghost use Rattle.fraction.specs.Code.{code_ℚ};
+    ghost use Rattle.dual_simplex.specs.Scaled.{point_over, IsDenominator, AreNumerators};
+
+    ghost Value = { List ℚ };
+
+    ghost coded = { coded_list code_ℚ };
+
+    ghost view = { λ p. point_over p.denominator p.numerators.items };
+
+    ghost invariant = { λ p. IsDenominator p.denominator × AreNumerators p.numerators.items };
+}
+
+// ---- the denominator
+
+/// A common multiple of a denominator and another one, the least where the first isn't one already; none where it is above 2^76.
+fn with_denominator(common: u128, other: u128) -> Option<u128>
+    requires common { IsDenominator common }
+    requires positive { 0 < other }
+    requires small { other < 2 ^ 127 }
+    ensures { IfSome result IsDenominator }
+{
+    if common % other == 0 {
+        return Some(common);
+    }
+    let factor = Frac::make(common as i128, other as i128).denom();
+    let multiple = common.checked_mul(factor)?;
+    if multiple <= MOST {
+        Some(multiple)
+    } else {
+        None
+    }
+}
+
+/// A common multiple of a denominator and that of a number; none where it is above 2^76.
+fn with_number(common: u128, number: Frac) -> Option<u128>
+    requires { IsDenominator common }
+    ensures { IfSome result IsDenominator }
+{
+    number.limits_hold();
+    with_denominator(common, number.denom())
+}
+
+/// A common multiple of the denominators of a point's numbers; none where it is above 2^76.
+fn common_denominator(point: &RationalPoint) -> Option<u128>
+    ensures { IfSome result IsDenominator }
+{
+    let mut common = 1;
+    for column in 0..point.len() {
+        common = with_number(common, point.get(column))?;
+    }
+    Some(common)
+}
+
+// ---- the numerators
+
+/// The product, where its size is at most 2^76.
+fn small_multiple(number: i128, factor: u128) -> Option<i128>
+    requires { factor ≤ 2 ^ 76 }
+    ensures value { IfSome result (λ z. z ≡ number *ℤ pos factor) }
+    ensures small { IfSome result (λ z. nat_abs z ≤ 2 ^ 76) }
+{
+    let multiple = number.checked_mul(factor as i128)?;
+    if multiple.unsigned_abs() <= MOST {
+        Some(multiple)
+    } else {
+        None
+    }
+}
+
+/// The numerator of a number over a denominator; none where it isn't whole, or its size is above 2^76.
+fn numerator_over(number: Frac, denominator: u128) -> Option<i128>
+    requires { IsDenominator denominator }
+    ensures value { IfSome result (λ z. frac z denominator ≡ number) }
+    ensures small { IfSome result (λ z. nat_abs z ≤ 2 ^ 76) }
+{
+    let part = number.denom();
+    if denominator % part != 0 {
+        return None;
+    }
+    small_multiple(number.numer(), denominator / part)
+}
+
+/// The numerators of a point's numbers over a denominator; none where one of them isn't whole, or its size is above 2^76. The one error is want of
+/// memory.
+fn numerators_over(
+    alloc: Global,
+    point: &RationalPoint,
+    denominator: u128,
+) -> Result<Option<Vec<i128>>, AllocError>
+    requires { IsDenominator denominator }
+    ensures point { IfOk result (λ o. IfSome o (λ v. point_over denominator v.items ≡ point.now)) }
+    ensures small { IfOk result (λ o. IfSome o (λ v. AreNumerators v.items)) }
+{
+    let mut numerators = Vec::with_capacity(alloc, point.len())?;
+    for column in 0..point.len() {
+        let Some(numerator) = numerator_over(point.get(column), denominator) else {
+            return Ok(None);
+        };
+        numerators.push(numerator)?;
+    }
+    Ok(Some(numerators))
+}
+
+// ---- sums
+
+/// The number, where it is whole and its size is at most `most`.
+#[inline(always)]
+fn integer_to(number: Frac, most: u128) -> Option<i128>
+    ensures value { IfSome result (λ z. z ≡ number.num) }
+    ensures integer { IfSome result (λ _. IsIntegerTo most number) }
+{
+    if number.is_whole() && number.numer().unsigned_abs() <= most {
+        Some(number.numer())
+    } else {
+        None
+    }
+}
+
+/// The numerator in a column, and 0 where there is no such column.
+#[inline(always)]
+fn numerator_in(numerators: &[i128], column: u32) -> i128
+    requires { AreNumerators numerators.now }
+    ensures value { result ≡ numerator_at numerators.now column }
+    ensures small { nat_abs result ≤ 2 ^ 76 }
+{
+    let column = column as usize;
+    if column < numerators.len() {
+        numerators[column]
+    } else {
+        0
+    }
+}
+
+/// The product of a coefficient and a numerator.
+#[inline(always)]
+fn product(coefficient: i128, numerator: i128) -> i128
+    requires coefficient { nat_abs coefficient ≤ 2 ^ 40 }
+    requires numerator { nat_abs numerator ≤ 2 ^ 76 }
+    ensures value { result ≡ coefficient *ℤ numerator }
+    ensures small { nat_abs result ≤ 2 ^ 116 }
+{
+    coefficient * numerator
+}
+
+/// The numerator of a sum with one term more; none where the coefficient isn't whole, or its size is above 2^40.
+#[inline(always)]
+fn with_term(numerators: &[i128], total: i128, term: &Term) -> Option<i128>
+    requires numerators { AreNumerators numerators.now }
+    requires total { nat_abs total ≤ 1000 * 2 ^ 116 }
+    ensures value { IfSome result (λ t. t ≡ total +ℤ term.now.1.num *ℤ numerator_at numerators.now term.now.0) }
+    ensures small { IfSome result (λ t. nat_abs t ≤ nat_abs total + 2 ^ 116) }
+    ensures integer { IfSome result (λ _. IsIntegerTo (2 ^ 40) term.now.1) }
+{
+    let coefficient = integer_to(term.coefficient(), MOST_COEFFICIENT)?;
+    Some(total + product(coefficient, numerator_in(numerators, term.column())))
+}
+
+/// The numerator of the sum of coefficient times number, where the columns of the terms rise; none where there are more than 1,000 terms, or a
+/// coefficient isn't whole, or its size is above 2^40.
+fn numerator_of_sum(numerators: &[i128], terms: &[Term]) -> Option<i128>
+    requires numerators { AreNumerators numerators.now }
+    requires rising { AreRising terms.now }
+    ensures value { IfSome result (IsSumOver terms.now numerators.now) }
+    ensures small { IfSome result (λ t. nat_abs t < 2 ^ 126) }
+{
+    if terms.len() > MOST_TERMS {
+        return None;
+    }
+    let mut total = 0;
+    for term in terms {
+        total = with_term(numerators, total, term)?;
+    }
+    Some(total)
+}
+
+/// The numerator of a whole number over a denominator.
+#[inline(always)]
+fn numerator_of_side(side: i128, denominator: u128) -> i128
+    requires side { nat_abs side ≤ 2 ^ 50 }
+    requires denominator { IsDenominator denominator }
+    ensures { result ≡ side *ℤ pos denominator }
+{
+    side * denominator as i128
+}
+
+impl ScaledPoint {
+    /// The point over a common denominator; none where its numbers are too large for that. The one error is want of memory.
+    pub(crate) fn make(
+        alloc: Global,
+        point: &RationalPoint,
+    ) -> Result<Option<ScaledPoint>, AllocError>
+        ensures { IfOk result (λ o. IfSome o (λ p. p ≡ point.now)) }
+    {
+        let Some(denominator) = common_denominator(point) else {
+            return Ok(None);
+        };
+        let Some(numerators) = numerators_over(alloc, point, denominator)? else {
+            return Ok(None);
+        };
+        Ok(Some(ScaledPoint {
+            denominator,
+            numerators,
+        }))
+    }
+
+    /// How the sum of coefficient times number, where the columns of the terms rise, compares with a right side.
+    ///
+    /// None where there are more than 1,000 terms, or a coefficient or the right side isn't whole or is large. Where there is an answer, no step of
+    /// the sum in fractions is cramped.
+    pub(crate) fn compare(&self, terms: &[Term], rhs: Frac) -> Option<Ordering>
+        requires { AreRising terms.now }
+        ensures { IfSome result (λ o. option_map (λ v. compare v rhs) (checked_sum terms.now self.now) ≡ Some o) }
+    {
+        let side = integer_to(rhs, MOST_SIDE)?;
+        let sum = numerator_of_sum(&self.numerators, terms)?;
+        Some(sum.cmp(&numerator_of_side(side, self.denominator)))
+    }
+}
