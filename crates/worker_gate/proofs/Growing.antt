@@ -1,0 +1,93 @@
+-- How lists of entries grow, and stay legal.
+use Rattle.std.specs.Prelude.{◌≡◌, ◌≤◌, ◌+◌, max, ℕ, false, List, [], ◌∷◌, ◌++◌, length, take, drop, All, Option, Some, None, nat_lt, refl}
+use Rattle.std.proofs.Common.{sym, ap, ◌∙◌, subst, arith}
+use Rattle.std.proofs.lemmas.List.{append_assoc, drop-append-le, take-append-le}
+use Rattle.std.proofs.lemmas.List.Elements.{All-append}
+use Rattle.std.proofs.Math.Seq.{drop-length}
+use Rattle.node_events.specs.declared.event.Event.{Event}
+use Rattle.node_events.specs.declared.event.Event.TheVariants.{Claim, Release, Cut, Offer, Split, Close}
+use Rattle.event_core.specs.declared.entry.Entry.{Entry}
+use Rattle.event_core.specs.States.{State, tree_of}
+use Rattle.event_core.specs.After.{after, after_cut}
+use Rattle.event_core.specs.Histories.{state_from, AreLegalFrom}
+use Rattle.problem.specs.declared.row.Row.{Row}
+use Rattle.derivation_book.specs.Rounded.{rounded_row}
+use Rattle.node_tree.specs.Lemmas.Splitting.{length-split}
+use Rattle.node_pool.specs.Halting.{passes_budget}
+use Rattle.node_pool.specs.declared.halt.Halt.{Halt}
+use Rattle.worker_gate.specs.declared.entry.Opening.{Opening}
+use Rattle.worker_gate.specs.declared.entry.PoolEntry.{PoolEntry}
+use Rattle.worker_gate.specs.declared.entry.PoolEntry.TheVariants.{Halted}
+use Rattle.worker_gate.specs.Entries.{happened, opening_in, events_in, state_in}
+use Rattle.worker_gate.specs.Legal.{IsByOneOf, IsRecorded, IsLegalList}
+use Rattle.worker_gate.specs.Limits.{cuts_limit}
+use Rattle.worker_gate.specs.Kins.{entries_with}
+use Rattle.worker_gate.specs.Lemmas.Lists.{events-append, opening-append, opened-append, state-append, happened-append}
+
+-- ---- entries
+pub entries-grow : (first stop : ℕ) (h : Option Halt) (history es : List Entry) → first ≤ stop → stop ≤ length history
+    → entries_with first h stop (history ++ es) ≡ entries_with first h stop history ++ happened es
+entries-grow first stop None history es l m = ap happened (drop-append-le first history es (omega (arith, l, m))) ∙ happened-append (drop first history) es
+entries-grow first stop (Some c) history es l m =
+    ap (λ (xs : List Entry). happened (drop first xs) ++ Halted c ∷ happened (drop stop (history ++ es))) (take-append-le stop history es m)
+    ∙ ap (λ (xs : List PoolEntry). happened (drop first (take stop history)) ++ Halted c ∷ xs) (ap happened (drop-append-le stop history es m) ∙ happened-append (drop stop history) es)
+    ∙ sym (append_assoc (happened (drop first (take stop history))) (Halted c ∷ happened (drop stop history)) (happened es))
+
+take-all : {X : Type 0} (xs : List X) → take (length xs) xs ≡ xs
+take-all [] = refl
+take-all (x ∷ xs) = ap (λ ys. x ∷ ys) (take-all xs)
+
+pub entries-halt : (first stop : ℕ) (c : Halt) (history : List Entry) → entries_with first (Some c) (length history) history ≡ entries_with first None stop history ++ Halted c ∷ []
+entries-halt first stop c history =
+    ap (λ (xs : List Entry). happened (drop first xs) ++ Halted c ∷ happened (drop (length history) history)) (take-all history)
+    ∙ ap (λ (xs : List Entry). happened (drop first history) ++ Halted c ∷ happened xs) (drop-length history)
+
+-- ---- nodes
+pub nodes_within : (budget : ℕ) (s : State) (o : Option ℕ) (e : Event) → passes_budget budget (length s.nodes) e ≡ false → length (after s o e).nodes ≤ max budget (length s.nodes)
+nodes_within budget s o (Claim i) h = grind arith
+nodes_within budget s o (Release i) h = grind arith
+nodes_within budget s o (Cut mult) h = same (rounded_row s.problem s.cuts mult)
+  where
+    same : (r : Option Row) → length (after_cut s mult r).nodes ≤ max budget (length s.nodes)
+    same None = grind arith
+    same (Some r) = grind arith
+nodes_within budget s o (Offer x) h = grind arith
+nodes_within budget s o (Split i j b r) h = few (length (after s o (Split i j b r)).nodes) (length s.nodes) (length-split (tree_of s) i j b) h
+  where
+    few : (m n : ℕ) → m ≡ n + 2 → nat_lt budget (n + 2) ≡ false → m ≤ max budget n
+    few m n e f = grind arith
+nodes_within budget s o (Close i proof) h = grind arith
+
+-- one after the other
+pub joined_most : (limit a b c : ℕ) → b ≤ max limit a → c ≤ max limit b → c ≤ max limit a
+joined_most limit a b c h k = grind arith
+
+-- ---- legal lists
+module _ (list own : List PoolEntry) (legal : IsLegalList list) where
+  pub still_legal : AreLegalFrom (state_in list) (events_in own) → All (IsByOneOf (opening_in list).workers) (events_in own)
+      → length (state_from (state_in list) (events_in own)).cuts ≤ cuts_limit list
+      → length (state_from (state_in list) (events_in own)).nodes ≤ max (opening_in list).budget (length (opening_in list).state.state.nodes)
+      → IsLegalList (list ++ own)
+  still_legal events workers cuts nodes = record {
+    opened = opened-append list own legal.opened;
+    recorded = subst (λ (o : Opening). IsRecorded o.state) (sym same) legal.recorded;
+    events =
+        subst (λ (o : Opening). AreLegalFrom o.state.state (events_in (list ++ own))) (sym same)
+        (subst (λ (es : List Entry). AreLegalFrom (opening_in list).state.state es) (sym (events-append list own)) (legal_both (opening_in list).state.state (events_in list) (events_in own) legal.events events));
+    workers =
+        subst (λ (o : Opening). All (IsByOneOf o.workers) (events_in (list ++ own))) (sym same)
+        (subst (λ (es : List Entry). All (IsByOneOf (opening_in list).workers) es) (sym (events-append list own)) (All-append (IsByOneOf (opening_in list).workers) (events_in list) (events_in own) legal.workers workers));
+    few_cuts =
+        subst (λ (o : Opening). length (state_in (list ++ own)).cuts ≤ max o.cuts (length o.state.state.cuts)) (sym same)
+        (subst (λ (s : State). length s.cuts ≤ cuts_limit list) (sym (state-append list own legal.opened)) cuts);
+    few_nodes =
+        subst (λ (o : Opening). length (state_in (list ++ own)).nodes ≤ max o.budget (length o.state.state.nodes)) (sym same)
+        (subst (λ (s : State). length s.nodes ≤ max (opening_in list).budget (length (opening_in list).state.state.nodes)) (sym (state-append list own legal.opened)) nodes);
+  }
+    where
+      same : opening_in (list ++ own) ≡ opening_in list
+      same = opening-append list own legal.opened
+
+      legal_both : (s : State) (es fs : List Entry) → AreLegalFrom s es → AreLegalFrom (state_from s es) fs → AreLegalFrom s (es ++ fs)
+      legal_both s [] fs h k = k
+      legal_both s (e ∷ es) fs h k = (h.0, legal_both (after s e.worker e.event) es fs h.1 k)

@@ -1,0 +1,12 @@
+pub mod CutLists
+pub mod Following
+pub mod Growing
+pub mod Keeping
+pub mod Making
+pub mod Asking
+pub mod Committing
+pub mod Adding
+pub mod Turning
+pub mod Separating
+pub mod Settling
+pub mod Improving

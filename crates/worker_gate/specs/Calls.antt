@@ -1,0 +1,127 @@
+-- What each call answers, and which entries it makes, by the list that it finds.
+use Rattle.std.specs.Prelude.{◌≡◌, ℕ, Bool, true, false, List, [], ◌∷◌, ◌++◌, length, drop, All, Option, Some, None, IsSome, Result, Ok, Err}
+use Rattle.std.specs.declared.alloc.AllocError.{AllocError}
+use Rattle.node_events.specs.declared.event.Event.{Event}
+use Rattle.node_events.specs.declared.event.Event.TheVariants as event
+use Rattle.node_tree.specs.Nodes.{branch_at}
+use Rattle.event_core.specs.declared.entry.Entry.{Entry}
+use Rattle.event_core.specs.States.{State, tree_of, box_of, cutoff}
+use Rattle.node_pool.specs.Answers.{IsClaim}
+use Rattle.node_pool.specs.declared.halt.Halt.{Halt}
+use Rattle.node_pool.specs.declared.halt.Halt.TheVariants as halt
+use Rattle.node_pool.specs.declared.answers.Claim.{Claim}
+use Rattle.node_pool.specs.declared.answers.Claim.TheVariants as claim
+use Rattle.node_pool.specs.declared.answers.Receipt.{Receipt}
+use Rattle.node_pool.specs.declared.answers.CommitFault.{CommitFault}
+use Rattle.node_pool.specs.declared.answers.CommitFault.TheVariants as fault
+use Rattle.expand.specs.declared.finding.Finding.{Finding}
+use Rattle.expand.specs.Laws.{entries_of}
+use Rattle.expand.specs.Settlements.{events_of}
+use Rattle.expand.specs.Settling.{settled}
+use Rattle.worker_gate.specs.declared.entry.PoolEntry.{PoolEntry}
+use Rattle.worker_gate.specs.declared.entry.PoolEntry.TheVariants.{Happened, Halted}
+use Rattle.worker_gate.specs.declared.glance.Glance.{Glance}
+use Rattle.worker_gate.specs.Entries.{happened, opening_in, halt_in, state_in, payloads_of}
+
+-- an event of the worker
+abbrev pub entry_by : ℕ → Event → Entry
+entry_by w e = record { worker = Some w; event = e }
+
+-- ---- claim
+-- the entries of a claim with this answer
+abbrev pub claimed : ℕ → Claim → List PoolEntry
+claimed w (claim.Node n) = Happened (entry_by w (event.Claim n)) ∷ []
+claimed w claim.Idle = []
+claimed w claim.Done = []
+claimed w claim.Halted = []
+
+abbrev pub Claims : ℕ → Result Claim AllocError → List PoolEntry → List PoolEntry → Type 0
+Claims w (Ok c) at own = IsClaim (halt_in at) (state_in at) c × (own ≡ claimed w c)
+Claims w (Err e) at own = own ≡ []
+
+-- ---- glance
+-- the cuts from this number on, the cutoff, the node's box, and the branch that leads to the node
+pub record IsGlanceOf (s : State) (node known : ℕ) (g : Glance) : Type 0 where
+  pub cuts : g.cuts.items ≡ drop known s.cuts
+  pub cutoff : g.cutoff ≡ cutoff s
+  pub area : g.area ≡ box_of s node
+  pub branch : g.branch ≡ branch_at (tree_of s) node
+
+abbrev pub Glances : ℕ → ℕ → Result Glance AllocError → List PoolEntry → List PoolEntry → Type 0
+Glances node known (Ok g) at own = IsGlanceOf (state_in at) node known g × (own ≡ [])
+Glances node known (Err e) at own = own ≡ []
+
+-- ---- commit
+-- the events by which the worker settles its node as the finding says, in the state after these entries
+abbrev pub settling : ℕ → ℕ → Finding → List PoolEntry → List Entry
+settling w node f at = entries_of w (events_of node (settled (state_in at) (box_of (state_in at) node) (opening_in at).cuts f))
+
+-- the event is the last one of its node
+abbrev pub ends_node : Event → Bool
+ends_node (event.Claim i) = false
+ends_node (event.Release i) = false
+ends_node (event.Cut mult) = false
+ends_node (event.Offer x) = false
+ends_node (event.Split i j b reason) = true
+ends_node (event.Close i proof) = true
+
+-- of all these events the first were made, none of which ends the node
+pub record AreFirstOf (all made left : List Entry) : Type 0 where
+  pub parted : all ≡ made ++ left
+  pub unended : All (λ (e : Entry). ends_node e.event ≡ false) made
+
+-- all were made, and acknowledged from this number on
+pub record AreAllMade (all : List Entry) (r : Receipt) (at own : List PoolEntry) : Type 0 where
+  pub unhalted : halt_in at ≡ None
+  pub made : own ≡ happened all
+  pub first : r.first ≡ payloads_of at
+  pub count : r.count ≡ length all
+
+-- the first were made, and there was no memory for the next
+pub record AreFirstMade (all : List Entry) (at own : List PoolEntry) : Type 0 where
+  pub events : List Entry
+  pub left : List Entry
+  pub unhalted : halt_in at ≡ None
+  pub firsts : AreFirstOf all events left
+  pub made : own ≡ happened events
+
+-- the halt by a fault at this event
+abbrev pub IsHaltBy : CommitFault → Event → Halt → Type 0
+IsHaltBy fault.Disk e h = (n : ℕ) × (h ≡ halt.Disk n e)
+IsHaltBy fault.Budget e h = h ≡ halt.Budget e
+IsHaltBy fault.Memory e h = ⊥
+IsHaltBy fault.Halted e h = ⊥
+
+-- the first were made, and the pool was halted by a fault at the next
+pub record AreHalted (all : List Entry) (f : CommitFault) (at own : List PoolEntry) : Type 0 where
+  pub events : List Entry
+  pub next : Entry
+  pub left : List Entry
+  pub halt : Halt
+  pub unhalted : halt_in at ≡ None
+  pub firsts : AreFirstOf all events (next ∷ left)
+  pub cause : IsHaltBy f next.event halt
+  pub made : own ≡ happened events ++ Halted halt ∷ []
+
+-- which of these events a commit makes
+abbrev pub MakesOf : List Entry → Result Receipt CommitFault → List PoolEntry → List PoolEntry → Type 0
+MakesOf all (Ok r) at own = AreAllMade all r at own
+MakesOf all (Err fault.Memory) at own = AreFirstMade all at own
+MakesOf all (Err fault.Disk) at own = AreHalted all fault.Disk at own
+MakesOf all (Err fault.Budget) at own = AreHalted all fault.Budget at own
+MakesOf all (Err fault.Halted) at own = IsSome (halt_in at) × (own ≡ [])
+
+abbrev pub Commits : ℕ → ℕ → Finding → Result Receipt CommitFault → List PoolEntry → List PoolEntry → Type 0
+Commits w node f r at own = MakesOf (settling w node f at) r at own
+
+-- ---- release and halt
+abbrev pub Releases : ℕ → ℕ → List PoolEntry → List PoolEntry → Type 0
+Releases w node at own = own ≡ Happened (entry_by w (event.Release node)) ∷ []
+
+-- a halt for want of memory, unless there is one
+abbrev pub halting : Option Halt → List PoolEntry
+halting None = Halted halt.Memory ∷ []
+halting (Some h) = []
+
+abbrev pub Halts : List PoolEntry → List PoolEntry → Type 0
+Halts at own = own ≡ halting (halt_in at)

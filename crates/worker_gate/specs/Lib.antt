@@ -1,0 +1,10 @@
+pub mod Entries
+pub mod Legal
+pub mod Limits
+pub mod Conditions
+pub mod Gates
+pub mod Calls
+pub mod Passes
+pub mod Kins
+pub mod Laws
+pub mod Lemmas
