@@ -1,14 +1,14 @@
 //! The program `bnc`, which solves integer programs and proves its answers. Its commands:
 //!
-//! - `bnc solve MODEL JOURNAL CERT [--nodes N] [--upper U] [--cuts C]` reads an integer program in free MPS from MODEL, minimises its objective, writes
-//!   a VIPR 1.0 certificate of the answer to CERT, and prints a few lines. It keeps each event of its search in JOURNAL, and goes on from there where
-//!   JOURNAL has some.
-//! - `bnc resume JOURNAL CERT [--nodes N] [--cuts C]` does the same, the model and U being those of JOURNAL.
+//! - `bnc solve MODEL JOURNAL CERT [--nodes N] [--cuts C] [--workers W] [--upper U]` reads an integer program in free MPS from MODEL, minimises its
+//!   objective, writes a VIPR 1.0 certificate of the answer to CERT, and prints a few lines. It keeps each event of its search in JOURNAL, and goes on
+//!   from there where JOURNAL has some.
+//! - `bnc resume JOURNAL CERT [--nodes N] [--cuts C] [--workers W]` does the same, the model and U being those of JOURNAL.
 //! - `bnc show JOURNAL` prints how far the search of JOURNAL has come, and changes nothing.
-//! - `bnc drill SEED CERT [--nodes N] [--cuts C]` solves a model that is made from SEED, 0 to 1,000,000,000, with its journal in memory.
+//! - `bnc drill SEED CERT [--nodes N] [--cuts C] [--workers W]` solves a model that is made from SEED, 0 to 1,000,000,000, with its journal in memory.
 //!
 //! The search has at most N nodes, 1 to 1,000,000,000, and 1,000,000 where the words don't say, and at most C cuts, 0 to 256, and 256 where they don't
-//! say. U, 0 to 1,000,000,000, bounds each column that has no bound.
+//! say. W workers search at a time, 1 to 16, and 1 where the words don't say. U, 0 to 1,000,000,000, bounds each column that has no bound.
 //!
 //! All of that is `run` of `solve_top`. Here the real files of `file_streams` and `file_disk` are put in its hands, and the exit status is told: the
 //! number of a `Status` of `solve_top`.

@@ -31,13 +31,15 @@ abbrev pub number_in : ℕ → ℕ → Option Text → Option (Option ℕ)
 number_in low high None = Some None
 number_in low high (Some text) = if is_unsigned_in low high text then Some (Some (digits_value 10 (without_leading_plus text))) else None
 
-abbrev pub limits_with : Option (Option ℕ) → Option (Option ℕ) → Option Limits
-limits_with (Some nodes) (Some cuts) = Some (record { nodes = unwrap_or nodes 1000000; cuts = unwrap_or cuts 256 })
-limits_with nodes cuts = None
+abbrev pub limits_with : Option (Option ℕ) → Option (Option ℕ) → Option (Option ℕ) → Option Limits
+limits_with (Some nodes) (Some cuts) (Some workers) = Some (record { nodes = unwrap_or nodes 1000000; cuts = unwrap_or cuts 256; workers = unwrap_or workers 1 })
+limits_with nodes cuts workers = None
 
 -- the limits that the matches of a command ask for: numbers in their ranges
-abbrev pub limits_of : List Row → Option Limits
-limits_of rows = limits_with (number_in 1 1000000000 (one_of (codes "nodes") rows)) (number_in 0 256 (one_of (codes "cuts") rows))
+unfoldable pub limits_of : List Row → Option Limits
+limits_of rows =
+    limits_with (number_in 1 1000000000 (one_of (codes "nodes") rows)) (number_in 0 256 (one_of (codes "cuts") rows))
+    (number_in 1 16 (one_of (codes "workers") rows))
 
 abbrev pub solve_with : Option Text → Option Text → Option Text → Option Limits → Option (Option ℕ) → Option Asked
 solve_with (Some model) (Some journal) (Some cert) (Some limits) (Some upper) =
@@ -105,6 +107,8 @@ pub record AreInRange (l : Limits) : Type 0 where
   pub some_nodes : 1 ≤ l.nodes
   pub few_nodes : l.nodes ≤ 1000000000
   pub few_cuts : l.cuts ≤ 256
+  pub some_workers : 1 ≤ l.workers
+  pub few_workers : l.workers ≤ 16
 
 -- its numbers are in their ranges
 abbrev pub HasRanges : Command → Type 0

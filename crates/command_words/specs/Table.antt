@@ -19,17 +19,17 @@ number id low high = record (new_rule id) { long = Some id; parser = Some (vp.Un
 abbrev pub with_journal_cert : App → App
 with_journal_cert a = with_rule (with_rule a (path (codes "JOURNAL"))) (path (codes "CERT"))
 
--- the most nodes and the most cuts of a search
+-- the most nodes and the most cuts of a search, and how many workers search
 abbrev pub with_limits : App → App
-with_limits a = with_rule (with_rule a (number (codes "nodes") 1 1000000000)) (number (codes "cuts") 0 256)
+with_limits a = with_rule (with_rule (with_rule a (number (codes "nodes") 1 1000000000)) (number (codes "cuts") 0 256)) (number (codes "workers") 1 16)
 
--- `solve MODEL JOURNAL CERT [--nodes N] [--cuts C] [--upper U]`
+-- `solve MODEL JOURNAL CERT [--nodes N] [--cuts C] [--workers W] [--upper U]`
 abbrev pub solve_command : App
 solve_command =
     let a = with_rule (new_app (codes "solve")) (path (codes "MODEL")) in
     with_rule (with_limits (with_journal_cert a)) (number (codes "upper") 0 1000000000)
 
--- `resume JOURNAL CERT [--nodes N] [--cuts C]`
+-- `resume JOURNAL CERT [--nodes N] [--cuts C] [--workers W]`
 abbrev pub resume_command : App
 resume_command = with_limits (with_journal_cert (new_app (codes "resume")))
 
@@ -37,7 +37,7 @@ resume_command = with_limits (with_journal_cert (new_app (codes "resume")))
 abbrev pub show_command : App
 show_command = with_rule (new_app (codes "show")) (path (codes "JOURNAL"))
 
--- `drill SEED CERT [--nodes N] [--cuts C]`
+-- `drill SEED CERT [--nodes N] [--cuts C] [--workers W]`
 abbrev pub drill_command : App
 drill_command = with_limits (with_rule (with_rule (new_app (codes "drill")) seed) (path (codes "CERT")))
 

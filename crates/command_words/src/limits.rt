@@ -1,4 +1,4 @@
-// The limits of a search.
+// The limits of a search, and its workers.
 ghost use Rattle.std.specs.Prelude.{◌≡◌, ◌≤◌, Some, None, IfErr, IfOk};
 ghost use Rattle.clap.specs.Words.{found_of, rows_of};
 ghost use Rattle.command_words.specs.Commands.{AreInRange, limits_of as limits_of_rows};
@@ -15,13 +15,20 @@ const MOST_NODES: u32 = 1_000_000_000;
 // The most cuts: the largest number of them, and also that where the words don't say.
 const MOST_CUTS: u32 = 256;
 
-/// The limits of a search.
+// The workers where the words don't say, and the largest number of them.
+const WORKERS: u32 = 1;
+
+const MOST_WORKERS: u32 = 16;
+
+/// The limits of a search, and its workers.
 #[derive(Clone, Copy, Debug, PartialEq, Eq)]
 pub struct Limits {
     /// The most nodes of the search, 1 to 1,000,000,000; 1,000,000 where the words don't say.
     pub nodes: u32,
     /// The most cuts of the search, 0 to 256; 256 where the words don't say.
     pub cuts: u32,
+    /// How many workers search, 1 to 16; 1 where the words don't say.
+    pub workers: u32,
 }
 
 /// The limits that the matches of a command ask for.
@@ -34,8 +41,10 @@ pub(crate) fn limits_of(matches: &ArgMatches<'_>) -> Result<Limits, WordsFault>
 {
     let nodes = number_in(matches, "nodes", 1, MOST_NODES)?;
     let cuts = number_in(matches, "cuts", 0, MOST_CUTS)?;
+    let workers = number_in(matches, "workers", 1, MOST_WORKERS)?;
     Ok(Limits {
         nodes: nodes.unwrap_or(NODES),
         cuts: cuts.unwrap_or(MOST_CUTS),
+        workers: workers.unwrap_or(WORKERS),
     })
 }

@@ -65,13 +65,14 @@ fn with_journal_cert<'a>(alloc: Global, command: Command<'a>) -> Result<Command<
     with_arg(command, path(alloc, "CERT"))
 }
 
-// The limits of a search.
+// The limits of a search, and its workers.
 fn with_limits<'a>(alloc: Global, command: Command<'a>) -> Result<Command<'a>, AllocError>
     ensures app { IfOk result (λ c. app_of c ≡ with_limits (app_of command.entry)) }
     ensures local { IfOk result (λ c. (fields_of c).has_globals ≡ (fields_of command.entry).has_globals) }
 {
     let command = with_arg(command, number(alloc, "nodes", 1, 1_000_000_000))?;
-    with_arg(command, number(alloc, "cuts", 0, 256))
+    let command = with_arg(command, number(alloc, "cuts", 0, 256))?;
+    with_arg(command, number(alloc, "workers", 1, 16))
 }
 
 fn solve<'a>(alloc: Global) -> Result<Command<'a>, AllocError>

@@ -7,6 +7,7 @@ mod final_tableau;
 mod fraction_run;
 mod integer_run;
 pub mod laws;
+mod narrow_sums;
 mod point_sums;
 mod prepared_sums;
 mod program;

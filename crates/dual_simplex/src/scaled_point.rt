@@ -8,6 +8,7 @@ ghost use Rattle.dual_simplex.specs.PointSums.{checked_sum};
 ghost use Rattle.dual_simplex.specs.Sizes.{IsIntegerTo};
 ghost use Rattle.dual_simplex.specs.Scaled.{point_over, numerator_at, IsDenominator, AreNumerators, IsSumOver};
 
+use crate::narrow_sums::{self, narrow_numerators};
 use fraction::Frac;
 use node_events::RationalPoint;
 use problem::Term;
@@ -25,7 +26,7 @@ const MOST_COEFFICIENT: u128 = 1 << 40;
 const MOST_SIDE: u128 = 1 << 50;
 
 /// How many terms a sum has at most. So no sum has more than 126 bits.
-const MOST_TERMS: usize = 1000;
+pub(crate) const MOST_TERMS: usize = 1000;
 
 /// A point over one common denominator, seen as the point itself.
 #[derive(Drop)]
@@ -33,10 +34,12 @@ pub(crate) struct ScaledPoint {
     denominator: u128,
     /// The numerators of the numbers, column 0 first.
     numerators: Vec<i128>,
+    /// The same numerators, where each of them fits into 64 bits.
+    narrow: Option<Vec<i64>>,
 }
 
 impl Model for ScaledPoint {
-    ghost use Rattle.std.specs.Prelude.{List};
+    ghost use Rattle.std.specs.Prelude.{◌≡◌, List, IfSome};
     ghost use Rattle.std.specs.Coded.{coded_list};
     ghost use Rattle.fraction.specs.Rational.{ℚ};
     ghost use Rattle.fraction.specs.Code.{code_ℚ};
@@ -48,7 +51,7 @@ impl Model for ScaledPoint {
 
     ghost view = { λ p. point_over p.denominator p.numerators.items };
 
-    ghost invariant = { λ p. IsDenominator p.denominator × AreNumerators p.numerators.items };
+    ghost invariant = { λ p. IsDenominator p.denominator × AreNumerators p.numerators.items × IfSome p.narrow (λ v. v.items ≡ p.numerators.items) };
 }
 
 // ---- the denominator
@@ -174,7 +177,7 @@ fn numerator_in(numerators: &[i128], column: u32) -> i128
 
 /// The product of a coefficient and a numerator.
 #[inline(always)]
-fn product(coefficient: i128, numerator: i128) -> i128
+pub(crate) fn product(coefficient: i128, numerator: i128) -> i128
     requires coefficient { nat_abs coefficient ≤ 2 ^ 40 }
     requires numerator { nat_abs numerator ≤ 2 ^ 76 }
     ensures value { result ≡ coefficient *ℤ numerator }
@@ -214,6 +217,24 @@ fn numerator_of_sum(numerators: &[i128], terms: &[Term]) -> Option<i128>
     Some(total)
 }
 
+/// The same by the numerators of 64 bits, where they are there.
+fn narrow_or_wide_sum(
+    numerators: &[i128],
+    narrow: &Option<Vec<i64>>,
+    terms: &[Term],
+) -> Option<i128>
+    requires numerators { AreNumerators numerators.now }
+    requires same { IfSome narrow.now (λ v. v.items ≡ numerators.now) }
+    requires rising { AreRising terms.now }
+    ensures value { IfSome result (IsSumOver terms.now numerators.now) }
+    ensures small { IfSome result (λ t. nat_abs t < 2 ^ 126) }
+{
+    match narrow {
+        Some(narrow) => narrow_sums::numerator_of_sum(narrow, terms),
+        None => numerator_of_sum(numerators, terms),
+    }
+}
+
 /// The numerator of a whole number over a denominator.
 #[inline(always)]
 fn numerator_of_side(side: i128, denominator: u128) -> i128
@@ -238,9 +259,11 @@ impl ScaledPoint {
         let Some(numerators) = numerators_over(alloc, point, denominator)? else {
             return Ok(None);
         };
+        let narrow = narrow_numerators(alloc, &numerators)?;
         Ok(Some(ScaledPoint {
             denominator,
             numerators,
+            narrow,
         }))
     }
 
@@ -253,7 +276,7 @@ impl ScaledPoint {
         ensures { IfSome result (λ o. option_map (λ v. compare v rhs) (checked_sum terms.now self.now) ≡ Some o) }
     {
         let side = integer_to(rhs, MOST_SIDE)?;
-        let sum = numerator_of_sum(&self.numerators, terms)?;
+        let sum = narrow_or_wide_sum(&self.numerators, &self.narrow, terms)?;
         Some(sum.cmp(&numerator_of_side(side, self.denominator)))
     }
 }

@@ -1,6 +1,7 @@
 -- A disk that holds payloads whole, and one more payload.
 use Rattle.std.specs.Prelude.{◌≡◌, ℕ, ◌+◌, ◌<◌, ◌^◌, Bool, true, ◌&&◌, nat_lt, List, [], ◌∷◌, ◌++◌, length, take, refl}
 use Rattle.std.proofs.Common.{arith, ap, inl, subst, sym, ◌∙◌, append_assoc, length-append}
+use Rattle.std.proofs.Math.Logic.{∥∥₁_map}
 use Rattle.std.proofs.lemmas.Bool.Decides.{nat_tests}
 use Rattle.std.proofs.lemmas.List.{append-nil, take_at}
 use Rattle.std.proofs.lemmas.List.Folds.{list_all-append}
@@ -12,11 +13,11 @@ use Rattle.node_journal.specs.Records.{Holds, mark, payloads_held, records}
 use Rattle.node_journal.specs.Frames.{frame, frames_of, file_of, end_of, tail_of, has_small_length}
 use Rattle.node_journal.specs.Whole.{payloads_in, IsWhole}
 use Rattle.node_journal.proofs.Framing.{frames_of-append, head_length, records_closed}
-use Rattle.node_journal.specs.Gate.{IsBefore, IsBeforeOrWith}
-use Rattle.node_journal.specs.History.{SomeFrom}
+use Rattle.node_journal.specs.Gate.{IsBefore, IsBeforeOrWith, IsOpened}
+use Rattle.node_journal.specs.History.{SomeFrom, RemainsFrom}
 use Rattle.node_journal.specs.Appends.{IsWithOrWithout}
-use Rattle.node_journal.proofs.Ends.{adding, before_records, last_shut}
-use Rattle.node_journal.specs.Lemmas.Histories.{some_weaker}
+use Rattle.node_journal.proofs.Ends.{adding, opening, open_records, before_records, last_shut}
+use Rattle.node_journal.specs.Lemmas.Histories.{run_each, some_weaker}
 use Rattle.node_journal.specs.Lemmas.Resting.{rested}
 
 -- what a disk with the file of payloads holds
@@ -81,13 +82,28 @@ module _ (ps : List (List ℕ)) (p : List ℕ) (small : list_all has_small_lengt
     pub written_rests : {m : Moment} {written : List ℕ} → m ≡ resting (take end n.seen ++ 1 ∷ written) → written ≡ tail_of p → m ≡ resting (file_of (ps ++ p ∷ []))
     written_rests done is = done ∙ ap resting (written_file is)
 
+    before_end : take end n.seen ≡ mark ++ frames_of ps
+    before_end = ap (λ (k : ℕ). take k n.seen) at ∙ ap (λ (l : List ℕ). take (end_of ps) l) seen_is ∙ prefix
+
     leaves : (written c : List ℕ) → written ≡ tail_of p → IsBeforeOrWith n.seen end written c → IsWithOrWithout ps p c
-    leaves written c is left =
-        adding ps p (file_of ps) c (end_of ps) all_small small refl prefix new_file
-        (subst (λ (k : ℕ). IsBeforeOrWith (file_of ps) k (tail_of p) c) at (subst (λ (l : List ℕ). IsBeforeOrWith (file_of ps) end l c) is (subst (λ (l : List ℕ). IsBeforeOrWith l end written c) seen_is left)))
+    leaves written c is left = adding ps p n.seen c end all_small small seen_is before_end new_file (subst (λ (l : List ℕ). IsBeforeOrWith n.seen end l c) is left)
 
     pub leaves_with : {past : List Moment} {past' : List Moment} {now' : Moment} {written : List ℕ} → written ≡ tail_of p → LeavesOnly past n past' now' (IsBeforeOrWith n.seen end written) → LeavesOnly past n past' now' (IsWithOrWithout ps p)
     leaves_with {past = past} {past' = past'} {now' = now'} {written = written} is run = weaker past n past' now' (IsBeforeOrWith n.seen end written) (IsWithOrWithout ps p) (λ c left. leaves written c is left) run
+
+    pub remains_with : {past : List Moment} {past' : List Moment} {now' : Moment} {written : List ℕ} → written ≡ tail_of p → LeavesOnly past n past' now' (IsBeforeOrWith n.seen end written)
+        → RemainsFrom (length past) (past' ++ now' ∷ []) (IsOpened n.seen end written) → RemainsFrom (length past) (past' ++ now' ∷ []) (λ c. records c ≡ Holds (ps ++ p ∷ []))
+    remains_with {past = past} {past' = past'} {now' = now'} {written = written} is run remains i j m k ge le ati atj may =
+        ∥∥₁_map (remains i j m k ge le ati atj (∥∥₁_map may opened)) (λ w. (w.0, w.1, with_open w.0 w.2))
+      where
+        opened_at : (c : List ℕ) → IsBeforeOrWith n.seen end written c → records c ≡ Holds (ps ++ p ∷ []) → IsOpened n.seen end written c
+        opened_at c left held = subst (λ (l : List ℕ). IsOpened n.seen end l c) (sym is) (opening ps p n.seen c end all_small small seen_is before_end new_file (subst (λ (l : List ℕ). IsBeforeOrWith n.seen end l c) is left) held)
+
+        opened : (c : List ℕ) × IsImage m c × (records c ≡ Holds (ps ++ p ∷ [])) → (c : List ℕ) × IsImage m c × IsOpened n.seen end written c
+        opened w = (w.0, w.1, opened_at w.0 (run_each past n past' now' (IsBeforeOrWith n.seen end written) run i m w.0 ge ati w.1) w.2)
+
+        with_open : (c : List ℕ) → IsOpened n.seen end written c → records c ≡ Holds (ps ++ p ∷ [])
+        with_open c opened = open_records ps p n.seen c end all_small small seen_is before_end new_file (opened.whole ∙ ap (λ (l : List ℕ). take end n.seen ++ 1 ∷ l) is)
 
     pub can_leave : (from : ℕ) (past' : List Moment) → SomeFrom from past' (IsBefore n.seen) → SomeFrom from past' (λ c. records c ≡ Holds ps)
     can_leave from past' some = some_weaker from past' (IsBefore n.seen) (λ c. records c ≡ Holds ps) (λ c left. before_records ps n.seen c small seen_is left) some

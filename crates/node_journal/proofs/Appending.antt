@@ -1,15 +1,16 @@
 -- The four calls of an append, one after another, over what a disk tells.
-use Rattle.std.proofs.Common.{◌≡◌, ℕ, ◌+◌, List, [], ◌∷◌, length, refl, sym, ◌∙◌, ap, subst, arith}
+use Rattle.std.proofs.Common.{◌≡◌, ℕ, ◌+◌, List, [], ◌∷◌, ◌++◌, length, take, refl, sym, ◌∙◌, ap, subst, arith}
 use Rattle.std.proofs.lemmas.List.{append-nil}
+use Rattle.std.proofs.Math.Logic.{∥∥₁_elim, ∥∥₁_map, ∥∥₁_prop}
 use Rattle.outside.specs.Lemmas.SeenIsImage.{rests}
-use Rattle.node_journal.specs.History.{SomeFrom}
-use Rattle.node_journal.specs.Lemmas.Histories.{some_none, some_goes, some_fails}
-use Rattle.node_journal.proofs.Torn.{wrote_behind}
+use Rattle.node_journal.specs.History.{SomeFrom, MayLeave, RemainsFrom}
+use Rattle.node_journal.specs.Lemmas.Histories.{some_none, some_goes, some_fails, remains_begun, remains_goes, remains_fails}
 use Rattle.outside.specs.Images.{IsImage, LeavesOnly, OneMomentPasses, Fails, moment_after_write, resting, moment_after_sync, overwritten}
-use Rattle.node_journal.specs.Gate.{IsBefore, IsBeforeOrWith}
+use Rattle.node_journal.specs.Lemmas.Resting.{rested}
+use Rattle.node_journal.specs.Gate.{IsBefore, IsBeforeOrWith, IsOpened}
 use Rattle.outside.specs.declared.moment.Moment.{Moment}
 use Rattle.outside.specs.Lemmas.Passing.{started, goes_on, fails_on}
-use Rattle.node_journal.proofs.Torn.{before_all, first_write, first_sync, second_write, second_sync}
+use Rattle.node_journal.proofs.Torn.{behind, wrote_behind, opened, before_all, first_write, first_sync, second_write, second_sync}
 
 module _ (payload : List ℕ) (end : ℕ) (p : List Moment) (n : Moment) (rest : n ≡ resting n.seen) (len : length n.seen ≡ end + 1) where
   file : List ℕ
@@ -72,7 +73,8 @@ module _ (payload : List ℕ) (end : ℕ) (p : List Moment) (n : Moment) (rest :
         pub ends : (p4 : List Moment) (n4 : Moment) → OneMomentPasses p3 n3 p4 n4 (moment_after_sync n3) → LeavesOnly p n p4 n4 (IsBeforeOrWith n.seen end payload)
         ends p4 n4 g = goes_on p p3 p4 n n3 n4 _ _ so_far_3 g four
 
--- Until the last of the four calls is done a crash can leave the bytes from before, with a closed gate at their end.
+-- Until the last of the four calls is done a crash can leave the bytes from before, with a closed gate at their end. Where
+-- some crash leaves the open gate, some crash at each later moment does.
 unwritten : (at : ℕ) (bytes old : List ℕ) → IsImage (moment_after_write at bytes (resting old)) old
 unwritten at bytes old = record { no_shorter = omega arith; no_longer = omega arith; elsewhere = λ i lt out. refl }
 
@@ -83,6 +85,16 @@ module _ (payload : List ℕ) (end : ℕ) (p : List Moment) (n : Moment) (rest :
   can_0 : (c : List ℕ) × IsImage n c × IsBefore n.seen c
   can_0 = (n.seen, subst (λ m. IsImage m n.seen) (sym rest) (rests n.seen), prefix)
 
+  only_0 : (c : List ℕ) → IsImage n c → IsBefore n.seen c
+  only_0 c is = ([], rested n.seen c (subst (λ m. IsImage m c) rest is) ∙ sym (append-nil n.seen))
+
+  -- before the gate is written no crash leaves it open
+  not_yet : (m : Moment) → ((c : List ℕ) → IsImage m c → IsBefore n.seen c) → (m' : Moment) → MayLeave (IsOpened n.seen end payload) m → MayLeave (IsOpened n.seen end payload) m'
+  not_yet m only m' may = ∥∥₁_elim may ∥∥₁_prop (λ w. absurd (w.2.new (only w.0 w.1)))
+
+  pub remains_1 : (p1 : List Moment) (n1 : Moment) → Fails p n p1 n1 (moment_after_write (end + 1) payload n) → RemainsFrom (length p) (p1 ++ n1 ∷ []) (IsOpened n.seen end payload)
+  remains_1 p1 n1 f = remains_fails (length p) p n p1 n1 _ _ (remains_begun p n _) (not_yet n only_0 n1) f
+
   pub may_1 : (p1 : List Moment) (n1 : Moment) → Fails p n p1 n1 (moment_after_write (end + 1) payload n) → SomeFrom (length p) p1 (IsBefore n.seen)
   may_1 p1 n1 f = some_fails (length p) p n p1 n1 _ _ (some_none p _) can_0 f
 
@@ -92,6 +104,15 @@ module _ (payload : List ℕ) (end : ℕ) (p : List Moment) (n : Moment) (rest :
 
     can_1 : (c : List ℕ) × IsImage n1 c × IsBefore n.seen c
     can_1 = (n.seen, subst (λ m. IsImage m n.seen) (sym (g1.came ∙ ap (moment_after_write (end + 1) payload) rest)) (unwritten (end + 1) payload n.seen), prefix)
+
+    only_1 : (c : List ℕ) → IsImage n1 c → IsBefore n.seen c
+    only_1 c is = behind n.seen payload c (end + 1) len (subst (λ m. IsImage m c) (g1.came ∙ ap (moment_after_write (end + 1) payload) rest) is)
+
+    remained_1 : RemainsFrom (length p) (p1 ++ n1 ∷ []) (IsOpened n.seen end payload)
+    remained_1 = remains_goes (length p) p n p1 n1 _ _ (remains_begun p n _) (not_yet n only_0 n1) g1
+
+    pub remains_2 : (p2 : List Moment) (n2 : Moment) → Fails p1 n1 p2 n2 (moment_after_sync n1) → RemainsFrom (length p) (p2 ++ n2 ∷ []) (IsOpened n.seen end payload)
+    remains_2 p2 n2 f = remains_fails (length p) p1 n1 p2 n2 _ _ remained_1 (not_yet n1 only_1 n2) f
 
     pub may_2 : (p2 : List Moment) (n2 : Moment) → Fails p1 n1 p2 n2 (moment_after_sync n1) → SomeFrom (length p) p2 (IsBefore n.seen)
     may_2 p2 n2 f = some_fails (length p) p1 n1 p2 n2 _ _ gone_1 can_1 f
@@ -109,6 +130,15 @@ module _ (payload : List ℕ) (end : ℕ) (p : List Moment) (n : Moment) (rest :
       can_2 : (c : List ℕ) × IsImage n2 c × IsBefore n.seen c
       can_2 = (overwritten (end + 1) payload n.seen, subst (λ m. IsImage m (overwritten (end + 1) payload n.seen)) (sym at_2) (rests (overwritten (end + 1) payload n.seen)), behind_prefix)
 
+      only_2 : (c : List ℕ) → IsImage n2 c → IsBefore n.seen c
+      only_2 c is = (payload, rested _ c (subst (λ m. IsImage m c) at_2 is) ∙ wrote_behind n.seen payload (end + 1) len)
+
+      remained_2 : RemainsFrom (length p) (p2 ++ n2 ∷ []) (IsOpened n.seen end payload)
+      remained_2 = remains_goes (length p) p1 n1 p2 n2 _ _ remained_1 (not_yet n1 only_1 n2) g2
+
+      pub remains_3 : (p3 : List Moment) (n3 : Moment) → Fails p2 n2 p3 n3 (moment_after_write end (1 ∷ []) n2) → RemainsFrom (length p) (p3 ++ n3 ∷ []) (IsOpened n.seen end payload)
+      remains_3 p3 n3 f = remains_fails (length p) p2 n2 p3 n3 _ _ remained_2 (not_yet n2 only_2 n3) f
+
       pub may_3 : (p3 : List Moment) (n3 : Moment) → Fails p2 n2 p3 n3 (moment_after_write end (1 ∷ []) n2) → SomeFrom (length p) p3 (IsBefore n.seen)
       may_3 p3 n3 f = some_fails (length p) p2 n2 p3 n3 _ _ gone_2 can_2 f
 
@@ -121,6 +151,22 @@ module _ (payload : List ℕ) (end : ℕ) (p : List Moment) (n : Moment) (rest :
 
         pub may_4 : (p4 : List Moment) (n4 : Moment) → Fails p3 n3 p4 n4 (moment_after_sync n3) → SomeFrom (length p) p4 (IsBefore n.seen)
         may_4 p4 n4 f = some_fails (length p) p3 n3 p4 n4 _ _ gone_3 can_3 f
+
+        -- the open gate is there to be read
+        is_open : (n4 : Moment) → n4.seen ≡ n3.seen → IsImage n4 n4.seen → MayLeave (IsOpened n.seen end payload) n3 → MayLeave (IsOpened n.seen end payload) n4
+        is_open n4 same seen may = ∥∥₁_map may (λ w. (n4.seen, seen, subst (λ (c : List ℕ). IsOpened n.seen end payload c) (w.2.whole ∙ sym (same ∙ read)) w.2))
+          where
+            read : n3.seen ≡ take end n.seen ++ 1 ∷ payload
+            read = ap (λ (m : Moment). m.seen) (g3.came ∙ ap (moment_after_write end (1 ∷ [])) at_2) ∙ opened n.seen payload end len
+
+        remained_3 : RemainsFrom (length p) (p3 ++ n3 ∷ []) (IsOpened n.seen end payload)
+        remained_3 = remains_goes (length p) p2 n2 p3 n3 _ _ remained_2 (not_yet n2 only_2 n3) g3
+
+        pub remains_4 : (p4 : List Moment) (n4 : Moment) → n4.seen ≡ n3.seen → IsImage n4 n4.seen → Fails p3 n3 p4 n4 (moment_after_sync n3) → RemainsFrom (length p) (p4 ++ n4 ∷ []) (IsOpened n.seen end payload)
+        remains_4 p4 n4 same seen f = remains_fails (length p) p3 n3 p4 n4 _ _ remained_3 (is_open n4 same seen) f
+
+        pub remains_end : (p4 : List Moment) (n4 : Moment) → n4.seen ≡ n3.seen → IsImage n4 n4.seen → OneMomentPasses p3 n3 p4 n4 (moment_after_sync n3) → RemainsFrom (length p) (p4 ++ n4 ∷ []) (IsOpened n.seen end payload)
+        remains_end p4 n4 same seen g = remains_goes (length p) p3 n3 p4 n4 _ _ remained_3 (is_open n4 same seen) g
 
         pub may_end : (p4 : List Moment) (n4 : Moment) → OneMomentPasses p3 n3 p4 n4 (moment_after_sync n3) → SomeFrom (length p) p4 (IsBefore n.seen)
         may_end p4 n4 g = some_goes (length p) p3 n3 p4 n4 _ _ gone_3 can_3 g

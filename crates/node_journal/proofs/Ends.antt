@@ -1,6 +1,6 @@
 -- What is read of a file whose end is torn.
 use Rattle.std.specs.Prelude.{◌≡◌, ℕ, ◌+◌, ◌*◌, ◌≤◌, ◌<◌, Bool, true, false, ◌&&◌, nat_eq, nat_lt, List, [], ◌∷◌, ◌++◌, length, take, drop, get_or, refl}
-use Rattle.std.proofs.Common.{arith, ap, sym, ◌∙◌, inl, inr, ⊎_elim, append_assoc, length-drop, take-append-drop}
+use Rattle.std.proofs.Common.{arith, ap, sym, ◌∙◌, inl, inr, ⊎_elim, append_assoc, length-append, length-drop, take-append-drop}
 use Rattle.std.proofs.lemmas.Grind.{common_steps}
 use Rattle.std.proofs.lemmas.Bool.{cases_eq}
 use Rattle.std.proofs.lemmas.Bool.Decides.{nat_tests}
@@ -8,10 +8,10 @@ use Rattle.std.proofs.lemmas.List.{take_more}
 use Rattle.std.specs.List.{list_all}
 use Rattle.outside.specs.Images.{resting}
 use Rattle.outside.specs.declared.moment.Moment.{Moment}
-use Rattle.node_journal.specs.Records.{Holds, mark, is_gate_open, records}
+use Rattle.node_journal.specs.Records.{Records, Holds, mark, is_gate_open, payloads_held, records}
 use Rattle.node_journal.specs.Frames.{frames_of, file_of, end_of, tail_of, has_small_length}
 use Rattle.node_journal.proofs.Framing.{records_closed, framed_longer}
-use Rattle.node_journal.specs.Gate.{IsBefore, IsBeforeOrWith}
+use Rattle.node_journal.specs.Gate.{IsBefore, IsBeforeOrWith, IsOpened}
 use Rattle.node_journal.specs.Index.{EndsAt, ReadsTo}
 use Rattle.node_journal.specs.Repairs.{IsPrefixAndOne}
 use Rattle.node_journal.specs.Appends.{IsWithOrWithout}
@@ -92,21 +92,38 @@ pub before_records : (ps : List (List ℕ)) (file c : List ℕ) → list_all has
 before_records ps file c small whole b = prefix_records ps (mark ++ frames_of ps) (0 ∷ b.0) c small refl (gate_shut 0 b.0 refl) (b.1 ∙ ap (λ (l : List ℕ). l ++ b.0) whole ∙ append_assoc (mark ++ frames_of ps) (0 ∷ []) b.0)
 
 -- the bytes that a crash leaves while a payload is added
-pub adding : (ps : List (List ℕ)) (p file c : List ℕ) (end : ℕ) → list_all has_small_length (ps ++ p ∷ []) ≡ true → list_all has_small_length ps ≡ true → file ≡ file_of ps → take end file ≡ mark ++ frames_of ps
-    → (mark ++ frames_of ps) ++ 1 ∷ tail_of p ≡ file_of (ps ++ p ∷ []) → IsBeforeOrWith file end (tail_of p) c → IsWithOrWithout ps p c
-adding ps p file c end more small whole prefix new is = ⊎_elim without with is
-  where
-    without : IsBefore file c → IsWithOrWithout ps p c
-    without b = inl (before_records ps file c small whole b)
+module _ (ps : List (List ℕ)) (p file c : List ℕ) (end : ℕ) (more : list_all has_small_length (ps ++ p ∷ []) ≡ true) (small : list_all has_small_length ps ≡ true) (whole : file ≡ file_of ps) (prefix : take end file ≡ mark ++ frames_of ps)
+    (new : (mark ++ frames_of ps) ++ 1 ∷ tail_of p ≡ file_of (ps ++ p ∷ [])) where
+  same : (gate : ℕ) → c ≡ take end file ++ gate ∷ tail_of p → c ≡ (mark ++ frames_of ps) ++ gate ∷ tail_of p
+  same gate e = e ∙ ap (λ (l : List ℕ). l ++ gate ∷ tail_of p) prefix
 
-    same : (gate : ℕ) → c ≡ take end file ++ gate ∷ tail_of p → c ≡ (mark ++ frames_of ps) ++ gate ∷ tail_of p
-    same gate e = e ∙ ap (λ (l : List ℕ). l ++ gate ∷ tail_of p) prefix
+  other : (g : ℕ) → (g ≡ 1 → ⊥) → nat_eq g 1 ≡ false
+  other g ne = grind (arith, nat_tests)
 
-    other : (g : ℕ) → (g ≡ 1 → ⊥) → nat_eq g 1 ≡ false
-    other g ne = grind (arith, nat_tests)
+  pub open_records : c ≡ take end file ++ 1 ∷ tail_of p → records c ≡ Holds (ps ++ p ∷ [])
+  open_records e = ap records (same 1 e ∙ new) ∙ records_closed (ps ++ p ∷ []) (0 ∷ []) more (last_shut (0 ∷ []) (omega arith))
 
-    with : (gate : ℕ) × (c ≡ take end file ++ gate ∷ tail_of p) → IsWithOrWithout ps p c
-    with g = elim (cases_eq g.0 1) [
-      | inl e ↦ inr (ap records (same g.0 g.1 ∙ ap (λ (k : ℕ). (mark ++ frames_of ps) ++ k ∷ tail_of p) e ∙ new) ∙ records_closed (ps ++ p ∷ []) (0 ∷ []) more (last_shut (0 ∷ []) (omega arith)))
-      | inr ne ↦ inl (prefix_records ps (mark ++ frames_of ps) (g.0 ∷ tail_of p) c small refl (gate_shut g.0 (tail_of p) (other g.0 ne)) (same g.0 g.1))
-    ]
+  shut_records : (gate : ℕ) → (gate ≡ 1 → ⊥) → c ≡ take end file ++ gate ∷ tail_of p → records c ≡ Holds ps
+  shut_records gate ne e = prefix_records ps (mark ++ frames_of ps) (gate ∷ tail_of p) c small refl (gate_shut gate (tail_of p) (other gate ne)) (same gate e)
+
+  one : (gate : ℕ) → gate ≡ 1 → c ≡ take end file ++ gate ∷ tail_of p → c ≡ take end file ++ 1 ∷ tail_of p
+  one gate is e = e ∙ ap (λ (k : ℕ). take end file ++ k ∷ tail_of p) is
+
+  pub adding : IsBeforeOrWith file end (tail_of p) c → IsWithOrWithout ps p c
+  adding is = ⊎_elim (λ b. inl (before_records ps file c small whole b)) (λ g. with g.0 g.1) is
+    where
+      with : (gate : ℕ) → c ≡ take end file ++ gate ∷ tail_of p → IsWithOrWithout ps p c
+      with gate e = elim (cases_eq gate 1) [ inl is ↦ inr (open_records (one gate is e)) | inr ne ↦ inl (shut_records gate ne e) ]
+
+  -- where the new payload is there, its gate was opened
+  pub opening : IsBeforeOrWith file end (tail_of p) c → records c ≡ Holds (ps ++ p ∷ []) → IsOpened file end (tail_of p) c
+  opening is held = ⊎_elim (λ b. absurd (not_old (before_records ps file c small whole b))) (λ g. with g.0 g.1) is
+    where
+      not_old : records c ≡ Holds ps → ⊥
+      not_old old = omega (arith, ap (λ (r : Records). length (payloads_held r)) (sym old ∙ held), length-append ps (p ∷ []))
+
+      with : (gate : ℕ) → c ≡ take end file ++ gate ∷ tail_of p → IsOpened file end (tail_of p) c
+      with gate e = elim (cases_eq gate 1) [
+        | inl is ↦ record { whole = one gate is e; new = λ b. not_old (before_records ps file c small whole b) }
+        | inr ne ↦ absurd (not_old (shut_records gate ne e))
+      ]

@@ -9,7 +9,7 @@ use Rattle.outside.specs.Lemmas.SeenIsImage.{rests}
 use Rattle.outside.specs.declared.moment.Moment.{Moment}
 use Rattle.node_journal.specs.Appends.{IsWithOrWithout}
 use Rattle.node_journal.specs.Frames.{file_of, has_small_length}
-use Rattle.node_journal.specs.History.{EachFrom, SomeFrom, BeginsWith, IsPrefixOf, Keeps, KeepsHistory}
+use Rattle.node_journal.specs.History.{EachFrom, SomeFrom, RemainsFrom, BeginsWith, IsPrefixOf, Keeps, IsHistory, KeepsHistory}
 use Rattle.node_journal.specs.Lemmas.Histories.{prefix_more, longer, prefixes_grow, history_grows, kept_stands}
 use Rattle.node_journal.specs.Records.{Holds, records}
 use Rattle.node_journal.proofs.Ends.{before_records}
@@ -28,19 +28,19 @@ module _ (from : ℕ) (past : List Moment) (now : Moment) (file : List ℕ) (ps 
     still : from ≤ length past'
     still = omega (arith, kept.begun, longer past now past' now' (IsWithOrWithout ps p) run)
 
-    pub kept_added : (ps' : List (List ℕ)) (fault : Option ℕ) → ps' ≡ ps ++ p ∷ [] → KeepsHistory from past' now' ps' fault
-    kept_added ps' fault added = record {
-      begun = still;
-      history = history_grows from past now past' now' ps p kept.history (kept.prefixes refl) kept.begun run without here;
-      prefixes = λ sound. subst (λ (l : List (List ℕ)). EachFrom from (past' ++ now' ∷ []) (λ c. IsPrefixOf l (records c))) (sym added) since;
-    }
+    module _ (remains : RemainsFrom (length past) (past' ++ now' ∷ []) (λ c. records c ≡ Holds (ps ++ p ∷ []))) (seen : IsImage now' now'.seen) where
+      grows : IsHistory from (past' ++ now' ∷ [])
+      grows = history_grows from past now past' now' ps p kept.history (kept.prefixes refl) kept.begun run without here remains seen
 
-    pub kept_failed : (ps' : List (List ℕ)) (n : ℕ) → KeepsHistory from past' now' ps' (Some n)
-    kept_failed ps' n = record {
-      begun = still;
-      history = history_grows from past now past' now' ps p kept.history (kept.prefixes refl) kept.begun run without here;
-      prefixes = λ sound. absurd (none-some n (sym sound));
-    }
+      pub kept_added : (ps' : List (List ℕ)) (fault : Option ℕ) → ps' ≡ ps ++ p ∷ [] → KeepsHistory from past' now' ps' fault
+      kept_added ps' fault added = record {
+        begun = still;
+        history = grows;
+        prefixes = λ sound. subst (λ (l : List (List ℕ)). EachFrom from (past' ++ now' ∷ []) (λ c. IsPrefixOf l (records c))) (sym added) since;
+      }
+
+      pub kept_failed : (ps' : List (List ℕ)) (n : ℕ) → KeepsHistory from past' now' ps' (Some n)
+      kept_failed ps' n = record { begun = still; history = grows; prefixes = λ sound. absurd (none-some n (sym sound)) }
 
   -- it was not
   pub since_none : (past' : List Moment) (now' : Moment) → NoMomentPasses past now past' now' → EachFrom from (past' ++ now' ∷ []) (λ c. IsPrefixOf (ps ++ p ∷ []) (records c))

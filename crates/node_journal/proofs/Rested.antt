@@ -6,7 +6,7 @@ use Rattle.outside.specs.Lemmas.Passing.{started, goes_on, fails_on, joined, wea
 use Rattle.outside.specs.declared.moment.Moment.{Moment}
 use Rattle.node_journal.specs.History.{EachFrom, SomeFrom, Anything, KeepsHistory}
 use Rattle.node_journal.specs.Records.{Holds, records}
-use Rattle.node_journal.specs.Lemmas.Histories.{run_each, some_each, some_fails, some_goes, some_joined, some_none}
+use Rattle.node_journal.specs.Lemmas.Histories.{run_each, remains_each, some_each, some_fails, some_goes, some_joined, some_none}
 use Rattle.node_journal.specs.Lemmas.Opening.{kept_opened}
 use Rattle.node_journal.specs.Lemmas.Resting.{rested}
 
@@ -50,5 +50,8 @@ module _ {p : List Moment} {n : Moment} {p1 : List Moment} {n1 : Moment} {p2 : L
   pub leave_since : (t : ℕ) → t ≡ length p1 → EachFrom t (p2 ++ n2 ∷ []) (λ c. records c ≡ Holds ps)
   leave_since t at = subst (λ (k : ℕ). EachFrom k (p2 ++ n2 ∷ []) (λ c. records c ≡ Holds ps)) (sym at) (run_each p1 n1 p2 n2 (λ c. records c ≡ Holds ps) run)
 
-  pub kept_since : (t : ℕ) → t ≡ length p1 → SomeFrom (length p1) p2 Anything → KeepsHistory t p2 n2 ps None
-  kept_since t at some = kept_opened t p1 n1 p2 n2 ps (Holds ps) refl at run (some_each p1 n1 p2 n2 (λ c. records c ≡ Holds ps) run some)
+  pub kept_since : (t : ℕ) → t ≡ length p1 → SomeFrom (length p1) p2 Anything → IsImage n2 n2.seen → KeepsHistory t p2 n2 ps None
+  kept_since t at some seen = kept_opened t p1 n1 p2 n2 ps (Holds ps) refl at run can (remains_each p1 n1 p2 n2 (Holds ps) run can seen)
+    where
+      can : SomeFrom (length p1) p2 (λ c. records c ≡ Holds ps)
+      can = some_each p1 n1 p2 n2 (λ c. records c ≡ Holds ps) run some

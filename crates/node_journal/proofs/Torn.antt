@@ -81,11 +81,15 @@ module _ (file payload : List ℕ) (end : ℕ) (len : length file ≡ end + 1) w
   pub second_write : (c : List ℕ) → IsImage (moment_after_write end (1 ∷ []) (resting (overwritten (end + 1) payload file))) c → IsBeforeOrWith file end payload c
   second_write c is = inr (at_gate (take end file) payload c (get_or file end 0) end prefix (subst (λ (l : List ℕ). IsImage (moment_after_write end (1 ∷ []) (resting l)) c) staged is))
 
-  pub second_sync : (c : List ℕ) → IsImage (resting (overwritten end (1 ∷ []) (overwritten (end + 1) payload file))) c → IsBeforeOrWith file end payload c
-  second_sync c is = inr (1, rested _ c is ∙ ap (λ (l : List ℕ). overwritten end (1 ∷ []) l) staged ∙ over)
+  -- the bytes with the gate open
+  pub opened : overwritten end (1 ∷ []) (overwritten (end + 1) payload file) ≡ take end file ++ 1 ∷ payload
+  opened = ap (λ (l : List ℕ). overwritten end (1 ∷ []) l) staged ∙ over
     where
       over : overwritten end (1 ∷ []) (take end file ++ get_or file end 0 ∷ payload) ≡ take end file ++ 1 ∷ payload
       over = ap (λ (l : List ℕ). l ++ (1 ∷ []) ++ drop (end + 1) (take end file ++ get_or file end 0 ∷ payload)) (take_at (take end file) (get_or file end 0 ∷ payload) end prefix) ∙ ap (λ (l : List ℕ). (take end file ++ 1 ∷ []) ++ l) tail ∙ append_assoc (take end file) (1 ∷ []) payload
         where
           tail : drop (end + 1) (take end file ++ get_or file end 0 ∷ payload) ≡ payload
           tail = ap (λ (l : List ℕ). drop (end + 1) l) (sym (append_assoc (take end file) (get_or file end 0 ∷ []) payload)) ∙ drop_at (take end file ++ get_or file end 0 ∷ []) payload (end + 1) (omega (arith, prefix, length-append (take end file) (get_or file end 0 ∷ [])))
+
+  pub second_sync : (c : List ℕ) → IsImage (resting (overwritten end (1 ∷ []) (overwritten (end + 1) payload file))) c → IsBeforeOrWith file end payload c
+  second_sync c is = inr (1, rested _ c is ∙ opened)

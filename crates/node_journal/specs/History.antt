@@ -40,6 +40,14 @@ EachFrom from ms P = (i : ℕ) (m : Moment) (c : List ℕ) → from ≤ i → sl
 abbrev pub SomeFrom : ℕ → List Moment → (List ℕ → Type 0) → Type 0
 SomeFrom from ms P = (i : ℕ) (m : Moment) → from ≤ i → slice_get ms i ≡ Some m → (c : List ℕ) × IsImage m c × P c
 
+-- a crash at this moment can leave bytes that have P, no matter which
+abbrev pub MayLeave : (List ℕ → Type 0) → Moment → Type 0
+MayLeave P m = ∥ ((c : List ℕ) × IsImage m c × P c) ∥₁
+
+-- where a crash at one of the moments from this number on can, a crash at each later moment can
+abbrev pub RemainsFrom : ℕ → List Moment → (List ℕ → Type 0) → Type 0
+RemainsFrom from ms P = (i j : ℕ) (m n : Moment) → from ≤ i → i ≤ j → slice_get ms i ≡ Some m → slice_get ms j ≡ Some n → MayLeave P m → MayLeave P n
+
 -- the moments of the first list are the first of the second
 abbrev pub ExtendsMoments : List Moment → List Moment → Type 0
 ExtendsMoments ms more = (i : ℕ) (m : Moment) → slice_get ms i ≡ Some m → slice_get more i ≡ Some m
@@ -57,6 +65,8 @@ pub record IsHistory (from : ℕ) (ms : List Moment) : Type 0 where
       → IsImage m c → IsImage n d → Agree (records c) (records d)
   -- what all crashes at one moment leave, all crashes at each later moment leave
   pub lasting : (i j : ℕ) (m n : Moment) (ps : List (List ℕ)) → from ≤ i → i ≤ j → slice_get ms i ≡ Some m → slice_get ms j ≡ Some n → Keeps ps m → Keeps ps n
+  -- what any crash at one moment leaves, some crash at each later moment leaves, or more; and so some crash at the last
+  pub remaining : (ps : List (List ℕ)) → RemainsFrom from ms (λ c. BeginsWith ps (records c))
 
 -- What a journal of these payloads keeps of its disk, from the moment of this number on. The last is the disk's count at the fault by which it failed.
 pub record KeepsHistory (from : ℕ) (past : List Moment) (now : Moment) (ps : List (List ℕ)) (fault : Option ℕ) : Type 0 where

@@ -129,7 +129,10 @@ impl<D: Disk> Pool<D> {
         ensures halted { IsHalt self.now.faults self.now.budget (D.count self.now.journal.disk) self.now.journal.fault self.now.state.state self.now.halt }
         ensures kept { D.tells ≡ true → KeepsHistory self.now.journal.opened (D.past self.now.journal.disk) (D.now self.now.journal.disk) (payloads_in (D.now self.now.journal.disk)) self.now.journal.fault }
         ensures few { self.now.budget ≤ 1_000_000_000 }
+        // The disk has counted no fewer faults than when the pool was made.
+        ensures rising { self.now.faults ≤ D.count self.now.journal.disk }
     {
+        let _faults_then = self.faults;
         self.journal.history_holds();
     }
 

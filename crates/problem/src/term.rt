@@ -1,6 +1,7 @@
 //! A column with its coefficient.
 
 ghost use Rattle.std.specs.Prelude.{◌≡◌, IfOk};
+ghost use Rattle.fraction.specs.Narrow.{narrow};
 
 use fraction::{Frac, NarrowFrac};
 use std::alloc::{AllocError, Global};
@@ -104,6 +105,17 @@ impl Term {
         match &self.form {
             Form::Narrow { coefficient, .. } => coefficient.wide(),
             Form::Wide { coefficient, .. } => **coefficient,
+        }
+    }
+
+    /// The coefficient in 64 bits, where it fits.
+    #[inline(always)]
+    pub fn narrow(&self) -> Option<NarrowFrac>
+        ensures { result ≡ narrow self.now.1 }
+    {
+        match &self.form {
+            Form::Narrow { coefficient, .. } => coefficient.wide().narrow(),
+            Form::Wide { coefficient, .. } => coefficient.narrow(),
         }
     }
 

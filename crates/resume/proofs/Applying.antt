@@ -1,6 +1,6 @@
 -- One event after another.
-use Rattle.std.specs.Prelude.{◌≡◌, ◌≢◌, ℕ, ◌+◌, ◌≤◌, ℤ, true, List, [], ◌∷◌, ◌++◌, length, Option, Some, None, Result, Ok, Err, slice_set, refl}
-use Rattle.std.proofs.Common.{arith, sym, ◌∙◌, ap, subst, length-append}
+use Rattle.std.specs.Prelude.{◌≡◌, ◌≢◌, ℕ, ◌+◌, ◌≤◌, ℤ, true, List, length, Option, Some, None, Ok, Err, refl}
+use Rattle.std.proofs.Common.{arith, subst, length-append}
 use Rattle.std.proofs.Math.ListN.{length-set}
 use Rattle.problem.specs.declared.row.Row.{Row}
 use Rattle.problem.specs.Linear.{Multipliers}
@@ -11,16 +11,14 @@ use Rattle.event_codec.specs.declared.fault.CodecFault.{CodecFault}
 use Rattle.event_codec.specs.Codes.{code, IsCodable}
 use Rattle.event_codec.specs.Types.{IsEvent}
 use Rattle.event_codec.specs.declared.fault.CodecError.TheVariants.{Fault}
-use Rattle.event_codec.specs.declared.fault.CodecError.{CodecError}
 use Rattle.event_codec.specs.Steps.{Gives}
-use Rattle.event_core.specs.declared.admit.Admit.{Admit}
 use Rattle.event_core.specs.declared.admit.Admit.TheVariants.{Yes}
 use Rattle.event_core.specs.States.{State}
 use Rattle.event_core.specs.Judging.{judged}
 use Rattle.event_core.specs.After.{after, after_cut}
-use Rattle.event_core.specs.Histories.{is_journaled, IsLegal}
+use Rattle.event_core.specs.Histories.{is_journaled}
 use Rattle.event_core.specs.Rooms.{HasNumbers}
-use Rattle.resume.specs.Events.{node_limit, IsNextEvent, IsNoEvent}
+use Rattle.resume.specs.Events.{node_limit, IsNoEvent}
 
 -- an event that has a code is kept in a journal
 pub codable_stays : (e : Event) → IsCodable e → is_journaled e ≡ true

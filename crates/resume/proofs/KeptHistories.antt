@@ -1,12 +1,12 @@
 -- What a disk keeps from the first moment of a call that opens its journal.
-use Rattle.std.specs.Prelude.{◌≡◌, ℕ, ◌≤◌, Bool, true, false, List, [], ◌∷◌, ◌++◌, length, Option, None, refl}
+use Rattle.std.specs.Prelude.{◌≡◌, ℕ, ◌≤◌, Bool, true, List, [], ◌∷◌, ◌++◌, length, Option, None, refl}
 use Rattle.std.proofs.Common.{sym, ◌∙◌, ap, subst}
-use Rattle.outside.specs.Images.{AtRest, LeavesOnly, NoMomentPasses, resting}
+use Rattle.outside.specs.Images.{IsImage, AtRest, LeavesOnly, NoMomentPasses, resting}
 use Rattle.outside.specs.declared.moment.Moment.{Moment}
-use Rattle.node_journal.specs.History.{SomeFrom, IsPrefixOf, Keeps, ExtendsMoments, IsHistory, KeepsHistory}
-use Rattle.node_journal.specs.Records.{Records, Holds, payloads_held, records}
+use Rattle.node_journal.specs.History.{SomeFrom, BeginsWith, IsPrefixOf, Keeps, ExtendsMoments, IsHistory, KeepsHistory}
+use Rattle.node_journal.specs.Records.{Holds, payloads_held, records}
 use Rattle.node_journal.specs.Whole.{payloads_in}
-use Rattle.node_journal.specs.Lemmas.Histories.{some_stands}
+use Rattle.node_journal.specs.Lemmas.Histories.{some_stands, remains_each, remains_stands}
 use Rattle.node_journal.specs.Lemmas.Opening.{kept_opened}
 use Rattle.node_journal.specs.Lemmas.Resting.{rested}
 use Rattle.resume.specs.Crashes.{LeavesHistory}
@@ -15,8 +15,9 @@ use Rattle.resume.proofs.Recovering.{untouched}
 
 -- at each moment a crash left what was there
 pub unchanged : (past past' : List Moment) (now now' : Moment) (ps qs : List (List ℕ)) → records now.seen ≡ Holds ps → qs ≡ ps → LeavesOnly past now past' now' (λ c. records c ≡ records now.seen)
-    → SomeFrom (length past) past' (λ c. records c ≡ records now.seen) → KeepsHistory (length past) past' now' qs None
-unchanged past past' now now' ps qs holds same run some = kept_opened (length past) past now past' now' qs (records now.seen) (holds ∙ ap Holds (sym same)) refl run some
+    → SomeFrom (length past) past' (λ c. records c ≡ records now.seen) → IsImage now' now'.seen → KeepsHistory (length past) past' now' qs None
+unchanged past past' now now' ps qs holds same run some seen =
+    kept_opened (length past) past now past' now' qs (records now.seen) (holds ∙ ap Holds (sym same)) refl run some (remains_each past now past' now' (records now.seen) run some seen)
 
 -- what a call leaves whose disk did not fail
 pub leaves : (from : ℕ) (past : List Moment) (now : Moment) (ps : List (List ℕ)) (failed : Bool) → ps ≡ payloads_in now → KeepsHistory from past now ps None → LeavesHistory from past now failed
@@ -38,17 +39,18 @@ pub untouched_history : (past past' : List Moment) (now now' : Moment) (ps : Lis
     → LeavesHistory (length past) past' now' failed
 untouched_history past past' now now' ps failed rests holds stands =
     leaves (length past) past' now' ps failed (held_there now ps holds ∙ ap payloads_in (sym stands.same))
-    (unchanged past past' now now' ps ps holds refl (untouched past past' now now' (λ c. records c ≡ records now.seen) rests refl stands) (some_stands past now past' now' (λ c. records c ≡ records now.seen) stands))
+    (kept_opened (length past) past now past' now' ps (records now.seen) holds refl (untouched past past' now now' (λ c. records c ≡ records now.seen) rests refl stands)
+    (some_stands past now past' now' (λ c. records c ≡ records now.seen) stands) (λ qs. remains_stands past now past' now' (λ c. BeginsWith qs (records c)) stands))
 
 -- an empty journal was recovered, and then a payload was added to it, or a part of it
 pub begun_history : (past mid past' : List Moment) (now between now' : Moment) (opened opened' : ℕ) (ps : List (List ℕ)) (fault : Option ℕ) → records now.seen ≡ Holds []
-    → LeavesOnly past now mid between (λ c. records c ≡ records now.seen) → SomeFrom (length past) mid (λ c. records c ≡ records now.seen) → opened ≤ length mid
+    → LeavesOnly past now mid between (λ c. records c ≡ records now.seen) → SomeFrom (length past) mid (λ c. records c ≡ records now.seen) → IsImage between between.seen → opened ≤ length mid
     → ExtendsMoments (mid ++ between ∷ []) (past' ++ now' ∷ []) → opened' ≡ opened → KeepsHistory opened' past' now' ps fault → KeepsHistory (length past) past' now' ps fault
-begun_history past mid past' now between now' opened opened' ps fault empty run some begun extends same next =
+begun_history past mid past' now between now' opened opened' ps fault empty run some seen begun extends same next =
     keeps_joined (length past) opened mid past' between now' [] first none extends begun ps fault (subst (λ (k : ℕ). KeepsHistory k past' now' ps fault) same next) (λ sound. refl)
   where
     first : KeepsHistory (length past) mid between [] None
-    first = unchanged past mid now between [] [] empty refl run some
+    first = unchanged past mid now between [] [] empty refl run some seen
 
     none : Keeps [] between
     none c is = first.history.reads (length mid) between c first.begun (last_moment mid between) is

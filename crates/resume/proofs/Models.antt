@@ -1,11 +1,11 @@
 -- Models of payloads.
-use Rattle.std.specs.Prelude.{◌≡◌, ◌≢◌, ℕ, ℤ, pos, negsuc, nat_abs, ◌+◌, ◌≤◌, ◌<◌, ◌^◌, Bool, true, false, nat_lt, if◌then◌else◌, List, [], ◌∷◌, ◌++◌, length, Option, Some, None, Result, Ok, Err, IfSome, refl}
+use Rattle.std.specs.Prelude.{◌≡◌, ℕ, ℤ, pos, negsuc, nat_abs, ◌+◌, ◌≤◌, ◌<◌, ◌^◌, Bool, true, false, nat_lt, if◌then◌else◌, List, ◌∷◌, length, Option, Some, None, Result, Ok, Err, IfSome, refl}
 use Rattle.std.specs.Option.{ForSome}
-use Rattle.std.proofs.Common.{arith, sym, ◌∙◌, ap, subst, length-append}
+use Rattle.std.proofs.Common.{arith, ◌∙◌, ap, subst, length-append}
 use Rattle.std.proofs.lemmas.Bool.Decides.{nat_tests}
 use Rattle.std.proofs.lemmas.Int.{ints, to_z-of_z}
 use Rattle.std.specs.Int.RustNames.{FitsSigned}
-use Rattle.std.specs.Int.{w64, to_le_bytes, cast_unsigned, cast_signed}
+use Rattle.std.specs.Int.{w64, cast_unsigned, cast_signed}
 use Rattle.problem.specs.Problem.{Problem}
 use Rattle.event_codec.specs.Codes.{i64_code}
 use Rattle.event_codec.specs.Models.{Model, IsUpper, upper_code, model_code}

@@ -1,5 +1,5 @@
 -- What is refused is refused for one reason.
-use Rattle.std.specs.Prelude.{◌≡◌, ◌≢◌, ◌⊎◌, ℕ, zero, suc, ◌≤◌, ◌<◌, Bool, true, false, List, [], ◌∷◌, length, take, Option, slice_get, slice_index, slice_index_or, refl}
+use Rattle.std.specs.Prelude.{◌≡◌, ◌⊎◌, ℕ, zero, suc, ◌<◌, true, List, [], ◌∷◌, take, slice_get, slice_index, slice_index_or, refl}
 use Rattle.std.proofs.Common.{arith, sym, ◌∙◌, ap, subst, inl, inr, length-take}
 use Rattle.std.proofs.lemmas.List.{take-take}
 use Rattle.problem.specs.Problem.{Problem}
@@ -8,10 +8,10 @@ use Rattle.event_core.specs.declared.entry.Entry.{Entry}
 use Rattle.event_core.specs.Histories.{state_of}
 use Rattle.node_journal.specs.Frames.{places_from}
 use Rattle.node_journal.specs.Records.{Records, Holds, Foreign, BrokenAt, records}
-use Rattle.node_pool.specs.Payloads.{codes, model_in}
+use Rattle.node_pool.specs.Payloads.{model_in}
 use Rattle.resume.specs.declared.fault.ResumeFault.{ResumeFault}
 use Rattle.resume.specs.declared.fault.ResumeFault.TheVariants as fault
-use Rattle.resume.specs.Models.{IsModelOf, IsNoModel, IsOtherModel, DiffersFirstAt}
+use Rattle.resume.specs.Models.{IsModelOf, IsOtherModel, DiffersFirstAt}
 use Rattle.resume.specs.Events.{IsNoEvent}
 use Rattle.resume.specs.Journals.{StandsFor, IsDamagedAt, IsDamagedModel, IsDamagedEvent}
 use Rattle.resume.specs.Refusals.{is_refusal, IsDamagedFor, Refuses, RefusesPayloads, RefusesPayloadsFor}

@@ -1,5 +1,5 @@
 -- Journals that are opened.
-use Rattle.std.specs.Prelude.{◌≡◌, ◌⊎◌, ℕ, ◌+◌, true, List, [], ◌∷◌, ◌++◌, length, map, None, Result, Ok, Err, IfOk, IfErr, refl}
+use Rattle.std.specs.Prelude.{◌≡◌, ℕ, ◌+◌, List, [], ◌∷◌, length, Result, Ok, Err, IfOk, IfErr, refl}
 use Rattle.std.specs.List.{AllByRecursion}
 use Rattle.std.proofs.Common.{arith, sym, ◌∙◌, ap, subst, inl, inr}
 use Rattle.std.proofs.lemmas.List.{length-map}
@@ -9,14 +9,13 @@ use Rattle.outside.specs.declared.moment.Moment.{Moment}
 use Rattle.problem.specs.Problem.{Problem}
 use Rattle.event_codec.specs.Codes.{code}
 use Rattle.event_core.specs.declared.entry.Entry.{Entry}
-use Rattle.event_core.specs.Histories.{is_journaled, journaled}
+use Rattle.event_core.specs.Histories.{journaled}
 use Rattle.node_journal.specs.Records.{Records, Holds, records}
 use Rattle.node_journal.specs.Appends.{IsWithOrWithout}
 use Rattle.node_pool.specs.Payloads.{codes, model_in, IsJournalOf}
 use Rattle.resume.specs.Models.{IsModelOf}
 use Rattle.node_pool.specs.Stored.{IsStored}
-use Rattle.resume.specs.Events.{IsReadAs}
-use Rattle.resume.specs.Journals.{StandsFor, IsReplayed}
+use Rattle.resume.specs.Journals.{StandsFor}
 use Rattle.resume.specs.Crashes.{IsAsBefore, IsAsBeforeOrBegun}
 use Rattle.resume.proofs.Applying.{codable_stays}
 

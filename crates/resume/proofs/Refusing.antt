@@ -1,8 +1,7 @@
 -- Which refusal comes of which.
-use Rattle.std.specs.Prelude.{◌≡◌, ◌⊎◌, ℕ, ◌<◌, List, [], length, Result, Ok, Err, IfErr, refl}
-use Rattle.std.proofs.Common.{sym, ◌∙◌, ap, subst, inl, inr}
-use Rattle.problem.specs.Problem.{Problem}
-use Rattle.node_journal.specs.Records.{Records, Holds, Foreign, BrokenAt}
+use Rattle.std.specs.Prelude.{◌≡◌, ℕ, ◌<◌, List, length, refl}
+use Rattle.std.proofs.Common.{sym, subst, inl, inr}
+use Rattle.node_journal.specs.Records.{Records, Holds}
 use Rattle.node_journal.specs.declared.fault.JournalFault.{JournalFault}
 use Rattle.node_journal.specs.declared.fault.JournalFault.TheVariants as journal
 use Rattle.node_journal.specs.Index.{Refuses as RefusesContent}
@@ -12,7 +11,7 @@ use Rattle.resume.specs.declared.fault.ResumeFault.TheVariants as fault
 use Rattle.resume.specs.declared.fault.PayloadFault.{PayloadFault}
 use Rattle.resume.specs.declared.fault.PayloadFault.TheVariants as payload
 use Rattle.resume.specs.Models.{IsNoModel}
-use Rattle.resume.specs.Journals.{IsDamagedModel, IsDamagedEvent}
+use Rattle.resume.specs.Journals.{IsDamagedEvent}
 use Rattle.resume.specs.Refusals.{fault_of, fault_at, RefusesEvents, RefusesFirst, RefusesPayloads, RefusesPayloadsFor, Refuses}
 
 -- a first payload that is no model

@@ -1,5 +1,5 @@
 -- From one payload to the next.
-use Rattle.std.specs.Prelude.{◌≡◌, ℕ, zero, suc, ◌+◌, ◌-◌, ◌≤◌, ◌<◌, List, [], ◌∷◌, ◌++◌, length, take, map, get_or, true, Option, Some, None, slice_index, slice_index_or, refl}
+use Rattle.std.specs.Prelude.{◌≡◌, ℕ, zero, suc, ◌+◌, ◌≤◌, ◌<◌, List, [], ◌∷◌, ◌++◌, length, take, get_or, true, Option, Some, None, slice_index, slice_index_or, refl}
 use Rattle.std.proofs.Common.{arith, sym, ◌∙◌, ap, subst}
 use Rattle.std.proofs.Math.Seq.{take-suc}
 use Rattle.std.proofs.lemmas.List.{map-append, take_all}
@@ -9,12 +9,12 @@ use Rattle.problem.specs.Linear.{Multipliers}
 use Rattle.derivation_book.specs.Rounded.{rounded_row}
 use Rattle.node_events.specs.declared.event.Event.{Event}
 use Rattle.node_events.specs.declared.event.Event.TheVariants.{Claim, Release, Cut, Offer, Split, Close}
-use Rattle.event_codec.specs.Codes.{code, IsCodable}
+use Rattle.event_codec.specs.Codes.{code}
 use Rattle.event_core.specs.declared.entry.Entry.{Entry}
 use Rattle.event_core.specs.States.{State, first_state}
 use Rattle.event_core.specs.After.{after, after_cut}
 use Rattle.event_core.specs.Holds.{without_hold}
-use Rattle.event_core.specs.Histories.{is_journaled, state_of, journaled, AreLegal, IsLegal}
+use Rattle.event_core.specs.Histories.{is_journaled, state_of}
 use Rattle.event_core.specs.Rooms.{Recorded}
 use Rattle.event_core.specs.Lemmas.Running.{state_from-append, legal_more, from-problem}
 use Rattle.node_journal.specs.Frames.{places_from}

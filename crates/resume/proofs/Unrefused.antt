@@ -1,12 +1,11 @@
 -- What stands for a problem is not refused.
-use Rattle.std.specs.Prelude.{◌≡◌, ◌≢◌, ◌⊎◌, ℕ, zero, suc, ◌+◌, ◌≤◌, ◌<◌, Bool, true, false, List, [], ◌∷◌, ◌++◌, length, take, map, get_or, Option, Some, None, slice_get, slice_index_or, refl}
+use Rattle.std.specs.Prelude.{◌≡◌, ◌⊎◌, ℕ, zero, suc, ◌≤◌, ◌<◌, true, List, [], ◌∷◌, ◌++◌, length, take, get_or, Option, None, slice_get, slice_index_or, refl}
 use Rattle.std.specs.List.{AllByRecursion}
 use Rattle.std.proofs.Common.{arith, sym, ◌∙◌, ap, subst, inl, inr}
 use Rattle.std.proofs.lemmas.List.{length-map, take-map}
 use Rattle.problem.specs.Problem.{Problem}
 use Rattle.node_events.specs.declared.event.Event.{Event}
-use Rattle.event_codec.specs.Codes.{code, IsCodable}
-use Rattle.event_codec.specs.Types.{IsEvent}
+use Rattle.event_codec.specs.Codes.{code}
 use Rattle.event_codec.specs.Laws.{CodesTellApart, RecordsTellApart}
 use Rattle.event_core.specs.declared.entry.Entry.{Entry}
 use Rattle.event_core.specs.States.{State, first_state}
@@ -18,7 +17,7 @@ use Rattle.node_pool.specs.Payloads.{codes, model_in}
 use Rattle.node_pool.specs.Stored.{IsStored}
 use Rattle.resume.specs.declared.fault.ResumeFault.{ResumeFault}
 use Rattle.resume.specs.declared.fault.ResumeFault.TheVariants as fault
-use Rattle.resume.specs.Models.{IsModelOf, IsOtherModel}
+use Rattle.resume.specs.Models.{IsOtherModel}
 use Rattle.resume.specs.Events.{node_limit, IsReadAs, IsNextEvent, IsNoEvent}
 use Rattle.resume.specs.Journals.{StandsFor, StandsOnDisk, IsFreshOrOf, IsDamagedModel, IsDamagedEvent}
 use Rattle.resume.specs.Refusals.{is_refusal, Refuses, RefusesPayloads, RefusesPayloadsFor}

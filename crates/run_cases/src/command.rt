@@ -22,7 +22,7 @@ pub struct Answered {
 }
 
 /// The words of a line, parted by single blanks.
-fn words_of(alloc: Global, line: &str) -> Result<Words, AllocError> {
+pub(crate) fn words_of(alloc: Global, line: &str) -> Result<Words, AllocError> {
     let mut words = Words::new(alloc);
     for word in line.split(' ') {
         words.push(alloc, word)?;

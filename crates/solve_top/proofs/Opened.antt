@@ -16,7 +16,7 @@ use Rattle.event_codec.specs.Models.{model_code, IsUpper}
 use Rattle.event_core.specs.declared.entry.Entry.{Entry}
 use Rattle.node_journal.specs.Records.{Records, Holds, Foreign, BrokenAt, payloads_held, records}
 use Rattle.node_journal.specs.History.{BeginsWith, EachFrom, IsHistory, IsPrefixOf, KeepsHistory}
-use Rattle.node_journal.specs.Lemmas.Histories.{continued, history_begins, run_each, some_stands}
+use Rattle.node_journal.specs.Lemmas.Histories.{continued, history_begins, remains_stands, run_each, some_stands}
 use Rattle.node_journal.specs.Whole.{payloads_in}
 use Rattle.node_pool.specs.Payloads.{model_in}
 use Rattle.resume.specs.Crashes.{IsAsBefore, IsAsBeforeOrBegun}
@@ -157,7 +157,8 @@ module _ {D : Type 0} (tells : Bool) (past : D → List Moment) (now : D → Mom
 
   pub kept_untouched : (IsOwn : Problem → Type 0) → KeepsJournal (disk_change tells past now count a e) IsOwn
   kept_untouched IsOwn = record {
-    history = λ ps held. history_begins (past a) (now a) (past e) (now e) ps (leaves_seen (λ c. records c ≡ Holds ps) held) (some_stands (past a) (now a) (past e) (now e) (λ c. records c ≡ Holds ps) none);
+    history = λ ps held. history_begins (past a) (now a) (past e) (now e) ps (leaves_seen (λ c. records c ≡ Holds ps) held) (some_stands (past a) (now a) (past e) (now e) (λ c. records c ≡ Holds ps) none)
+        (λ qs. remains_stands (past a) (now a) (past e) (now e) (λ c. BeginsWith qs (records c)) none);
     prefixes = λ ps held calm. run_each (past a) (now a) (past e) (now e) (λ c. IsPrefixOf (payloads_in (now e)) (records c))
         (leaves_seen (λ c. IsPrefixOf (payloads_in (now e)) (records c))
         (prefix_of_all ps (payloads_in (now e)) (records (now a).seen) held (ap payloads_in none.same ∙ held_payloads (now a) ps held)));

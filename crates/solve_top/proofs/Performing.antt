@@ -20,14 +20,14 @@ use Rattle.solve_top.specs.Changes.{SourceChange, SinkChange, DiskChange, Stays,
 use Rattle.solve_top.specs.Models.{IsProblemOf, RefusesJournal}
 use Rattle.solve_top.specs.Journals.{HoldsSearch, IsUnopened, LeavesAlone}
 use Rattle.solve_top.specs.Searches.{Search}
-use Rattle.solve_top.specs.Steps.{IsDrilled, IsPerformed, IsReading, IsRefusedBy, IsShowingOf, IsSolution, IsWithin, fails_by_disk, without_disk}
+use Rattle.solve_top.specs.Steps.{IsPerformed, IsReading, IsRefusedBy, IsRefusedDrill, IsShowingOf, IsSolution, IsWithin, fails_by_disk, without_disk}
 
 -- a search that a command began
 pub searched : (q : Request) (m : SourceChange) (d : DiskChange) (cert : SinkChange) (p : Problem) (s : Search) (o : Result Answer Refusal) → IsWithin q p s → IsProblemOf q m d p → IsSolution q s cert o
     → Stays m.faults → Counts d.faults.before d.faults.after (fails_by_disk o) → (fails_by_disk o ≡ false → HoldsSearch q d s) → IsPerformed q m d cert (Some s) o
 searched q m d cert p s o within of solution model cause journal = record {
   solution = solution;
-  search = record { problem = subst (IsProblemOf q m d) (sym within.same) of; legal = within.legal; within = within.within; few_cuts = within.few_cuts };
+  search = record { problem = subst (IsProblemOf q m d) (sym within.same) of; legal = within.legal; of_workers = within.of_workers; within = within.within; few_cuts = within.few_cuts };
   model = model;
   cause = cause;
   journal = journal;
@@ -104,6 +104,12 @@ no_disk q s cert (Err refusal.Disk) h = ((inl h.0, h.1), refl)
 no_disk q s cert (Err refusal.Sink) h = (h, refl)
 no_disk q s cert (Err refusal.Memory) h = (h, refl)
 
+-- what came of a drill: of its search, or of none
+abbrev pub IsDrilled : Request → ℕ → SinkChange → Option Search → Result Answer Refusal → Type 0
+IsDrilled q seed cert (Some s) o = IsSolution q s cert o × (fails_by_disk o ≡ false) × Reads (generated seed) None s.problem × IsWithin q s.problem s
+IsDrilled q seed cert None (Err r) = IsRefusedDrill seed r × TakesNothing cert × Stays cert.faults
+IsDrilled q seed cert None (Ok a) = ⊥
+
 -- a model of a seed that was searched
 pub drilled_search : (q : Request) (seed : ℕ) (cert : SinkChange) (p : Problem) (s : Search) (o : Result Answer Refusal) → IsWithin q p s → IsSolution q s cert o → Reads (generated seed) None p
     → IsDrilled q seed cert (Some s) (without_disk o)
@@ -136,3 +142,7 @@ solves q limits upper e = e ∙ ap (λ (l : Limits). Solve l upper) (sym (ap lim
 -- one that goes on with its journal
 pub resumes : (q : Request) (limits : Limits) → q ≡ Resume limits → q ≡ Resume (limits_in q)
 resumes q limits e = e ∙ ap (λ (l : Limits). Resume l) (sym (ap limits_in e))
+
+-- one that drills
+pub drills : (q : Request) (seed : ℕ) (limits : Limits) → q ≡ Drill seed limits → q ≡ Drill seed (limits_in q)
+drills q seed limits e = e ∙ ap (λ (l : Limits). Drill seed l) (sym (ap limits_in e))

@@ -1,5 +1,5 @@
 -- What a search that has ended keeps of its journal, and how far it went.
-use Rattle.std.specs.Prelude.{◌≡◌, ◌≤◌, ℕ, max, Bool, false, is_none, if◌then◌else◌, List, [], ◌∷◌, ◌++◌, length, All, Option, Some, None, refl}
+use Rattle.std.specs.Prelude.{◌≡◌, ◌≤◌, ℕ, max, Bool, false, is_none, if◌then◌else◌, ◌<◌, List, [], ◌∷◌, ◌++◌, length, All, Option, Some, None, IsSomeAnd, refl}
 use Rattle.std.specs.List.{AllByRecursion}
 use Rattle.std.proofs.Common.{arith, sym, ◌∙◌, ap, subst}
 use Rattle.std.proofs.lemmas.List.Elements.{All-head}
@@ -20,9 +20,11 @@ use Rattle.node_pool.specs.Payloads.{codes, codes_given, model_in, IsJournalOf, 
 use Rattle.node_pool.specs.Stored.{IsStored}
 use Rattle.node_pool.specs.Halting.{IsHalt}
 use Rattle.node_pool.specs.declared.halt.Halt.{Halt}
+use Rattle.node_pool.specs.declared.pool.Pool.{Pool}
+use Rattle.outside.specs.declared.disk.Disk.{Ghosts}
 use Rattle.core_search.specs.declared.node_loop.Ending.{Ending}
 use Rattle.core_search.specs.declared.node_loop.Ending.TheVariants as ending
-use Rattle.core_search.specs.Entries.{ExtendsHistory, IsOfWorker}
+use Rattle.core_search.specs.Endings.{IsSpent}
 use Rattle.core_search.specs.Pools.{IsHaltOf, is_disk}
 use Rattle.vipr_print.specs.Unique.{IsWord}
 use Rattle.resume.specs.Models.{IsModelOf}
@@ -32,7 +34,9 @@ use Rattle.solve_top.specs.declared.request.Request.{Request}
 use Rattle.solve_top.specs.Requests.{limits_in}
 use Rattle.solve_top.specs.Changes.{DiskChange, Rises, disk_change, moments_before, moments_after}
 use Rattle.solve_top.specs.Journals.{IsKept}
-use Rattle.solve_top.specs.Searches.{search_of, begin_of, events_read}
+use Rattle.solve_top.specs.Searches.{search_of, begin_of, events_made, events_read, IsOfWorkers}
+use Rattle.solve_top.specs.Searchers.{GoesOnByWorkers, SearchesOn}
+use Rattle.solve_top.specs.Begun.{IsEnded, IsReady}
 use Rattle.solve_top.specs.Steps.{IsWithin}
 use Rattle.resume.specs.Lemmas.Standing.{given_read, journal_stands, prefix_stands}
 use Rattle.solve_top.proofs.Uniqueness.{names_are_words}
@@ -44,25 +48,39 @@ read_names c read = names_are_words _ _ c.state.problem read.1.model.is.reads
 pub read_few : (c : Recorded) → c.state ≡ state_of c.state.problem c.history → IsReadFrom c → length c.state.nodes ≤ node_limit
 read_few c stands read = subst (λ (s : State). length s.nodes ≤ node_limit) (sym stands) read.1.read.few
 
-of_worker_none : (es : List Entry) → All IsOfWorker es → events_read es ≡ []
-of_worker_none [] all = refl
-of_worker_none (e ∷ es) all = let w : e.worker ≡ Some 0 = All-head IsOfWorker e es all in rw w refl
+if_some : (n : ℕ) (w : Option ℕ) (a b : List Entry) → IsSomeAnd w (λ k. k < n) → (if is_none w then a else b) ≡ b
+if_some n None a b some = absurd some
+if_some n (Some k) a b some = refl
+
+of_workers_none : (n : ℕ) (es : List Entry) → All (IsOfWorkers n) es → events_read es ≡ []
+of_workers_none n [] all = refl
+of_workers_none n (e ∷ es) all = if_some n e.worker (e ∷ events_read es) [] (All-head (IsOfWorkers n) e es all)
+
+of_workers_all : (n : ℕ) (es : List Entry) → All (IsOfWorkers n) es → events_made es ≡ es
+of_workers_all n [] all = refl
+of_workers_all n (e ∷ es) all = if_some n e.worker (events_made es) (e ∷ es) (All-head (IsOfWorkers n) e es all)
 
 if_none : (w : Option ℕ) (a b : List Entry) → w ≡ None → (if is_none w then a else b) ≡ a
 if_none w a b h = rw h
 
-read_first : (hs es : List Entry) → AllByRecursion IsStored hs → All IsOfWorker es → events_read (hs ++ es) ≡ hs
-read_first [] es stored all = of_worker_none es all
-read_first (h ∷ hs) es stored all = if_none h.worker (h ∷ events_read (hs ++ es)) [] stored.0.worker ∙ ap (λ (l : List Entry). h ∷ l) (read_first hs es stored.1 all)
+read_first : (n : ℕ) (hs es : List Entry) → AllByRecursion IsStored hs → All (IsOfWorkers n) es → events_read (hs ++ es) ≡ hs
+read_first n [] es stored all = of_workers_none n es all
+read_first n (h ∷ hs) es stored all = if_none h.worker (h ∷ events_read (hs ++ es)) [] stored.0.worker ∙ ap (λ (l : List Entry). h ∷ l) (read_first n hs es stored.1 all)
+
+made_last : (n : ℕ) (hs es : List Entry) → AllByRecursion IsStored hs → All (IsOfWorkers n) es → events_made (hs ++ es) ≡ es
+made_last n [] es stored all = of_workers_all n es all
+made_last n (h ∷ hs) es stored all = if_none h.worker (events_made (hs ++ es)) (h ∷ (hs ++ es)) stored.0.worker ∙ made_last n hs es stored.1 all
 
 -- ---- how far it went
-pub within_limits : (q : Request) (old new : Recorded) → old.state ≡ state_of old.state.problem old.history → IsReadFrom old → ExtendsHistory old new → new.state.problem ≡ old.state.problem
+pub within_limits : (q : Request) (old new : Recorded) → old.state ≡ state_of old.state.problem old.history → IsReadFrom old → GoesOnByWorkers (limits_in q).workers old new → new.state.problem ≡ old.state.problem
     → new.state ≡ state_of new.state.problem new.history → AreLegal new.state.problem new.history
     → length new.state.nodes ≤ max (limits_in q).nodes (length old.state.nodes) → length new.state.cuts ≤ max (limits_in q).cuts (length old.state.cuts)
     → IsWithin q old.state.problem (search_of new)
 within_limits q old new begins read goes same stands legal nodes cuts = record {
   same = same;
   legal = legal;
+  of_workers = subst (λ (l : List Entry). All (IsOfWorkers (limits_in q).workers) l)
+      (sym (ap events_made goes.history ∙ made_last (limits_in q).workers old.history goes.entries read.1.read.stored goes.of_workers)) goes.of_workers;
   within = subst (λ (s : State). length s.nodes ≤ max (limits_in q).nodes (length (begin_of (search_of new)).nodes)) stands
       (subst (λ (s : State). length new.state.nodes ≤ max (limits_in q).nodes (length s.nodes)) (sym began) nodes);
   few_cuts = subst (λ (s : State). length s.cuts ≤ max (limits_in q).cuts (length (begin_of (search_of new)).cuts)) stands
@@ -72,7 +90,7 @@ within_limits q old new begins read goes same stands legal nodes cuts = record {
     began : begin_of (search_of new) ≡ old.state
     began =
         ap (λ (l : List Entry). state_of new.state.problem (events_read l)) goes.history
-        ∙ ap (λ (l : List Entry). state_of new.state.problem l) (read_first old.history goes.entries read.1.read.stored goes.of_worker)
+        ∙ ap (λ (l : List Entry). state_of new.state.problem l) (read_first (limits_in q).workers old.history goes.entries read.1.read.stored goes.of_workers)
         ∙ ap (λ (p : Problem). state_of p old.history) same ∙ sym begins
 
 most : (limit n k : ℕ) → limit ≤ node_limit → n ≤ node_limit → k ≤ max limit n → k ≤ node_limit
@@ -90,6 +108,10 @@ sound_unless ending.Finished h faults budget count fault s of is other = (subst 
 sound_unless ending.Spent h faults budget count fault s of is other = (subst (λ (x : Option Halt). IsHalt faults budget count fault s x) of.1 is).sound.sound
 sound_unless ending.Disk h faults budget count fault s of is other = absurd cc
 sound_unless ending.Memory h faults budget count fault s of is other = (subst (λ (x : Option Halt). IsHalt faults budget count fault s x) of is).sound
+
+-- the count of faults goes with the disk and the answer
+pub counted : {D : Type 0} (count : D → ℕ) (a b e : D) → e ≡ b → (failed by_disk : Bool) → failed ≡ by_disk → Counts (count a) (count b) by_disk → Counts (count a) (count e) failed
+counted count a b e same failed by_disk is counts = rw (same, is) counts
 
 -- ---- its journal
 pub at_rest : (file : List ℕ) (m : Moment) → m ≡ resting file → AtRest m
@@ -155,3 +177,12 @@ module _ {D : Type 0} (tells : Bool) (past : D → List Moment) (now : D → Mom
         subst (λ (x : D). StandsFor p (payloads_in (now x)) (journaled last.history)) (sym same_disk)
         (subst (λ (r : Recorded). StandsFor p (payloads_in (now b)) (journaled r.history)) (sym same_state)
         (journal_stands p new.history new.state stands_there legal_there law_there stored few_there (payloads_in (now b)) (subst (λ (l : List ℕ). IsModelOf l p) (sym model_is) model) (journal (sound other))))
+
+-- ---- what is known of the pool in which it ended
+pub ended : {D : Type 0} {d : Ghosts D} (q : Request) (old new : Pool D d) (e : Ending) → IsReady q old → SearchesOn (limits_in q) old e new → IsEnded q e new
+ended q old new e ready on = record {
+  names = subst (λ (p : Problem). All IsWord p.names) (sym on.problem) (read_names old.state ready.read);
+  finished = on.finished;
+  spent = λ is. subst (λ (n : ℕ). IsSpent n new.state.state) ready.budget (on.spent is);
+  left = on.left;
+}

@@ -5,5 +5,7 @@ pub mod Models
 pub mod Searches
 pub mod Journals
 pub mod Statuses
+pub mod Searchers
 pub mod Steps
+pub mod Begun
 pub mod Headline

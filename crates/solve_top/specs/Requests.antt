@@ -19,7 +19,7 @@ requested words = option_map without_paths (command_of words)
 abbrev pub limits_in : Request → Limits
 limits_in (request.Solve limits upper) = limits
 limits_in (request.Resume limits) = limits
-limits_in request.Show = record { nodes = 1000000; cuts = 256 }
+limits_in request.Show = record { nodes = 1000000; cuts = 256; workers = 1 }
 limits_in (request.Drill seed limits) = limits
 
 -- its numbers are in their ranges

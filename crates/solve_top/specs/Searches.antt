@@ -1,5 +1,5 @@
 -- A search with its history, and what it answers: a certificate and a few lines.
-use Rattle.std.specs.Prelude.{◌≡◌, ◌↔◌, ◌≤◌, ◌<◌, ◌+◌, ◌*◌, ℕ, max, if◌then◌else◌, eqb, is_none, List, [], ◌∷◌, length}
+use Rattle.std.specs.Prelude.{◌≡◌, ◌↔◌, ◌≤◌, ◌<◌, ◌+◌, ◌*◌, ℕ, max, if◌then◌else◌, eqb, is_none, List, [], ◌∷◌, length, All, IsSomeAnd}
 use Rattle.problem.specs.Problem.{Problem}
 use Rattle.problem.specs.Best.{IsVoid}
 use Rattle.problem_box.specs.PointCount.{point_count}
@@ -37,6 +37,15 @@ abbrev pub events_read : List Entry → List Entry
 events_read [] = []
 events_read (e ∷ es) = if is_none e.worker then e ∷ events_read es else []
 
+-- those behind them, which the search has made
+abbrev pub events_made : List Entry → List Entry
+events_made [] = []
+events_made (e ∷ es) = if is_none e.worker then events_made es else e ∷ es
+
+-- the event is of one of the workers 0 to n - 1
+abbrev pub IsOfWorkers : ℕ → Entry → Type 0
+IsOfWorkers n e = IsSomeAnd e.worker (λ w. w < n)
+
 -- where it began in this run
 abbrev pub begin_of : Search → State
 begin_of s = state_of s.problem (events_read s.history)
@@ -45,11 +54,12 @@ begin_of s = state_of s.problem (events_read s.history)
 abbrev pub end_of : Search → State
 end_of s = state_of s.problem s.history
 
--- The search is of the problem of the command's model. Its events are legal in turn. It has at most as many nodes and cuts as the command asks for, or
--- as its journal had at the beginning.
+-- The search is of the problem of the command's model. Its events are legal in turn, and those that it has made are of the workers that the command
+-- asks for. It has at most as many nodes and cuts as the command asks for, or as its journal had at the beginning.
 pub record IsSearchOf (q : Request) (m : SourceChange) (d : DiskChange) (s : Search) : Type 0 where
   pub problem : IsProblemOf q m d s.problem
   pub legal : AreLegal s.problem s.history
+  pub of_workers : All (IsOfWorkers (limits_in q).workers) (events_made s.history)
   pub within : length (end_of s).nodes ≤ max (limits_in q).nodes (length (begin_of s).nodes)
   pub few_cuts : length (end_of s).cuts ≤ max (limits_in q).cuts (length (begin_of s).cuts)
 

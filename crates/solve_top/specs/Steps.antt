@@ -1,5 +1,5 @@
 -- What each step of a run does.
-use Rattle.std.specs.Prelude.{◌≡◌, ◌⊎◌, ◌≤◌, ℕ, max, length, Bool, true, false, List, Option, Some, None, Result, Ok, Err, codes}
+use Rattle.std.specs.Prelude.{◌≡◌, ◌⊎◌, ◌≤◌, ℕ, max, length, Bool, true, false, List, All, Option, Some, None, Result, Ok, Err, codes}
 use Rattle.problem.specs.Problem.{Problem}
 use Rattle.outside.specs.Faults.{Counts}
 use Rattle.mps_reader.specs.Reading.{Reads, IsRefused}
@@ -23,7 +23,7 @@ use Rattle.solve_top.specs.Requests.{limits_in}
 use Rattle.solve_top.specs.Changes.{SourceChange, SinkChange, DiskChange, Rises, Stays, Takes, TakesPrefix, TakesNothing, IsTold, IsUntouched}
 use Rattle.solve_top.specs.Models.{IsFaultOf, RefusesJournal}
 use Rattle.solve_top.specs.Journals.{HoldsSearch, IsUnopened}
-use Rattle.solve_top.specs.Searches.{Search, begin_of, end_of, HasFinished, HasSpent, HasTooFewNodes, IsSearchOf, IsSolved, certificate_text, lines_due, lines_for}
+use Rattle.solve_top.specs.Searches.{Search, begin_of, end_of, events_made, HasFinished, HasSpent, HasTooFewNodes, IsOfWorkers, IsSearchOf, IsSolved, certificate_text, lines_due, lines_for}
 use Rattle.solve_top.specs.Output.{survey_lines}
 use Rattle.solve_top.specs.Statuses.{status_of, refusal_line, refused_line, journal_line}
 
@@ -120,18 +120,14 @@ without_disk (Err refusal.Disk) = Err refusal.Memory
 without_disk (Err refusal.Sink) = Err refusal.Sink
 without_disk (Err refusal.Memory) = Err refusal.Memory
 
--- The search is of this problem. Its events are legal in turn, and it keeps to the limits of the command, or to what its journal had.
+-- The search is of this problem. Its events are legal in turn, and those that it has made are of the command's workers. It keeps to the limits of the
+-- command, or to what its journal had.
 pub record IsWithin (q : Request) (p : Problem) (s : Search) : Type 0 where
   pub same : s.problem ≡ p
   pub legal : AreLegal s.problem s.history
+  pub of_workers : All (IsOfWorkers (limits_in q).workers) (events_made s.history)
   pub within : length (end_of s).nodes ≤ max (limits_in q).nodes (length (begin_of s).nodes)
   pub few_cuts : length (end_of s).cuts ≤ max (limits_in q).cuts (length (begin_of s).cuts)
-
--- what came of a drill: of its search, or of none
-abbrev pub IsDrilled : Request → ℕ → SinkChange → Option Search → Result Answer Refusal → Type 0
-IsDrilled q seed cert (Some s) o = IsSolution q s cert o × (fails_by_disk o ≡ false) × Reads (generated seed) None s.problem × IsWithin q s.problem s
-IsDrilled q seed cert None (Err r) = IsRefusedDrill seed r × TakesNothing cert × Stays cert.faults
-IsDrilled q seed cert None (Ok a) = ⊥
 
 -- What came of a command: of its search, or of none.
 abbrev pub IsPerformed : Request → SourceChange → DiskChange → SinkChange → Option Search → Result Answer Refusal → Type 0

@@ -1,22 +1,16 @@
-// Solves the model of a seed, with its journal on a disk in memory.
-ghost use Rattle.std.specs.Prelude.{◌≡◌, ◌≤◌, [], None, IfErr, IfOk, option_map};
+// The pool of a drill: the search of the model of a seed, with its journal on a disk in memory.
+ghost use Rattle.std.specs.Prelude.{◌≡◌, ◌≤◌, [], None, IfErr, IfOk};
 ghost use Rattle.mps_reader.specs.Reading.{Reads};
 ghost use Rattle.resume.specs.Journals.{IsReadFrom};
 ghost use Rattle.drill_instance.specs.Texts.{generated};
-ghost use Rattle.solve_top.specs.Requests.{HasRanges};
-ghost use Rattle.solve_top.specs.Changes.{sink_change};
-ghost use Rattle.solve_top.specs.Searches.{search_of};
-ghost use Rattle.solve_top.specs.Steps.{IsDrilled, IsRefusedDrill, without_disk};
+ghost use Rattle.solve_top.specs.Steps.{IsRefusedDrill};
 
 use crate::model::{Model, problem_of};
 use crate::opening::open_of;
-use crate::outcome::{Answer, Refusal};
-use crate::request::Request;
-use crate::search::{Searched, search_on};
+use crate::outcome::Refusal;
 use drill_instance::generate;
-use event_core::State;
 use node_pool::Pool;
-use outside::{MemDisk, Sink};
+use outside::MemDisk;
 use std::alloc::Global;
 use std::hash::BuildHasher;
 
@@ -33,7 +27,7 @@ fn drilled_model<B: BuildHasher + Drop>(alloc: Global, keys: B, seed: u32) -> Re
 }
 
 // The pool of the search of a seed's model, with its journal on a disk in memory. What that disk may fail for is want of memory.
-fn drilled_pool<B: BuildHasher + Clone + Drop>(
+pub fn drilled_pool<B: BuildHasher + Clone + Drop>(
     alloc: Global,
     keys: B,
     seed: u32,
@@ -53,37 +47,4 @@ fn drilled_pool<B: BuildHasher + Clone + Drop>(
         Ok(pool) => Ok(pool),
         Err((_, _)) => Err(Refusal::Memory),
     }
-}
-
-// What comes of a search over a disk in memory. What that disk may fail for is want of memory.
-fn without_disk(outcome: Result<Answer, Refusal>) -> Result<Answer, Refusal>
-    ensures { result ≡ without_disk outcome }
-{
-    match outcome {
-        Err(Refusal::Disk) => Err(Refusal::Memory),
-        outcome => outcome,
-    }
-}
-
-// What comes of solving the model of a seed, and the state at which the search ended, if it began.
-pub fn drill<B: BuildHasher + Clone + Drop, C: Sink>(
-    alloc: Global,
-    keys: B,
-    seed: u32,
-    request: &Request,
-    cert: &mut C,
-) -> (Result<Answer, Refusal>, Option<State>)
-    requires { HasRanges request.now }
-    ensures { IsDrilled request.now seed (sink_change C.tells C.taken C.kept C.faults cert.old cert.new) (option_map search_of result.1) result.0 }
-{
-    let pool = match drilled_pool(alloc, keys, seed, request.limits().nodes) {
-        Ok(pool) => pool,
-        Err(refusal) => return (Err(refusal), None),
-    };
-    let Searched {
-        outcome,
-        state,
-        disk: _,
-    } = search_on(alloc, pool, request, cert);
-    (without_disk(outcome), Some(state))
 }

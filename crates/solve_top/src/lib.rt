@@ -3,9 +3,11 @@
 //! - `request`: what the words ask for.
 //! - `model`: reads the model.
 //! - `opening`: opens the journal.
-//! - `search`: searches on to the end, and writes the certificate.
+//! - `drill`: the pool of a drill.
 //! - `show`: tells the figures of a journal.
-//! - `drill`: solves the model of a seed.
+//! - `beginning`: begins a command: opens what it searches in.
+//! - `searcher`: searches on, by one worker or by several.
+//! - `search`: ends a search, and writes the certificate.
 //! - `outcome`: what comes of that: an answer, or why there is none.
 //! - `output`: the lines.
 //! - `telling`: tells the outcome.
@@ -13,6 +15,7 @@
 //! - `top_call`: `run` and `run_one`, all of this in its order.
 #![tactic(auto)]
 
+mod beginning;
 mod drill;
 mod model;
 mod opening;
@@ -20,6 +23,7 @@ mod outcome;
 mod output;
 mod request;
 mod search;
+mod searcher;
 mod show;
 mod status;
 mod telling;

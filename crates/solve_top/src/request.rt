@@ -12,6 +12,7 @@ use std::alloc::Global;
 const DEFAULT: Limits = Limits {
     nodes: 1_000_000,
     cuts: 256,
+    workers: 1,
 };
 
 // What a command asks for, without its paths.

@@ -1,26 +1,21 @@
-// Searches on in the pool of a journal, and writes the certificate of a search that is finished.
-ghost use Rattle.std.specs.Prelude.{◌≡◌, ◌≤◌, ◌<◌, ◌++◌, [], true, false, None, All, OnOk, OnErr};
+// Ends a search: writes the certificate of one that is finished.
+ghost use Rattle.std.specs.Prelude.{◌≡◌, ◌<◌, ◌++◌, true, false, None, All, OnOk, OnErr};
 ghost use Rattle.outside.specs.Faults.{Counts};
-ghost use Rattle.outside.specs.Images.{AtRest};
+ghost use Rattle.outside.specs.Images.{AtRest, IsImage};
 ghost use Rattle.outside.specs.Stream.{AppendsPrefix};
 ghost use Rattle.cert_rows.specs.Validity.{IsValid};
 ghost use Rattle.cert_merge.specs.Merged.{merged};
 ghost use Rattle.event_core.specs.States.{open_count};
-ghost use Rattle.event_core.specs.Histories.{journaled};
 ghost use Rattle.core_search.specs.Endings.{IsSpent};
 ghost use Rattle.core_search.specs.Pools.{is_disk};
-ghost use Rattle.node_journal.specs.Whole.{payloads_in};
-ghost use Rattle.node_pool.specs.Payloads.{model_in};
-ghost use Rattle.resume.specs.Journals.{IsReadFrom, StandsFor};
-ghost use Rattle.resume.specs.Models.{IsModelOf};
 ghost use Rattle.vipr_print.specs.Printed.{is_sink_fault};
 ghost use Rattle.vipr_print.specs.Spelling.{text_of};
 ghost use Rattle.vipr_print.specs.Unique.{IsWord, SpellsOnly};
-ghost use Rattle.solve_top.specs.Requests.{HasRanges, limits_in};
-ghost use Rattle.solve_top.specs.Changes.{SinkChange, Stays, TakesNothing, disk_change, sink_change};
-ghost use Rattle.solve_top.specs.Journals.{IsKept};
+ghost use Rattle.solve_top.specs.Begun.{IsEnded, IsSearchedSince};
+ghost use Rattle.solve_top.specs.Requests.{limits_in};
+ghost use Rattle.solve_top.specs.Changes.{SinkChange, Stays, TakesNothing, sink_change};
 ghost use Rattle.solve_top.specs.Searches.{search_of};
-ghost use Rattle.solve_top.specs.Steps.{IsSolution, IsWithin, fails_by_disk};
+ghost use Rattle.solve_top.specs.Steps.{IsSolution, fails_by_disk};
 
 use crate::outcome::{Answer, Refusal};
 use crate::output::{finished_text, spent_text};
@@ -28,8 +23,8 @@ use crate::request::Request;
 use cert_merge::merge;
 use cert_rows::Cert;
 use cert_tree::laws::finished_searches_are_certified;
+use core_search::Ending;
 use core_search::laws::splits_have_points;
-use core_search::{Ending, search};
 use event_core::State;
 use event_core::laws::journals_are_legal;
 use node_pool::Pool;
@@ -155,35 +150,24 @@ fn part<D: Disk>(pool: Pool<D>) -> (State, D)
     ensures state { result.0 ≡ pool.state }
     ensures disk { result.1 ≡ pool.journal.disk }
     ensures rests { D.tells ≡ true → pool.journal.fault ≡ None → AtRest (D.now pool.journal.disk) }
+    ensures seen { D.tells ≡ true → IsImage (D.now result.1) (D.now result.1).seen }
 {
     let (state, journal, _) = pool.into_parts();
     journal.history_holds();
     (state, journal.into_disk())
 }
 
-// Searches on as worker 0, within the limits that are asked for or with what is there, and writes the certificate of a search that is finished.
-pub fn search_on<D: Disk, C: Sink>(
+// What comes of a search that has ended so in this pool: its certificate is written if it is finished.
+pub fn end_search<D: Disk, C: Sink>(
     alloc: Global,
+    ending: Ending,
     pool: Pool<D>,
     request: &Request,
     cert: &mut C,
 ) -> Searched<D>
-    requires ranges { HasRanges request.now }
-    requires budget { pool.budget ≡ (limits_in request.now).nodes }
-    requires unheld { pool.state.state.holds ≡ [] }
-    requires sound { pool.halt ≡ None }
-    requires read { IsReadFrom pool.state }
-    ensures within { IsWithin request.now pool.state.state.problem (search_of result.state) }
-    ensures solution { IsSolution request.now (search_of result.state) (sink_change C.tells C.taken C.kept C.faults cert.old cert.new) result.outcome }
-    ensures cause { Counts (D.count pool.journal.disk) (D.count result.disk) (fails_by_disk result.outcome) }
-    // Where the journal has the record of a model of the problem, crashes leave the beginnings of a history.
-    ensures kept { D.tells ≡ true → IsModelOf (model_in (payloads_in (D.now pool.journal.disk))) pool.state.state.problem → IsKept pool.journal.opened pool.state.state.problem (disk_change D.tells D.past D.now D.count pool.journal.disk result.disk) }
-    ensures stands { D.tells ≡ true → IsModelOf (model_in (payloads_in (D.now pool.journal.disk))) pool.state.state.problem → fails_by_disk result.outcome ≡ false → StandsFor pool.state.state.problem (payloads_in (D.now result.disk)) (journaled result.state.history) }
+    requires { IsEnded request.now ending pool }
+    ensures { IsSearchedSince request.now ending pool result.disk (sink_change C.tells C.taken C.kept C.faults cert.old cert.new) (search_of result.state) result.outcome }
 {
-    let mut pool = pool;
-    pool.history_holds();
-    pool.state().conditions_hold();
-    let ending = search(alloc, &mut pool, request.limits().cuts);
     pool.history_holds();
     let (state, disk) = part(pool);
     state.conditions_hold();

@@ -1,26 +1,21 @@
 // All that the program does.
-ghost use Rattle.std.specs.Prelude.{◌≡◌, true, Some, None, Err, option_map};
-ghost use Rattle.outside.specs.Images.{AtRest};
-ghost use Rattle.solve_top.specs.Changes.{SourceChange, Stays, disk_change, sink_change, source_change};
+ghost use Rattle.std.specs.Prelude.{◌≡◌, option_map};
+ghost use Rattle.solve_top.specs.Begun.{IsCarriedOut};
+ghost use Rattle.solve_top.specs.Changes.{disk_change, sink_change, source_change};
 ghost use Rattle.solve_top.specs.Headline.{KeepsPromise};
-ghost use Rattle.solve_top.specs.Journals.{KeepsJournal, LeavesAlone};
-ghost use Rattle.solve_top.specs.Models.{IsOwnProblem};
-ghost use Rattle.solve_top.specs.Requests.{HasRanges, limits_in};
+ghost use Rattle.solve_top.specs.Requests.{HasRanges};
 ghost use Rattle.solve_top.specs.Searches.{search_of};
 ghost use Rattle.solve_top.specs.Statuses.{exit_number};
-ghost use Rattle.solve_top.specs.Steps.{IsPerformed, IsToldAs};
+ghost use Rattle.solve_top.specs.Steps.{IsToldAs};
 ghost use Rattle.solve_top.specs.declared.status.Status.{Status};
 
-use crate::drill::drill;
-use crate::model::read_model;
-use crate::opening::{open_kept, open_of};
-use crate::outcome::{Performed, Refusal};
+use crate::beginning::{Begun, begin};
+use crate::outcome::Performed;
 use crate::request::{Request, request_of};
-use crate::search::{Searched, search_on};
-use crate::show::show;
+use crate::search::end_search;
+use crate::searcher::{search_alone, search_by_crew};
 use crate::telling::tell_outcome;
 use crate::{Status, Words};
-use event_codec::laws::records_tell_apart;
 use event_core::State;
 use outside::{Disk, Hold, Sink, Source};
 use resume::laws::what_stands_is_not_refused;
@@ -55,89 +50,8 @@ impl<D> Ran<D> {
     }
 }
 
-impl<D> Performed<D> {
-    // A command that came to nothing before a search began.
-    fn refused(refusal: Refusal, disk: D) -> Self
-        ensures outcome { result.outcome ≡ Err refusal }
-        ensures disk { result.disk ≡ disk }
-        ensures last { result.last ≡ None }
-    {
-        Performed {
-            outcome: Err(refusal),
-            disk,
-            last: None,
-        }
-    }
-
-    // A command whose search has ended.
-    fn searched(searched: Searched<D>) -> Self
-        ensures outcome { result.outcome ≡ searched.outcome }
-        ensures disk { result.disk ≡ searched.disk }
-        ensures last { result.last ≡ Some searched.state }
-    {
-        let Searched {
-            outcome,
-            state,
-            disk,
-        } = searched;
-        Performed {
-            outcome,
-            disk,
-            last: Some(state),
-        }
-    }
-}
-
-// Solves the model of the source, going on from the journal where the disk has one.
-fn solve<B: BuildHasher + Clone + Drop, S: Source, D: Disk, C: Sink>(
-    alloc: Global,
-    keys: B,
-    request: &Request,
-    upper: Option<u32>,
-    model: &mut S,
-    disk: D,
-    cert: &mut C,
-) -> Performed<D>
-    requires ranges { HasRanges request.now }
-    requires solves { request.now ≡ Request.Solve (limits_in request.now) upper }
-    ensures outcome { IsPerformed request.now (source_change S.tells S.left S.faults model.old model.new) (disk_change D.tells D.past D.now D.count disk result.disk) (sink_change C.tells C.taken C.kept C.faults cert.old cert.new) (option_map search_of result.last) result.outcome }
-    ensures journal { D.tells ≡ true → AtRest (D.now disk) → KeepsJournal (disk_change D.tells D.past D.now D.count disk result.disk) (IsOwnProblem request.now (source_change S.tells S.left S.faults model.old model.new) (disk_change D.tells D.past D.now D.count disk result.disk)) }
-{
-    let Ok(again) = keys.clone() else {
-        return Performed::refused(Refusal::Memory, disk);
-    };
-    let read = match read_model(alloc, keys, model, upper) {
-        Ok(read) => read,
-        Err(refusal) => return Performed::refused(refusal, disk),
-    };
-    match open_of(alloc, again, disk, read, upper, request.limits().nodes) {
-        Ok(pool) => Performed::searched(search_on(alloc, pool, request, cert)),
-        Err((refusal, disk)) => Performed::refused(refusal, disk),
-    }
-}
-
-// Goes on from the journal, which has the model.
-fn resume<B: BuildHasher + Drop, D: Disk, C: Sink>(
-    alloc: Global,
-    keys: B,
-    request: &Request,
-    disk: D,
-    cert: &mut C,
-) -> Performed<D>
-    requires ranges { HasRanges request.now }
-    requires resumes { request.now ≡ Request.Resume (limits_in request.now) }
-    ensures outcome { (m : SourceChange) → Stays m.faults → IsPerformed request.now m (disk_change D.tells D.past D.now D.count disk result.disk) (sink_change C.tells C.taken C.kept C.faults cert.old cert.new) (option_map search_of result.last) result.outcome }
-    ensures journal { (m : SourceChange) → D.tells ≡ true → AtRest (D.now disk) → KeepsJournal (disk_change D.tells D.past D.now D.count disk result.disk) (IsOwnProblem request.now m (disk_change D.tells D.past D.now D.count disk result.disk)) }
-{
-    records_tell_apart();
-    match open_kept(alloc, keys, disk, request.limits().nodes) {
-        Ok(pool) => Performed::searched(search_on(alloc, pool, request, cert)),
-        Err((refusal, disk)) => Performed::refused(refusal, disk),
-    }
-}
-
-// Does what is asked for, but for telling what came of it.
-fn perform<B: BuildHasher + Clone + Drop, S: Source, D: Disk, C: Sink>(
+// Does what is asked for, but for telling what came of it. One worker searches.
+fn perform_alone<B: BuildHasher + Clone + Drop, S: Source, D: Disk, C: Sink>(
     alloc: Global,
     keys: B,
     request: &Request,
@@ -146,30 +60,51 @@ fn perform<B: BuildHasher + Clone + Drop, S: Source, D: Disk, C: Sink>(
     cert: &mut C,
 ) -> Performed<D>
     requires { HasRanges request.now }
-    ensures alone { LeavesAlone request.now (disk_change D.tells D.past D.now D.count disk result.disk) }
-    ensures outcome { IsPerformed request.now (source_change S.tells S.left S.faults model.old model.new) (disk_change D.tells D.past D.now D.count disk result.disk) (sink_change C.tells C.taken C.kept C.faults cert.old cert.new) (option_map search_of result.last) result.outcome }
-    ensures journal { D.tells ≡ true → AtRest (D.now disk) → KeepsJournal (disk_change D.tells D.past D.now D.count disk result.disk) (IsOwnProblem request.now (source_change S.tells S.left S.faults model.old model.new) (disk_change D.tells D.past D.now D.count disk result.disk)) }
+    ensures { IsCarriedOut request.now (source_change S.tells S.left S.faults model.old model.new) (disk_change D.tells D.past D.now D.count disk result.disk) (sink_change C.tells C.taken C.kept C.faults cert.old cert.new) (option_map search_of result.last) result.outcome }
 {
-    match request {
-        Request::Solve { limits: _, upper } => {
-            solve(alloc, keys, request, *upper, model, disk, cert)
+    match begin(alloc, keys, request, model, disk) {
+        Begun::Over(performed) => performed,
+        Begun::Search(pool) => {
+            let (ending, pool) = search_alone(alloc, pool, request);
+            Performed::searched(end_search(alloc, ending, pool, request, cert))
         }
-        Request::Resume { limits: _ } => resume(alloc, keys, request, disk, cert),
-        Request::Show => {
-            let mut disk = disk;
-            Performed {
-                outcome: show(alloc, keys, &mut disk),
-                disk,
-                last: None,
-            }
+        Begun::Drill(pool, disk) => {
+            let (ending, pool) = search_alone(alloc, pool, request);
+            Performed::drilled(end_search(alloc, ending, pool, request, cert), disk)
         }
-        Request::Drill { seed, limits: _ } => {
-            let (outcome, last) = drill(alloc, keys, *seed, request, cert);
-            Performed {
-                outcome,
-                disk,
-                last,
-            }
+    }
+}
+
+// The same, but as many workers search as are asked for.
+fn perform_by_crew<
+    R: Threads + Wait + Sync,
+    B: BuildHasher + Clone + Drop,
+    S: Source,
+    D: Disk + Send,
+    C: Sink,
+    H: Hold + Sync,
+>(
+    rt: &R,
+    alloc: Global,
+    keys: B,
+    request: &Request,
+    model: &mut S,
+    disk: D,
+    cert: &mut C,
+    hold: &H,
+) -> Performed<D>
+    requires { HasRanges request.now }
+    ensures { IsCarriedOut request.now (source_change S.tells S.left S.faults model.old model.new) (disk_change D.tells D.past D.now D.count disk result.disk) (sink_change C.tells C.taken C.kept C.faults cert.old cert.new) (option_map search_of result.last) result.outcome }
+{
+    match begin(alloc, keys, request, model, disk) {
+        Begun::Over(performed) => performed,
+        Begun::Search(pool) => {
+            let (ending, pool) = search_by_crew(rt, alloc, pool, request, hold);
+            Performed::searched(end_search(alloc, ending, pool, request, cert))
+        }
+        Begun::Drill(pool, disk) => {
+            let (ending, pool) = search_by_crew(rt, alloc, pool, request, hold);
+            Performed::drilled(end_search(alloc, ending, pool, request, cert), disk)
         }
     }
 }
@@ -191,9 +126,9 @@ fn tell<D, O: Sink>(alloc: Global, performed: Performed<D>, out: &mut O) -> Ran<
 /// Does what the words ask for with one worker: reads a model from `model`, keeps the journal of its search on `disk`,
 /// writes its certificate to `cert` and a few lines to `out`.
 ///
-/// It is `run` with one worker. It takes no runtime, so it always returns. `keys` is for the hashing of the model's
-/// names and changes no answer. The disk is handed back in every case. The steps are taken in this order, and the first
-/// refusal decides:
+/// It is `run` with one worker, whatever number the words ask for. It takes no runtime, so it always returns. `keys` is
+/// for the hashing of the model's names and changes no answer. The disk is handed back in every case. The steps are
+/// taken in this order, and the first refusal decides:
 ///
 /// - The words are read. 2: they are no command; `out` gets `refused usage`.
 /// - `solve` reads the model. 5: it can't be read, which its source counted; `fault read`. 3: it has a fault;
@@ -238,18 +173,19 @@ pub fn run_one<B: BuildHasher + Clone + Drop, S: Source, D: Disk, C: Sink, O: Si
 {
     what_stands_is_not_refused();
     match request_of(alloc, words) {
-        Ok(request) => tell(
-            alloc,
-            perform(alloc, keys, &request, model, disk, cert),
-            out,
-        ),
+        Ok(request) => {
+            let performed = perform_alone(alloc, keys, &request, model, disk, cert);
+            tell(alloc, performed, out)
+        }
         Err(refusal) => tell(alloc, Performed::refused(refusal, disk), out),
     }
 }
 
-/// Does what the words ask for with as many workers as they ask for, over threads that `rt` starts.
+/// Does what the words ask for as `run_one` does, with as many workers as they ask for, each in a thread that `rt`
+/// starts.
 ///
-/// Words can ask for one worker alone: this is `run_one`, with its promise, and neither `rt` nor `hold` is used.
+/// Where they ask for one, or are no command, this is `run_one`. Else all is promised that `run_one` promises, but that
+/// this returns: a worker waits for its turn. Each of them asks `hold` before it claims a node.
 pub fn run<
     R: Threads + Wait + Sync,
     B: BuildHasher + Clone + Drop,
@@ -259,7 +195,7 @@ pub fn run<
     O: Sink,
     H: Hold + Sync,
 >(
-    _rt: &R,
+    rt: &R,
     alloc: Global,
     keys: B,
     words: &Words,
@@ -267,7 +203,7 @@ pub fn run<
     disk: D,
     cert: &mut C,
     out: &mut O,
-    _hold: &H,
+    hold: &H,
 ) -> Ran<D>
     ensures { KeepsPromise (record {
       words = words.now;
@@ -279,5 +215,12 @@ pub fn run<
       number = result.status;
     }) }
 {
+    if let Ok(request) = request_of(alloc, words) {
+        if request.limits().workers > 1 {
+            what_stands_is_not_refused();
+            let performed = perform_by_crew(rt, alloc, keys, &request, model, disk, cert, hold);
+            return tell(alloc, performed, out);
+        }
+    }
     run_one(alloc, keys, words, model, disk, cert, out)
 }

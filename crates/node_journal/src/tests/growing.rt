@@ -3,14 +3,14 @@ use outside::{Disk, Failed};
 
 /// A disk to which another run writes: it tells a smaller size when it is asked first. It can only be read.
 #[derive(Drop)]
-pub struct Growing<'a> {
+pub(super) struct Growing<'a> {
     bytes: &'a [u8],
     first: Option<u64>,
     faults: u64,
 }
 
 impl<'a> Growing<'a> {
-    pub fn seen_first(bytes: &'a [u8], size: u64) -> Growing<'a> {
+    pub(super) fn seen_first(bytes: &'a [u8], size: u64) -> Growing<'a> {
         Growing {
             bytes,
             first: Some(size),

@@ -1,11 +1,11 @@
 -- Lemmas: a history goes on from an earlier moment.
 use Rattle.std.specs.Prelude.{◌≡◌, ◌⊎◌, ℕ, ◌≤◌, ◌<◌, List, [], ◌∷◌, ◌++◌, length, take, Option, None, Some, slice_get, refl}
-use Rattle.std.proofs.Common.{arith, sym, ◌∙◌, ap, subst, inl, inr, length-append, length-take}
+use Rattle.std.proofs.Common.{arith, sym, ◌∙◌, ap, inl, inr, length-append, length-take}
 use Rattle.std.proofs.lemmas.List.{take-take, take_all}
 use Rattle.std.proofs.lemmas.Option.{slice_get_cases, slice_get_within}
 use Rattle.outside.specs.Images.{IsImage}
 use Rattle.outside.specs.declared.moment.Moment.{Moment}
-use Rattle.node_journal.specs.History.{first_of, count_of, BeginsWith, IsPrefixOf, Agree, Keeps, ExtendsMoments, IsHistory, KeepsHistory}
+use Rattle.node_journal.specs.History.{first_of, count_of, BeginsWith, IsPrefixOf, Agree, Keeps, RemainsFrom, ExtendsMoments, IsHistory, KeepsHistory}
 use Rattle.node_journal.specs.Records.{Records, Holds, Foreign, BrokenAt, records}
 
 side : (i l : ℕ) → (i ≤ l) ⊎ (l < i)
@@ -93,9 +93,19 @@ module _ (from since : ℕ) (past past' : List Moment) (now now' : Moment) (ps :
     | inr gt ↦ next.lasting i j m n qs (omega (arith, begun, gt)) le ati atj keeps
   ]
 
+  remaining : (qs : List (List ℕ)) → RemainsFrom from (past' ++ now' ∷ []) (λ c. BeginsWith qs (records c))
+  remaining qs i j m n ge le ati atj may = elim (side i (length past)) [
+    | inl li ↦ elim (side j (length past)) [
+      | inl lj ↦ first.history.remaining qs i j m n ge le (old i m li ati) (old j n lj atj) may
+      | inr gt ↦ next.remaining qs (length past) j now n begun (omega (arith, gt)) (extends (length past) now (last_moment past now)) atj
+          (first.history.remaining qs i (length past) m now ge li (old i m li ati) (last_moment past now) may)
+    ]
+    | inr gt ↦ next.remaining qs i j m n (omega (arith, begun, gt)) le ati atj may
+  ]
+
   -- the second history goes on from where the first began
   pub histories_joined : IsHistory from (past' ++ now' ∷ [])
-  histories_joined = record { reads = reads; agreeing = agreeing; lasting = lasting }
+  histories_joined = record { reads = reads; agreeing = agreeing; lasting = lasting; remaining = remaining }
 
 prefix_longer : (ps qs : List (List ℕ)) (r : Records) → take (length ps) qs ≡ ps → IsPrefixOf ps r → IsPrefixOf qs r
 prefix_longer ps qs r begins is = is ∙ ap Holds (ap (λ (l : List (List ℕ)). take (count_of r) l) (sym begins) ∙ take-take (count_of r) (length ps) qs short)

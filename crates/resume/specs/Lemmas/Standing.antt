@@ -1,5 +1,5 @@
 -- Lemmas: what crashes leave of a journal stands for the problem, since each beginning of legal events is legal.
-use Rattle.std.specs.Prelude.{◌≡◌, ◌⊎◌, ℕ, zero, suc, ◌+◌, ◌≤◌, ◌<◌, ℤ, Bool, true, false, nat_lt, List, [], ◌∷◌, ◌++◌, length, take, drop, map, Option, Some, None, refl}
+use Rattle.std.specs.Prelude.{◌≡◌, ℕ, zero, suc, ◌+◌, ◌≤◌, ℤ, false, List, [], ◌∷◌, ◌++◌, length, take, drop, Option, Some, None, refl}
 use Rattle.std.specs.List.{AllByRecursion}
 use Rattle.std.proofs.Common.{arith, sym, ◌∙◌, ap, subst, inl, inr, length-append}
 use Rattle.std.proofs.Math.ListN.{length-set}
@@ -10,13 +10,12 @@ use Rattle.problem.specs.Linear.{Multipliers}
 use Rattle.derivation_book.specs.Rounded.{rounded_row}
 use Rattle.node_events.specs.declared.event.Event.{Event}
 use Rattle.node_events.specs.declared.event.Event.TheVariants.{Claim, Release, Cut, Offer, Split, Close}
-use Rattle.event_codec.specs.Codes.{code, IsCodable}
-use Rattle.event_codec.specs.Types.{IsEvent}
+use Rattle.event_codec.specs.Codes.{code}
 use Rattle.event_core.specs.declared.entry.Entry.{Entry}
 use Rattle.event_core.specs.States.{State, first_state}
 use Rattle.event_core.specs.After.{after, after_cut}
 use Rattle.event_core.specs.Histories.{state_from, state_of, journaled, AreLegal, IsLegal}
-use Rattle.event_core.specs.Laws.{unheld, JournalsAreLegal, AreJournaled}
+use Rattle.event_core.specs.Laws.{unheld, JournalsAreLegal}
 use Rattle.event_core.specs.Lemmas.Running.{state_from-append, legal_prefix, legal_more}
 use Rattle.node_journal.specs.Records.{Holds, records}
 use Rattle.node_journal.specs.History.{IsPrefixOf, count_of}

@@ -32,7 +32,7 @@ pub returns-clause-kept : goal.returns-clause-kept
 returns-clause-kept g c told =
     let ps = payloads_of c.args.scanned.now in
     let held = reads_records (g.D.Disk.now c.args.disk.now).seen ps c.args.scanned.now.small (c.requires told).reads in
-    kept_since ps held (c.in_ok-sync.ensures.done told) (c.repair.ensures.any_moment told) c.clock-opened.result (c.clock-opened.ensures ∙ g.met.D.Disk.ticks_is c.sync.new.self told) (c.repair.ensures.offers told)
+    kept_since ps held (c.in_ok-sync.ensures.done told) (c.repair.ensures.any_moment told) c.clock-opened.result (c.clock-opened.ensures ∙ g.met.D.Disk.ticks_is c.sync.new.self told) (c.repair.ensures.offers told) (g.met.D.Disk.seen_is_image c.repair.new.disk told)
 
 pub returns-clause-since : goal.returns-clause-since
 returns-clause-since g c told =

@@ -1,9 +1,9 @@
-use Rattle.std.proofs.Common.{◌≡◌, ◌∙◌, rules}
+use Rattle.std.proofs.Common.{◌≡◌, ◌∙◌, rules, [], ◌∷◌, ◌++◌}
 use Rattle.node_journal.specs.Frames.{tail_of}
 use Rattle.node_journal.specs.Records.{records, Holds}
 use Rattle.node_journal.specs.Whole.{payloads_in}
-use Rattle.node_journal.proofs.Added.{written_rests, leaves_with, leaves_none, can_leave}
-use Rattle.node_journal.specs.Lemmas.Histories.{some_none}
+use Rattle.node_journal.proofs.Added.{written_rests, leaves_with, leaves_none, can_leave, remains_with}
+use Rattle.node_journal.specs.Lemmas.Histories.{some_none, remains_begun}
 use Rattle.node_journal.proofs.write_payload.write_payload.Goals as goal
 
 pub returns-then-next-ge-SIZE_LIMIT-clause-any_moment : goal.returns-then-next-ge-SIZE_LIMIT-clause-any_moment
@@ -49,3 +49,21 @@ pub returns-in-Err-clause-before : goal.returns-in-Err-clause-before
 returns-in-Err-clause-before g c told =
     let whole = c.requires.whole told in
     can_leave (payloads_in (g.D.Disk.now c.args.disk.now)) c.args.payload.now whole.small c.requires.small whole.rests whole.end_is _ (g.D.Disk.past c.open_behind.new.disk) (c.open_behind.ensures.before told)
+
+pub returns-then-next-ge-SIZE_LIMIT-clause-remains : goal.returns-then-next-ge-SIZE_LIMIT-clause-remains
+returns-then-next-ge-SIZE_LIMIT-clause-remains g c told = remains_begun (g.D.Disk.past c.args.disk.now) (g.D.Disk.now c.args.disk.now) (λ f. records f ≡ Holds (payloads_in (g.D.Disk.now c.args.disk.now) ++ c.args.payload.now ∷ []))
+
+pub returns-then-is_err-clause-remains : goal.returns-then-is_err-clause-remains
+returns-then-is_err-clause-remains g c told = remains_begun (g.D.Disk.past c.args.disk.now) (g.D.Disk.now c.args.disk.now) (λ f. records f ≡ Holds (payloads_in (g.D.Disk.now c.args.disk.now) ++ c.args.payload.now ∷ []))
+
+pub returns-in-Ok-clause-remains : goal.returns-in-Ok-clause-remains
+returns-in-Ok-clause-remains g c told =
+    let whole = c.requires.whole told in
+    let is : c.stage.new.frame.items ≡ tail_of c.args.payload.now = search rules in
+    remains_with (payloads_in (g.D.Disk.now c.args.disk.now)) c.args.payload.now whole.small c.requires.small whole.rests whole.end_is (c.as_slice.ensures.value ∙ is) (c.open_behind.ensures.any_moment told) (c.open_behind.ensures.remains told)
+
+pub returns-in-Err-clause-remains : goal.returns-in-Err-clause-remains
+returns-in-Err-clause-remains g c told =
+    let whole = c.requires.whole told in
+    let is : c.stage.new.frame.items ≡ tail_of c.args.payload.now = search rules in
+    remains_with (payloads_in (g.D.Disk.now c.args.disk.now)) c.args.payload.now whole.small c.requires.small whole.rests whole.end_is (c.as_slice.ensures.value ∙ is) (c.open_behind.ensures.any_moment told) (c.open_behind.ensures.remains told)

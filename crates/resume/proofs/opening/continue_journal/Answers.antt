@@ -1,5 +1,5 @@
 use Rattle.std.specs.List.{AllByRecursion}
-use Rattle.std.proofs.Common.{sym, subst, refl, ◌≡◌, ◌∙◌, ◌∷◌, ◌++◌, [], false, length, List, ℕ, None}
+use Rattle.std.proofs.Common.{sym, subst, refl, ◌≡◌, ◌∙◌, false, length, List, ℕ, None}
 use Rattle.outside.specs.Images.{AtRest}
 use Rattle.event_core.specs.declared.entry.Entry.{Entry}
 use Rattle.node_journal.specs.History.{KeepsHistory}
@@ -30,7 +30,7 @@ returns-in-Ok-clause-history g c told rests =
     let past = g.D.Disk.past in
     let now = g.D.Disk.now in
     ok_part c.make_pool.result (λ p. p.journal) c.in-Ok.journal (λ j. KeepsHistory (length (past c.args.disk)) (past j.disk) (now j.disk) (payloads_in (now j.disk)) None) c.make_pool.ensures.journal
-    (unchanged _ _ _ _ (payloads_of c.args.scanned) _ (c.in-Ok.ensures.read told) (c.in-Ok.ensures.holds told) (c.in-Ok.ensures.any_moment told rests) (c.in-Ok.ensures.offers told))
+    (unchanged _ _ _ _ (payloads_of c.args.scanned) _ (c.in-Ok.ensures.read told) (c.in-Ok.ensures.holds told) (c.in-Ok.ensures.any_moment told rests) (c.in-Ok.ensures.offers told) (g.met.D.Disk.seen_is_image c.in-Ok.journal.disk told))
 
 pub returns-in-Ok-clause-history_err : goal.returns-in-Ok-clause-history_err
 returns-in-Ok-clause-history_err g c told rests ps holds =
@@ -38,7 +38,7 @@ returns-in-Ok-clause-history_err g c told rests ps holds =
     let now = g.D.Disk.now in
     if_err c.make_pool.result (λ e. e.1 ≡ c.in-Ok.journal.disk) (λ e. LeavesHistory (length (past c.args.disk)) (past e.1) (now e.1) (is_disk e.0)) c.make_pool.ensures.back
     (λ e same. subst (λ d. LeavesHistory (length (past c.args.disk)) (past d) (now d) (is_disk e.0)) (sym same)
-    (leaves _ _ _ _ _ refl (unchanged _ _ _ _ (payloads_of c.args.scanned) _ (c.in-Ok.ensures.read told) (c.in-Ok.ensures.holds told) (c.in-Ok.ensures.any_moment told rests) (c.in-Ok.ensures.offers told))))
+    (leaves _ _ _ _ _ refl (unchanged _ _ _ _ (payloads_of c.args.scanned) _ (c.in-Ok.ensures.read told) (c.in-Ok.ensures.holds told) (c.in-Ok.ensures.any_moment told rests) (c.in-Ok.ensures.offers told) (g.met.D.Disk.seen_is_image c.in-Ok.journal.disk told))))
 
 pub returns-in-Ok-clause-rests_err : goal.returns-in-Ok-clause-rests_err
 returns-in-Ok-clause-rests_err g c told rests =
@@ -46,4 +46,4 @@ returns-in-Ok-clause-rests_err g c told rests =
     (λ e same other. subst (λ d. AtRest (g.D.Disk.now d)) (sym same) (rests_at _ _ (c.in-Ok.ensures.rests told)))
 
 pub returns-in-Err-clause-history_err : goal.returns-in-Err-clause-history_err
-returns-in-Err-clause-history_err g c told rests ps holds = leaves_failed _ _ _ (unchanged _ _ _ _ ps ps holds refl (c.in-Err.ensures.any_moment_err told rests) (c.in-Err.ensures.offers_err told)).history
+returns-in-Err-clause-history_err g c told rests ps holds = leaves_failed _ _ _ (unchanged _ _ _ _ ps ps holds refl (c.in-Err.ensures.any_moment_err told rests) (c.in-Err.ensures.offers_err told) (g.met.D.Disk.seen_is_image c.in-Err.disk told)).history

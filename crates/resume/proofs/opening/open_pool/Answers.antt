@@ -1,4 +1,4 @@
-use Rattle.std.proofs.Common.{sym, subst, refl, inl, ap, ◌∙◌, ◌≡◌, ◌<◌, ◌^◌, arith, List, [], ◌∷◌, ℕ, length, IfOk}
+use Rattle.std.proofs.Common.{sym, subst, refl, inl, ◌∙◌, ◌≡◌, ◌<◌, ◌^◌, List, [], ◌∷◌, ℕ, length}
 use Rattle.problem.specs.Problem.{Problem}
 use Rattle.outside.specs.Images.{LeavesOnly}
 use Rattle.event_codec.specs.Models.{model_code}

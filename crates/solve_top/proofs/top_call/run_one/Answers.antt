@@ -5,16 +5,6 @@ use Rattle.solve_top.specs.Searches.{search_of}
 use Rattle.solve_top.proofs.Promises.{promise_of, promise_unasked}
 use Rattle.solve_top.proofs.top_call.run_one.Goals as goal
 
-pub returns-in-Ok : goal.returns-in-Ok
-returns-in-Ok g c =
-    let t = c.tell.ensures.status in
-    let m = source_change g.S.Source.tells g.S.Source.left g.S.Source.faults c.args.model.now c.perform.new.model in
-    let cert = sink_change g.C.Sink.tells g.C.Sink.taken g.C.Sink.kept g.C.Sink.faults c.args.cert.now c.perform.new.cert in
-    let out = sink_change g.O.Sink.tells g.O.Sink.taken g.O.Sink.kept g.O.Sink.faults c.args.out.now c.tell.new.out in
-    promise_of g.D.Disk.tells g.D.Disk.past g.D.Disk.now g.D.Disk.count c.args.disk c.perform.result.disk c.tell.result.disk c.tell.ensures.disk c.what_stands_is_not_refused.ensures c.in-Ok.request
-    c.args.words.now m cert out _ (option_map search_of c.perform.result.last) c.tell.result.status t.0 c.perform.result.outcome
-    c.in-Ok.ensures.asked t.1 (ap (option_map search_of) c.tell.ensures.last) c.perform.ensures.alone c.perform.ensures.outcome t.2 c.perform.ensures.journal
-
 pub returns-in-Err : goal.returns-in-Err
 returns-in-Err g c =
     let t = c.tell-in-Err.ensures.status in
@@ -24,3 +14,14 @@ returns-in-Err g c =
     promise_unasked g.D.Disk.tells g.D.Disk.past g.D.Disk.now g.D.Disk.count c.args.disk c.tell-in-Err.result.disk (c.tell-in-Err.ensures.disk ∙ c.refused.ensures.disk) c.args.words.now m cert out
     _ c.tell-in-Err.result.status t.0 c.in-Err.refusal refl (λ told. refl) refl c.in-Err.ensures.refused t.1
     (ap (option_map search_of) (c.tell-in-Err.ensures.last ∙ c.refused.ensures.last)) (rw c.refused.ensures.outcome at t.2)
+
+pub returns-in-Ok : goal.returns-in-Ok
+returns-in-Ok g c =
+    let performed = c.perform_alone-performed in
+    let t = c.tell.ensures.status in
+    let m = source_change g.S.Source.tells g.S.Source.left g.S.Source.faults c.args.model.now performed.new.model in
+    let cert = sink_change g.C.Sink.tells g.C.Sink.taken g.C.Sink.kept g.C.Sink.faults c.args.cert.now performed.new.cert in
+    let out = sink_change g.O.Sink.tells g.O.Sink.taken g.O.Sink.kept g.O.Sink.faults c.args.out.now c.tell.new.out in
+    promise_of g.D.Disk.tells g.D.Disk.past g.D.Disk.now g.D.Disk.count c.args.disk performed.result.disk c.tell.result.disk c.tell.ensures.disk c.what_stands_is_not_refused.ensures c.in-Ok.request
+    c.args.words.now m cert out _ (option_map search_of performed.result.last) c.tell.result.status t.0 performed.result.outcome
+    c.in-Ok.ensures.asked t.1 (ap (option_map search_of) c.tell.ensures.last) performed.ensures.alone performed.ensures.outcome t.2 performed.ensures.journal

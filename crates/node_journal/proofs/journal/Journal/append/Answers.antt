@@ -29,7 +29,7 @@ invariant_of-self-clause-kept g c told =
     let whole = old.whole told sound in
     let kept = subst (λ f. KeepsHistory old.opened (past old.disk) (now old.disk) (payloads_in (now old.disk)) f) sound (old.kept told) in
     kept_added old.opened (past old.disk) (now old.disk) (file_of (payloads_in (now old.disk))) (payloads_in (now old.disk)) c.args.payload.now whole.small refl whole.rests kept
-    (past c.write_payload.new.disk) (now c.write_payload.new.disk) (c.write_payload.ensures.any_moment told) (c.write_payload.ensures.before told) (payloads_in (now c.write_payload.new.disk)) old.fault (added_in c.args.payload.now whole c.requires.small (c.in-Ok.ensures.done told))
+    (past c.write_payload.new.disk) (now c.write_payload.new.disk) (c.write_payload.ensures.any_moment told) (c.write_payload.ensures.before told) (c.write_payload.ensures.remains told) (g.met.D.Disk.seen_is_image c.write_payload.new.disk told) (payloads_in (now c.write_payload.new.disk)) old.fault (added_in c.args.payload.now whole c.requires.small (c.in-Ok.ensures.done told))
 
 pub invariant_of-self-in-Err-Disk-clause-kept : goal.invariant_of-self-in-Err-Disk-clause-kept
 invariant_of-self-in-Err-Disk-clause-kept g c told =
@@ -40,7 +40,7 @@ invariant_of-self-in-Err-Disk-clause-kept g c told =
     let whole = old.whole told sound in
     let kept = subst (λ f. KeepsHistory old.opened (past old.disk) (now old.disk) (payloads_in (now old.disk)) f) sound (old.kept told) in
     kept_failed old.opened (past old.disk) (now old.disk) (file_of (payloads_in (now old.disk))) (payloads_in (now old.disk)) c.args.payload.now whole.small refl whole.rests kept
-    (past c.write_payload.new.disk) (now c.write_payload.new.disk) (c.write_payload.ensures.any_moment told) (c.write_payload.ensures.before told) (payloads_in (now c.write_payload.new.disk)) _
+    (past c.write_payload.new.disk) (now c.write_payload.new.disk) (c.write_payload.ensures.any_moment told) (c.write_payload.ensures.before told) (c.write_payload.ensures.remains told) (g.met.D.Disk.seen_is_image c.write_payload.new.disk told) (payloads_in (now c.write_payload.new.disk)) _
 
 pub returns-in-Ok-clause-added : goal.returns-in-Ok-clause-added
 returns-in-Ok-clause-added g c told =

@@ -1,0 +1,138 @@
+-- Who holds a node after events of a worker who holds one.
+use Rattle.std.specs.Prelude.{◌≡◌, ℕ, Bool, true, false, not, nat_eq, ◌&&◌, ◌||◌, cond, List, [], ◌∷◌, ◌++◌, map, All, Option, Some, None, refl}
+use Rattle.std.specs.List.{list_any}
+use Rattle.std.proofs.Common.{sym, ap, ◌∙◌, subst}
+use Rattle.std.proofs.lemmas.Bool.{eq-eqb, eqb-true}
+use Rattle.std.proofs.lemmas.List.Elements.{All-nil, All-cons, All-head, All-tail}
+use Rattle.std.proofs.lemmas.List.Folds.{list_any-append}
+use Rattle.problem.specs.declared.row.Row.{Row}
+use Rattle.problem.specs.Linear.{Multipliers}
+use Rattle.node_events.specs.declared.event.Event.{Event}
+use Rattle.node_events.specs.declared.event.Event.TheVariants.{Claim, Release, Cut, Offer, Split, Close}
+use Rattle.derivation_book.specs.Rounded.{rounded_row}
+use Rattle.event_core.specs.declared.entry.Entry.{Entry}
+use Rattle.event_core.specs.declared.entry.Holder.{Holder}
+use Rattle.event_core.specs.States.{State}
+use Rattle.event_core.specs.Holds.{is_holding, holds_node, without_hold}
+use Rattle.event_core.specs.After.{after, after_cut}
+use Rattle.event_core.specs.Histories.{state_from, is_journaled}
+use Rattle.event_core.specs.Sound.{AreApart}
+use Rattle.expand.specs.declared.settlement.Settlement.{Settlement}
+use Rattle.expand.specs.declared.settlement.Settlement.TheVariants.{Separated, Closed, Improved, Branched}
+use Rattle.expand.specs.Laws.{entries_of}
+use Rattle.expand.specs.Settlements.{events_of}
+use Rattle.expand.specs.Lemmas.Rooms.{IsNotSeparated}
+use Rattle.worker_gate.specs.Calls.{ends_node}
+
+abbrev is_of : ℕ → ℕ → Holder → Bool
+is_of w i h = nat_eq h.worker w && nat_eq h.node i
+
+abbrev is_by : ℕ → Holder → Bool
+is_by w h = nat_eq h.worker w
+
+abbrev is_at : ℕ → Holder → Bool
+is_at i h = nat_eq h.node i
+
+-- ---- a claim
+pub claimed_held : (s : State) (w i : ℕ) → holds_node (after s (Some w) (Claim i)) w i ≡ true
+claimed_held s w i =
+    list_any-append (is_of w i) s.holds (record { worker = w; node = i } ∷ [])
+    ∙ (ap (λ (b : Bool). list_any (is_of w i) s.holds || ((b && nat_eq i i) || false)) (eq-eqb w w refl)
+    ∙ (ap (λ (b : Bool). list_any (is_of w i) s.holds || ((true && b) || false)) (eq-eqb i i refl) ∙ either (list_any (is_of w i) s.holds)))
+  where
+    either : (b : Bool) → (b || true) ≡ true
+    either true = refl
+    either false = refl
+
+-- ---- the one node of a worker ends
+-- whoever is among these holds a node
+some_by : (w i : ℕ) (hs : List Holder) → list_any (is_of w i) hs ≡ true → list_any (is_by w) hs ≡ true
+some_by w i [] e = cc
+some_by w i (h ∷ hs) e = step (nat_eq h.worker w) (nat_eq h.node i) e (λ k. some_by w i hs k)
+  where
+    step : (a b : Bool) → ((a && b) || list_any (is_of w i) hs) ≡ true → (list_any (is_of w i) hs ≡ true → list_any (is_by w) hs ≡ true) → (a || list_any (is_by w) hs) ≡ true
+    step true b k f = refl
+    step false b k f = f k
+
+none_without : (w i : ℕ) (hs : List Holder) → list_any (is_by w) hs ≡ false → list_any (is_by w) (without_hold i hs) ≡ false
+none_without w i [] e = refl
+none_without w i (h ∷ hs) e = step (nat_eq h.node i) (is_by w h) refl e (λ k. none_without w i hs k)
+  where
+    step : (b c : Bool) → is_by w h ≡ c → (c || list_any (is_by w) hs) ≡ false → (list_any (is_by w) hs ≡ false → list_any (is_by w) (without_hold i hs) ≡ false)
+        → list_any (is_by w) (cond (not b) (h ∷ without_hold i hs) (without_hold i hs)) ≡ false
+    step b true q k f = cc
+    step true false q k f = f k
+    step false false q k f = ap (λ c. c || list_any (is_by w) (without_hold i hs)) q ∙ f k
+
+-- each worker holds one node at most: without it the worker holds none
+pub lone : (w i : ℕ) (hs : List Holder) → AreApart hs → list_any (is_of w i) hs ≡ true → list_any (is_by w) (without_hold i hs) ≡ false
+lone w i [] a e = cc
+lone w i (h ∷ hs) a e = step (nat_eq h.worker w) (nat_eq h.node i) refl e (λ k. lone w i hs a.2 k)
+  where
+    others : nat_eq h.worker w ≡ true → list_any (is_by w) hs ≡ false
+    others q = subst (λ n. list_any (is_by n) hs ≡ false) (eqb-true h.worker w q) a.0
+
+    step : (b c : Bool) → nat_eq h.worker w ≡ b → ((b && c) || list_any (is_of w i) hs) ≡ true → (list_any (is_of w i) hs ≡ true → list_any (is_by w) (without_hold i hs) ≡ false)
+        → list_any (is_by w) (cond (not c) (h ∷ without_hold i hs) (without_hold i hs)) ≡ false
+    step true true q k f = none_without w i hs (others q)
+    step true false q k f = let bad = sym (some_by w i hs k) ∙ others q in cc
+    step false true q k f = f k
+    step false false q k f = ap (λ c. c || list_any (is_by w) (without_hold i hs)) q ∙ f k
+
+-- ---- events that end no node
+cut_holds : (s : State) (mult : Multipliers) (o : Option Row) → (after_cut s mult o).holds ≡ s.holds
+cut_holds s mult None = refl
+cut_holds s mult (Some r) = refl
+
+quiet_holds : (s : State) (w : Option ℕ) (e : Event) → is_journaled e ≡ true → ends_node e ≡ false → (after s w e).holds ≡ s.holds
+quiet_holds s w (Claim i) j n = cc
+quiet_holds s w (Release i) j n = cc
+quiet_holds s w (Cut mult) j n = cut_holds s mult (rounded_row s.problem s.cuts mult)
+quiet_holds s w (Offer x) j n = refl
+quiet_holds s w (Split i j b r) k n = cc
+quiet_holds s w (Close i proof) j n = cc
+
+abbrev pub IsJournaled : Entry → Type 0
+IsJournaled e = is_journaled e.event ≡ true
+
+abbrev pub IsUnending : Entry → Type 0
+IsUnending e = ends_node e.event ≡ false
+
+pub all_quiet : (s : State) (es : List Entry) → All IsJournaled es → All IsUnending es → (state_from s es).holds ≡ s.holds
+all_quiet s [] j n = refl
+all_quiet s (e ∷ es) j n =
+    all_quiet (after s e.worker e.event) es (All-tail IsJournaled e es j) (All-tail IsUnending e es n)
+    ∙ quiet_holds s e.worker e.event (All-head IsJournaled e es j) (All-head IsUnending e es n)
+
+-- ---- the events of a settlement
+cuts_journaled : (w : ℕ) (mults : List Multipliers) → All IsJournaled (entries_of w (map Cut mults))
+cuts_journaled w [] = All-nil IsJournaled
+cuts_journaled w (m ∷ ms) = All-cons IsJournaled (record { worker = Some w; event = Cut m }) (entries_of w (map Cut ms)) refl (cuts_journaled w ms)
+
+cuts_unending : (w : ℕ) (mults : List Multipliers) → All IsUnending (entries_of w (map Cut mults))
+cuts_unending w [] = All-nil IsUnending
+cuts_unending w (m ∷ ms) = All-cons IsUnending (record { worker = Some w; event = Cut m }) (entries_of w (map Cut ms)) refl (cuts_unending w ms)
+
+one_journaled : (e : Entry) → IsJournaled e → All IsJournaled (e ∷ [])
+one_journaled e j = All-cons IsJournaled e [] j (All-nil IsJournaled)
+
+pub settled_journaled : (w i : ℕ) (g : Settlement) → All IsJournaled (entries_of w (events_of i g))
+settled_journaled w i (Separated mults) = cuts_journaled w mults
+settled_journaled w i (Closed proof) = one_journaled _ refl
+settled_journaled w i (Improved x proof) = All-cons IsJournaled (record { worker = Some w; event = Offer x }) (record { worker = Some w; event = Close i proof } ∷ []) refl (one_journaled _ refl)
+settled_journaled w i (Branched b) = one_journaled _ refl
+
+pub all_first : (P : Entry → Type 0) (xs ys : List Entry) → All P (xs ++ ys) → All P xs
+all_first P [] ys a = All-nil P
+all_first P (x ∷ xs) ys a = All-cons P x xs (All-head P x (xs ++ ys) a) (all_first P xs ys (All-tail P x (xs ++ ys) a))
+
+-- cuts leave the holds as they are
+pub separated_holds : (s : State) (w i : ℕ) (mults : List Multipliers) → (state_from s (entries_of w (events_of i (Separated mults)))).holds ≡ s.holds
+separated_holds s w i mults = all_quiet s (entries_of w (map Cut mults)) (cuts_journaled w mults) (cuts_unending w mults)
+
+-- and all else takes away that of the node
+pub ended_none : (s : State) (w i : ℕ) (g : Settlement) → IsNotSeparated g → AreApart s.holds → holds_node s w i ≡ true → is_holding (state_from s (entries_of w (events_of i g))) w ≡ false
+ended_none s w i (Separated mults) n a h = absurd (n mults refl)
+ended_none s w i (Closed proof) n a h = lone w i s.holds a h
+ended_none s w i (Improved x proof) n a h = lone w i s.holds a h
+ended_none s w i (Branched b) n a h = lone w i s.holds a h

@@ -1,0 +1,14 @@
+mod Names
+mod Fronts
+mod Holding
+mod Calling
+mod Leaving
+mod Looking
+mod Viewing
+mod Halting
+mod Passes
+mod Places
+mod Ending
+mod Searched
+mod Sending
+mod Spending

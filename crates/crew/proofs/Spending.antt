@@ -1,0 +1,46 @@
+-- A pool that was halted by its budget.
+use Rattle.std.specs.Prelude.{◌≡◌, ◌⊎◌, ◌<◌, ◌≤◌, ◌+◌, ℕ, true, false, [], length, Option, Some, None, IsSome}
+use Rattle.std.proofs.Common.{⊎_elim, sym, ap, subst}
+use borrow.Author.Tests.{ltb-true}
+use Rattle.node_events.specs.declared.event.Event.{Event}
+use Rattle.node_events.specs.declared.event.Event.TheVariants.{Claim, Release, Cut, Offer, Split, Close}
+use Rattle.event_core.specs.declared.admit.Admit.TheVariants.{Yes}
+use Rattle.event_core.specs.States.{State, open_count}
+use Rattle.event_core.specs.Judging.{judged}
+use Rattle.event_core.specs.Laws.{unheld}
+use Rattle.event_core.specs.Lemmas.Passing.{split_passed}
+use Rattle.node_pool.specs.declared.halt.Halt.{Halt}
+use Rattle.node_pool.specs.declared.halt.Halt.TheVariants as halt
+use Rattle.outside.specs.Faults.{Rose}
+use Rattle.node_pool.specs.Halting.{IsHalt, IsBudgetHalt, IsDiskHalt}
+use Rattle.core_search.specs.Endings.{IsSpent}
+use Rattle.crew.proofs.Halting.{some_open}
+
+module _ (faults budget count : ℕ) (fault : Option ℕ) (s : State) (nobody : s.holds ≡ []) where
+  still : unheld s ≡ s
+  still = ap (λ hs. record s { holds = hs }) (sym nobody)
+
+  spent_by : (e : Event) → IsBudgetHalt faults budget count fault s e → IsSpent budget s × (0 < open_count s)
+  spent_by (Claim i) h = let bad : false ≡ true = h.over in cc
+  spent_by (Release i) h = let bad : false ≡ true = h.over in cc
+  spent_by (Cut mult) h = let bad : false ≡ true = h.over in cc
+  spent_by (Offer x) h = let bad : false ≡ true = h.over in cc
+  spent_by (Split i j b r) h =
+      let admitted : judged s None (Split i j b r) ≡ Yes = subst (λ t. judged t None (Split i j b r) ≡ Yes) still h.next.admitted in (
+        record { splits = record { node = i; column = j; bound = b; reason = r; admitted = admitted }; full = ltb-true budget (length s.nodes + 2) h.over },
+        some_open s i (split_passed s None i j b r admitted).opened,
+      )
+  spent_by (Close i proof) h = let bad : false ≡ true = h.over in cc
+
+  pub budget_spent : (h : Option Halt) (e : Event) → h ≡ Some (halt.Budget e) → IsHalt faults budget count fault s h → IsSpent budget s × (0 < open_count s)
+  budget_spent h e is held = spent_by e (subst (IsHalt faults budget count fault s) is held)
+
+  rose_by : (n : ℕ) (e : Event) → faults ≤ count → IsDiskHalt faults budget count fault s n e → (faults ≤ count) × Rose faults count
+  rose_by n e rising h = (rising, rw h.counted h.rose)
+
+  pub disk_rose : (h : Option Halt) (n : ℕ) (e : Event) → h ≡ Some (halt.Disk n e) → faults ≤ count → IsHalt faults budget count fault s h → (faults ≤ count) × Rose faults count
+  disk_rose h n e is rising held = rose_by n e rising (subst (IsHalt faults budget count fault s) is held)
+
+  pub none_open : (h : Option Halt) → h ≡ None → IsSome h ⊎ (open_count s ≡ 0) → open_count s ≡ 0
+  none_open None e over = ⊎_elim (λ (bad : false ≡ true). cc) (λ z. z) over
+  none_open (Some h) e over = cc

@@ -1,0 +1,16 @@
+//! What a worker knows of a node that it looks at.
+
+use fraction::Frac;
+use node_tree::Branch;
+use problem_box::IntBox;
+
+/// What a worker knows of a node that it looks at.
+#[derive(Drop)]
+pub(crate) struct NodeView {
+    /// The node's box.
+    pub area: IntBox,
+    /// The incumbent's objective, if there is an incumbent.
+    pub cutoff: Option<Frac>,
+    /// The branch that leads to the node; none at node 0.
+    pub branch: Option<Branch>,
+}

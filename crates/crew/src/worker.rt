@@ -1,0 +1,103 @@
+//! What a worker keeps between nodes.
+ghost use Rattle.std.specs.Prelude.{◌≡◌, ◌≤◌, ◌+◌, ◌++◌, ◌<◌, [], IfOk, OnOk, length};
+ghost use Rattle.derivation_book.specs.Cuts.{AreCutsAfter};
+ghost use Rattle.dual_simplex.specs.Prepared.{IsRelaxationOf};
+ghost use Rattle.expand.specs.Findings.{Holds};
+ghost use Rattle.crew.specs.Workers.{IsPrepared, IsNodeOf};
+
+use crate::cuts::add_cuts;
+use crate::node_view::NodeView;
+use crate::split_values::SplitValues;
+use derivation_book::{Book, Cut};
+use dual_simplex::Relaxation;
+use expand::{Finding, Glance, expand};
+use problem::Problem;
+use pseudo_cost::Costs;
+use std::alloc::{AllocError, Global};
+
+/// What a worker keeps between nodes. Nothing of it is shared.
+#[derive(Drop)]
+pub(crate) struct Worker {
+    /// The cuts that the worker knows: the first of all.
+    pub book: Book,
+    /// The relaxation of the problem with these cuts.
+    pub relaxation: Relaxation,
+    /// What the splits of each column have gained so far, as far as the worker saw them.
+    pub costs: Costs,
+    /// The optimal values of the nodes that the worker split.
+    pub splits: SplitValues,
+}
+
+/// The relaxation of the problem with all cuts of the book. The one error is want of memory.
+fn relaxation_of(alloc: Global, problem: &Problem, book: &Book) -> Result<Relaxation, AllocError>
+    requires { length book.now.cuts ≤ 256 }
+    ensures cuts { IfOk result (λ r. r.cuts ≡ length book.now.cuts) }
+    ensures prepared { IfOk result (λ r. IsRelaxationOf problem.now book.now.cuts r) }
+{
+    Relaxation::new(alloc, problem, book, book.len())
+}
+
+impl Worker {
+    /// A worker that knows no cut and has noted nothing yet. The one error is want of memory.
+    pub(crate) fn new(alloc: Global, problem: &Problem) -> Result<Worker, AllocError>
+        ensures prepared { IfOk result (λ w. IsPrepared problem.now w) }
+        ensures book { IfOk result (λ w. w.book.cuts ≡ []) }
+    {
+        let book = Book::make(alloc);
+        let relaxation = relaxation_of(alloc, problem, &book)?;
+        let costs = Costs::make(alloc, problem.columns())?;
+        Ok(Worker {
+            book,
+            relaxation,
+            costs,
+            splits: SplitValues::new(alloc),
+        })
+    }
+
+    /// Puts cuts behind those that the worker knows, and prepares the relaxation anew where there are any. The one error is want of memory.
+    pub(crate) fn learn(
+        &mut self,
+        alloc: Global,
+        problem: &Problem,
+        cuts: Vec<Cut>,
+    ) -> Result<(), AllocError>
+        requires prepared { IsPrepared problem.now self.old }
+        requires cuts { AreCutsAfter problem.now self.old.book.cuts cuts.items }
+        requires few { length self.old.book.cuts + length cuts.items ≤ 256 }
+        ensures book { OnOk result (self.new.book.cuts ≡ self.old.book.cuts ++ cuts.items) }
+        ensures prepared { OnOk result (IsPrepared problem.now self.new) }
+    {
+        if cuts.is_empty() {
+            return Ok(());
+        }
+        add_cuts(alloc, problem, &mut self.book, cuts)?;
+        self.relaxation = relaxation_of(alloc, problem, &self.book)?;
+        Ok(())
+    }
+
+    /// What is found of a node by the cuts that the worker knows, with room for so many more. The one error is want of memory.
+    pub(crate) fn look(
+        &mut self,
+        alloc: Global,
+        problem: &Problem,
+        node: &NodeView,
+        room: usize,
+    ) -> Result<Finding, AllocError>
+        requires prepared { IsPrepared problem.now self.old }
+        requires few { length self.old.book.cuts ≤ 256 }
+        requires node { IsNodeOf problem.now node.now }
+        ensures holds { IfOk result (λ f. Holds problem.now self.old.book.cuts node.now.area node.now.cutoff f) }
+        ensures prepared { IsPrepared problem.now self.new }
+        ensures book { self.new.book ≡ self.old.book }
+    {
+        let origin = self.splits.origin_of(&node.branch);
+        let glance = Glance {
+            problem,
+            book: &self.book,
+            relaxation: &self.relaxation,
+            area: &node.area,
+            cutoff: node.cutoff,
+        };
+        expand(alloc, &glance, &mut self.costs, origin, room)
+    }
+}

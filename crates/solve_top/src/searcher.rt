@@ -1,0 +1,47 @@
+//! Searches on in pools: by one worker alone, or by a crew.
+ghost use Rattle.solve_top.specs.Begun.{IsEnded, IsReady};
+ghost use Rattle.solve_top.specs.Requests.{HasRanges, limits_in};
+ghost use Rattle.solve_top.specs.Searchers.{SearchesOn};
+
+use crate::request::Request;
+use core_search::{Ending, search};
+use crew::{Settings, run_crew};
+use node_pool::Pool;
+use outside::{Disk, Hold};
+use std::alloc::Global;
+use std::sync::Wait;
+use std::thread::Threads;
+
+/// Searches on within the limits that are asked for, or with what is there, by one worker, who takes no lock.
+pub fn search_alone<D: Disk>(alloc: Global, pool: Pool<D>, request: &Request) -> (Ending, Pool<D>)
+    requires ranges { HasRanges request.now }
+    requires ready { IsReady request.now pool }
+    ensures goes_on { SearchesOn (limits_in request.now) pool result.0 result.1 }
+    ensures ended { IsEnded request.now result.0 result.1 }
+{
+    let mut pool = pool;
+    let limits = request.limits();
+    let ending = search(alloc, &mut pool, limits.cuts);
+    (ending, pool)
+}
+
+/// The same by as many workers as are asked for, each in a thread that `rt` starts.
+pub fn search_by_crew<D: Disk + Send, R: Threads + Wait + Sync, H: Hold + Sync>(
+    rt: &R,
+    alloc: Global,
+    pool: Pool<D>,
+    request: &Request,
+    hold: &H,
+) -> (Ending, Pool<D>)
+    requires ranges { HasRanges request.now }
+    requires ready { IsReady request.now pool }
+    ensures goes_on { SearchesOn (limits_in request.now) pool result.0 result.1 }
+    ensures ended { IsEnded request.now result.0 result.1 }
+{
+    let limits = request.limits();
+    let settings = Settings {
+        workers: limits.workers,
+        cuts: limits.cuts,
+    };
+    run_crew(rt, alloc, pool, &settings, hold)
+}
