@@ -116,7 +116,7 @@ offer_at=$((13 + $(wc -c <"$texts/record")))
 close_at=$((offer_at + 18))
 cp "$texts/record" "$texts/foreign"
 head -c $((close_at - 1)) "$texts/journal" | text torn
-{ printf 'BNCJRNL1\1'; number $((2 ** 32 - 1)); cat "$texts/record"; } | text long
+{ printf 'BNCJRNL1\1'; number $((2 ** 32 - 1)); cat "$texts/record"; } | text endless
 { printf '\11'; tail -c +2 "$texts/offer"; } | text ninth
 { printf 'BNCJRNL1'; frame record; frame ninth; printf '\0'; } | text tag
 { printf '\3'; number 1; number 3; number 0; } | text three
@@ -189,6 +189,7 @@ END
 
 # A certificate is made, or takes the place of an older one.
 try 'a new certificate' 0 'bnc solve one.mps j c >out' c=cert out=lines
+try 'four workers' 0 'bnc solve one.mps new c --workers 4 >out' new=journal c=cert out=lines
 try 'over an older certificate' 0 'cp "$texts/long" c; bnc solve one.mps j c >out' c=cert out=lines
 try 'over a link to an older certificate' 0 'cp "$texts/long" old; ln -s old c; bnc solve one.mps j c >out' old=cert out=lines
 try 'through a link to no file' 0 'ln -s new c; bnc solve one.mps j c >out' new=cert out=lines
@@ -268,7 +269,7 @@ while read -r name line; do
 done <<END
 foreign NotAJournal
 torn Damaged $offer_at
-long Damaged 8
+endless Damaged 8
 tag Damaged $offer_at
 point Damaged $offer_at
 twice Damaged $close_at

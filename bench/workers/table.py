@@ -17,6 +17,8 @@ RUNS = 5
 DONE, SPENT = 0, 8
 
 folder, program = sys.argv[1:3]
+# How many other programs keep a core busy meanwhile.
+BUSY = int(sys.argv[3]) if len(sys.argv) > 3 else 0
 journal, certificate = (os.path.join(folder, name) for name in ("journal", "certificate"))
 
 
@@ -55,8 +57,17 @@ def row(name, model, budget, cuts):
     print(f"{name:26}{told}", flush=True)
 
 
-print(f"each line: of each number of workers the nodes a second, their ratio to those of one, and the cores in use; best of {RUNS}")
-for kind, columns, rows, seed, budget, cuts in MODELS:
-    if max(WORKERS) > (os.cpu_count() or 1):
-        sys.exit(f"this machine has fewer than {max(WORKERS)} cores")
-    row(f"{kind} {columns} x {rows}, {seed}, cuts {cuts}", make(kind, columns, rows, seed), budget, cuts)
+def table():
+    print(f"each line: of each number of workers the nodes a second, their ratio to those of one, and the cores in use; best of {RUNS}")
+    for kind, columns, rows, seed, budget, cuts in MODELS:
+        row(f"{kind} {columns} x {rows}, {seed}, cuts {cuts}", make(kind, columns, rows, seed), budget, cuts)
+
+
+if max(WORKERS) > (os.cpu_count() or 1):
+    sys.exit(f"this machine has fewer than {max(WORKERS)} cores")
+others = [subprocess.Popen([sys.executable, "-c", "while True: pass"]) for _ in range(BUSY)]
+try:
+    table()
+finally:
+    for other in others:
+        other.kill()

@@ -42,7 +42,7 @@ fn first_journal(alloc: Global) -> Result<Journal<MemDisk>>
     ensures stands { IfOk result (λ j. IsJournalOf (payloads_in (disk_now j.disk)) []) }
 {
     let mut journal = empty_journal(alloc)?;
-    match journal.append(alloc, MODEL) {
+    match journal.append(MODEL) {
         Ok(_) => Ok(journal),
         Err(_) => {
             let _disk = journal.into_disk();

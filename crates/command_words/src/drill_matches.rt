@@ -11,7 +11,7 @@ use clap::ArgMatches;
 use std::alloc::{AllocError, Global};
 
 // The largest seed.
-const MOST_SEED: u32 = 1_000_000_000;
+pub(crate) const MOST_SEED: u32 = 1_000_000_000;
 
 /// What the matches of `drill` ask for.
 ///

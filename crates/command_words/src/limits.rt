@@ -7,18 +7,20 @@ use crate::arguments::number_in;
 use crate::fault::WordsFault;
 use clap::ArgMatches;
 
-// The most nodes where the words don't say, and the largest number of them.
-const NODES: u32 = 1_000_000;
+/// The most nodes where the words don't say.
+const DEFAULT_NODES: u32 = 1_000_000;
 
-const MOST_NODES: u32 = 1_000_000_000;
+/// The largest number of nodes that may be asked for.
+pub(crate) const MOST_NODES: u32 = 1_000_000_000;
 
-// The most cuts: the largest number of them, and also that where the words don't say.
-const MOST_CUTS: u32 = 256;
+/// The largest number of cuts that may be asked for, and that where the words don't say.
+pub(crate) const MOST_CUTS: u32 = 256;
 
-// The workers where the words don't say, and the largest number of them.
-const WORKERS: u32 = 1;
+/// How many workers there are where the words don't say.
+const DEFAULT_WORKERS: u32 = 1;
 
-const MOST_WORKERS: u32 = 16;
+/// The largest number of workers that may be asked for.
+pub(crate) const MOST_WORKERS: u32 = 16;
 
 /// The limits of a search, and its workers.
 #[derive(Clone, Copy, Debug, PartialEq, Eq)]
@@ -43,8 +45,8 @@ pub(crate) fn limits_of(matches: &ArgMatches<'_>) -> Result<Limits, WordsFault>
     let cuts = number_in(matches, "cuts", 0, MOST_CUTS)?;
     let workers = number_in(matches, "workers", 1, MOST_WORKERS)?;
     Ok(Limits {
-        nodes: nodes.unwrap_or(NODES),
+        nodes: nodes.unwrap_or(DEFAULT_NODES),
         cuts: cuts.unwrap_or(MOST_CUTS),
-        workers: workers.unwrap_or(WORKERS),
+        workers: workers.unwrap_or(DEFAULT_WORKERS),
     })
 }

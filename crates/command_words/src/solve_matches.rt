@@ -11,7 +11,7 @@ use clap::ArgMatches;
 use std::alloc::{AllocError, Global};
 
 // The largest bound.
-const MOST_UPPER: u32 = 1_000_000_000;
+pub(crate) const MOST_UPPER: u32 = 1_000_000_000;
 
 // Whether no two of the paths are the same.
 fn are_different(model: &str, journal: &str, cert: &str) -> bool

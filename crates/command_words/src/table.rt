@@ -7,7 +7,10 @@ ghost use Rattle.command_words.specs.Table.{drill_command, resume_command, show_
 ghost use Rattle.command_words.specs.Table.{with_journal_cert, with_limits};
 ghost use Rattle.command_words.specs.Table.{path as path_rule, number as number_rule, seed as seed_rule};
 
+use crate::drill_matches::MOST_SEED;
 use crate::fault::WordsFault;
+use crate::limits::{MOST_CUTS, MOST_NODES, MOST_WORKERS};
+use crate::solve_matches::MOST_UPPER;
 use clap::builder::ValueParser;
 use clap::error::ErrorKind;
 use clap::{Arg, ArgMatches, Command};
@@ -28,7 +31,7 @@ fn seed<'a>(alloc: Global) -> Arg<'a>
 {
     Arg::new(alloc, "SEED")
         .required(true)
-        .value_parser(ValueParser::Unsigned(0, 1_000_000_000))
+        .value_parser(ValueParser::Unsigned(0, u64::from(MOST_SEED)))
 }
 
 // An option with one whole number in a range.
@@ -70,9 +73,9 @@ fn with_limits<'a>(alloc: Global, command: Command<'a>) -> Result<Command<'a>, A
     ensures app { IfOk result (λ c. app_of c ≡ with_limits (app_of command.entry)) }
     ensures local { IfOk result (λ c. (fields_of c).has_globals ≡ (fields_of command.entry).has_globals) }
 {
-    let command = with_arg(command, number(alloc, "nodes", 1, 1_000_000_000))?;
-    let command = with_arg(command, number(alloc, "cuts", 0, 256))?;
-    with_arg(command, number(alloc, "workers", 1, 16))
+    let command = with_arg(command, number(alloc, "nodes", 1, MOST_NODES))?;
+    let command = with_arg(command, number(alloc, "cuts", 0, MOST_CUTS))?;
+    with_arg(command, number(alloc, "workers", 1, MOST_WORKERS))
 }
 
 fn solve<'a>(alloc: Global) -> Result<Command<'a>, AllocError>
@@ -82,7 +85,7 @@ fn solve<'a>(alloc: Global) -> Result<Command<'a>, AllocError>
     let command = with_arg(Command::new(alloc, "solve"), path(alloc, "MODEL"))?;
     let command = with_journal_cert(alloc, command)?;
     let command = with_limits(alloc, command)?;
-    with_arg(command, number(alloc, "upper", 0, 1_000_000_000))
+    with_arg(command, number(alloc, "upper", 0, MOST_UPPER))
 }
 
 fn resume<'a>(alloc: Global) -> Result<Command<'a>, AllocError>

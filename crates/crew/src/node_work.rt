@@ -2,6 +2,7 @@
 ghost use Rattle.std.specs.Prelude.{◌≡◌, true, false, IfOk, OnOk};
 ghost use Rattle.worker_gate.specs.Conditions.{HoldsNode, IsFound};
 ghost use Rattle.worker_gate.specs.Entries.{is_opened, state_in};
+ghost use Rattle.core_search.specs.Deciding.{IsLastLook};
 ghost use Rattle.crew.specs.Lists.{IsHolding, Worked, IsOver};
 ghost use Rattle.crew.specs.Steps.{Leaves, step_of};
 ghost use Rattle.crew.specs.Workers.{IsViewOf, IsNodeOf, Knows};
@@ -21,7 +22,7 @@ pub enum Step {
     Ended,
     /// Cuts were made, or there was no room for them: the worker holds the node still.
     Separated,
-    /// There was no memory, or the pool took an event no more: the worker holds the node still.
+    /// There was no memory, or the pool takes no more events: the worker holds the node still.
     Refused,
 }
 
@@ -78,12 +79,14 @@ pub(crate) fn find<R: Wait, G: PoolGate>(
     ensures stays { G.home gate.new ≡ G.home gate.old }
     ensures holding { IsHolding (G.worker gate.old) node (G.seen gate.old) (G.seen gate.new) }
     ensures found { IfOk result (λ f. IsFound node f (G.seen gate.new)) }
+    ensures last { IfOk result (λ f. IsLastLook limit f) }
     ensures knows { OnOk result (Knows problem.now worker.new (state_in (G.seen gate.new))) }
 {
     let view = view(rt, alloc, gate, problem, worker, node)?;
     let room = (limit as usize).saturating_sub(worker.book.len());
     let finding = worker.look(alloc, problem, &view, room)?;
-    worker.splits.note(node, &finding)?;
+    // Without memory only a hint for later columns is lost.
+    let _ = worker.splits.note(node, &finding);
     Ok(finding)
 }
 
@@ -111,6 +114,7 @@ fn commit<R: Wait, G: PoolGate>(
     ensures same { G.worker gate.new ≡ G.worker gate.old }
     ensures stays { G.home gate.new ≡ G.home gate.old }
     ensures leaves { Leaves (G.worker gate.old) node (G.seen gate.old) (G.seen gate.new) result }
+    ensures step { result ≡ Step.Separated → step_of finding ≡ Step.Separated }
 {
     let step = step_of(&finding);
     match gate.commit(rt, alloc, node, finding) {
@@ -136,6 +140,7 @@ fn settle_once<R: Wait, G: PoolGate>(
     ensures stays { G.home gate.new ≡ G.home gate.old }
     ensures leaves { Leaves (G.worker gate.old) node (G.seen gate.old) (G.seen gate.new) result }
     ensures knows { (result ≡ Step.Refused → ⊥) → Knows problem.now worker.new (state_in (G.seen gate.new)) }
+    ensures last { limit ≡ 0 → result ≡ Step.Separated → ⊥ }
 {
     match find(rt, alloc, gate, problem, worker, node, limit) {
         Ok(finding) => commit(rt, alloc, gate, node, finding),
@@ -160,6 +165,7 @@ fn settle<R: Wait, G: PoolGate>(
     ensures stays { G.home gate.new ≡ G.home gate.old }
     ensures leaves { Leaves (G.worker gate.old) node (G.seen gate.old) (G.seen gate.new) result }
     ensures knows { (result ≡ Step.Refused → ⊥) → Knows problem.now worker.new (state_in (G.seen gate.new)) }
+    ensures ended { result ≡ Step.Separated → ⊥ }
 {
     match settle_once(rt, alloc, gate, problem, worker, node, limit) {
         Step::Separated => settle_once(rt, alloc, gate, problem, worker, node, 0),
@@ -202,7 +208,8 @@ pub(crate) fn work_on<R: Wait, G: PoolGate>(
 {
     match settle(rt, alloc, gate, problem, worker, node, limit) {
         Step::Ended => true,
-        Step::Separated | Step::Refused => {
+        Step::Separated => unreachable!(),
+        Step::Refused => {
             give_up(rt, gate, node);
             false
         }

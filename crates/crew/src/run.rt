@@ -92,8 +92,8 @@ fn search_on<D: Disk + Send, R: Threads + Wait + Sync, H: Hold + Sync>(
     }
 }
 
-/// Searches on by several workers, each in a thread of its own, with at most `settings.cuts` cuts, or with those that are there already. The pool's
-/// budget says how many nodes the tree may have.
+/// Searches on by several workers, each in a thread of its own where one can be made, with at most `settings.cuts` cuts, or with those that are there
+/// already. The pool's budget says how many nodes the tree may have.
 ///
 /// What is found of a node, and how it is settled, is as in `core_search::search`; which node a worker gets, and in which order the workers come,
 /// is left open. Right before each claim a worker asks `hold`. However the search ends, nobody holds a node then.
@@ -105,7 +105,6 @@ pub fn run_crew<D: Disk + Send, R: Threads + Wait + Sync, H: Hold + Sync>(
     hold: &H,
 ) -> (Ending, Pool<D>)
     requires some_workers { 1 ≤ settings.now.workers }
-    requires few_workers { settings.now.workers ≤ 16 }
     requires few_cuts { settings.now.cuts ≤ 256 }
     requires unheld { pool.state.state.holds ≡ [] }
     requires sound { pool.halt ≡ None }

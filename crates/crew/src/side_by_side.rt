@@ -1,4 +1,4 @@
-//! Workers at gates of any kind, each in a thread of its own.
+//! Workers at gates of any kind, each in a thread of its own where one can be made.
 ghost use Rattle.std.specs.Prelude.{◌≡◌, ◌<◌, length};
 ghost use Rattle.crew.specs.Gates.{worker_at, IsReady, EachAt, EachChange};
 ghost use Rattle.crew.specs.Lists.{Worked, IsOver};
@@ -33,7 +33,7 @@ fn work_at<G: PoolGate, R: Wait, H: Hold>(
     work(rt, alloc, number, gate, problem, settings, hold)
 }
 
-/// Each worker works at its gate, in a thread of its own. The gate of the worker of greatest number comes first, and that of worker 0 last.
+/// Each worker works at its gate, in a thread of its own where one can be made, else one after another. The gate of the worker of greatest number comes first, and that of worker 0 last.
 pub(crate) fn work_each<G: PoolGate + Send, R: Threads + Wait + Sync, H: Hold + Sync>(
     rt: &R,
     alloc: Global,

@@ -1,8 +1,8 @@
 //! The optimal values of the nodes that a worker split.
 ghost use Rattle.std.specs.Prelude.{◌≡◌, Some, OnOk};
 ghost use Rattle.std.specs.Ordering.{nat_cmp};
-ghost use Rattle.std.specs.BTreeMap.{get};
-ghost use Rattle.crew.specs.Origins.{side_of, origin_in};
+ghost use Rattle.std.specs.BTreeMap.{Updates};
+ghost use Rattle.crew.specs.Origins.{side_of, origin_in, Notes};
 
 use expand::{Finding, Origin};
 use fraction::Frac;
@@ -37,7 +37,7 @@ impl SplitValues {
 
     /// Notes the optimal value of a node. The one error is want of memory.
     fn put(&mut self, node: u32, value: Frac) -> Result<(), AllocError>
-        ensures { OnOk result (get nat_cmp self.new.values node ≡ Some value) }
+        ensures { OnOk result (Updates nat_cmp self.old.values self.new.values node (Some value)) }
     {
         match self.values.insert(node, value) {
             Ok(_) => Ok(()),
@@ -47,7 +47,9 @@ impl SplitValues {
 
     /// Notes the optimal value of a node, where what is found of it is a fractional optimum, so that it may be split there. The one error is want of
     /// memory.
-    pub(crate) fn note(&mut self, node: u32, finding: &Finding) -> Result<(), AllocError> {
+    pub(crate) fn note(&mut self, node: u32, finding: &Finding) -> Result<(), AllocError>
+        ensures { OnOk result (Notes self.old self.new node finding.now) }
+    {
         match finding {
             Finding::Solved {
                 value,

@@ -121,7 +121,7 @@ fn join_gates<D: Disk>(
     pass
 }
 
-/// Each worker works at its gate, in a thread of its own.
+/// Each worker works at its gate, in a thread of its own where one can be made.
 fn work_all<D: Disk + Send, R: Threads + Wait + Sync, H: Hold + Sync>(
     rt: &R,
     alloc: Global,

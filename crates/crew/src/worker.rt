@@ -3,6 +3,7 @@ ghost use Rattle.std.specs.Prelude.{◌≡◌, ◌≤◌, ◌+◌, ◌++◌, ◌
 ghost use Rattle.derivation_book.specs.Cuts.{AreCutsAfter};
 ghost use Rattle.dual_simplex.specs.Prepared.{IsRelaxationOf};
 ghost use Rattle.expand.specs.Findings.{Holds};
+ghost use Rattle.core_search.specs.Deciding.{IsLastLook};
 ghost use Rattle.crew.specs.Workers.{IsPrepared, IsNodeOf};
 
 use crate::cuts::add_cuts;
@@ -87,6 +88,7 @@ impl Worker {
         requires few { length self.old.book.cuts ≤ 256 }
         requires node { IsNodeOf problem.now node.now }
         ensures holds { IfOk result (λ f. Holds problem.now self.old.book.cuts node.now.area node.now.cutoff f) }
+        ensures last { IfOk result (λ f. IsLastLook room f) }
         ensures prepared { IsPrepared problem.now self.new }
         ensures book { self.new.book ≡ self.old.book }
     {

@@ -1,6 +1,6 @@
 -- Sums over one common denominator: the fractions that they stand for, and that no step on the way to them is cramped.
 use Rattle.std.specs.Prelude.{ℤ, pos, negsuc, ◌+ℤ◌, ◌*ℤ◌, ◌≤ℤ◌, ◌<ℤ◌, nat_abs, nat_lt, if◌then◌else◌, option_map, slice_get, ◌⊎◌}
-use Rattle.std.proofs.Common.{◌≡◌, ℕ, ◌+◌, ◌*◌, ◌/◌, ◌%◌, ◌^◌, ◌<◌, ◌≤◌, arith, refl, ap, sym, ◌∙◌, Bool, true, false, Some, List, [], ◌∷◌, ◌++◌, length, get_or, take, drop, inl, inr}
+use Rattle.std.proofs.Common.{◌≡◌, ℕ, ◌+◌, ◌*◌, ◌^◌, ◌<◌, ◌≤◌, arith, refl, ap, sym, ◌∙◌, Bool, true, false, Some, List, [], ◌∷◌, ◌++◌, length, get_or, take, drop, inl, inr}
 use Rattle.std.specs.Option.{option_and_then}
 use Rattle.std.specs.declared.cmp.Ordering.{Ordering}
 use Rattle.std.specs.declared.cmp.Ordering.TheVariants.{Less, Equal, Greater}
@@ -36,10 +36,8 @@ whole_multiple : (n z : ℤ) (k e d : ℕ) → z ≡ n *ℤ pos k → k * e ≡ 
 whole_multiple n z k e d p q = rw (p, ← q) (rw (is_diff n) (simp (diff-pos, diff-mul) (diff-same _ _ _ _ (omega arith))))
 
 -- a number over a multiple of its own denominator
-pub number_over : (q : ℚ) (z : ℤ) (d : ℕ) → 0 < d → d % q.den ≡ 0 → z ≡ q.num *ℤ pos (d / q.den) → frac z d ≡ q
-number_over q z d o r e =
-    let p = q.lowest.0 in
-    frac_same z q.num d q.den o p (whole_multiple q.num z (d / q.den) q.den d e (let f : d / q.den * q.den ≡ d = omega arith in f)) ∙ sym (ℚ_is q)
+pub number_over : (q : ℚ) (z : ℤ) (d k : ℕ) → 0 < d → k * q.den ≡ d → z ≡ q.num *ℤ pos k → frac z d ≡ q
+number_over q z d k o r e = frac_same z q.num d q.den o q.lowest.0 (whole_multiple q.num z k q.den d e r) ∙ sym (ℚ_is q)
 
 pub numbers_more : (d : ℕ) (zs ys : List ℤ) (x : RationalPoint) (i : ℕ) (z : ℤ) (q : ℚ) → ys ≡ zs ++ z ∷ [] → slice_get x i ≡ Some q → i < length x → frac z d ≡ q
     → point_over d zs ≡ take i x → point_over d ys ≡ take (i + 1) x

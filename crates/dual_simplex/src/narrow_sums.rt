@@ -9,8 +9,8 @@ use crate::scaled_point::{MOST_TERMS, product};
 use problem::Term;
 use std::alloc::{AllocError, Global};
 
-/// The greatest size of a coefficient, as in the sums over wider numerators.
-const MOST: i128 = 1 << 40;
+/// The greatest size of a coefficient.
+const MOST: i64 = 1 << 40;
 
 /// The numerators in 64 bits; none where one of them doesn't fit. The one error is want of memory.
 pub(crate) fn narrow_numerators(
@@ -31,15 +31,14 @@ pub(crate) fn narrow_numerators(
 
 /// The coefficient of a term, where it is whole and its size is at most 2^40.
 #[inline(always)]
-fn small_coefficient(term: &Term) -> Option<i128>
+pub(crate) fn small_coefficient(term: &Term) -> Option<i128>
     ensures value { IfSome result (λ z. z ≡ term.now.1.num) }
     ensures integer { IfSome result (λ _. IsIntegerTo (2 ^ 40) term.now.1) }
 {
-    let coefficient = term.narrow()?.wide();
-    let number = coefficient.numer();
+    let number = term.integer()?;
     // Both sides are compared, since that takes less time than the size.
-    if coefficient.is_whole() && -MOST <= number && number <= MOST {
-        Some(number)
+    if -MOST <= number && number <= MOST {
+        Some(i128::from(number))
     } else {
         None
     }
@@ -73,6 +72,8 @@ fn with_term(numerators: &[i64], total: i128, term: &Term) -> Option<i128>
 
 /// The numerator of the sum of coefficient times number, where the columns of the terms rise; none where there are more than 1,000 terms, or a
 /// coefficient isn't whole, or its size is above 2^40.
+// Inlined, the loop would keep the numerators' place in memory, since its callers leave it too few registers.
+#[inline(never)]
 pub(crate) fn numerator_of_sum(numerators: &[i64], terms: &[Term]) -> Option<i128>
     requires numerators { AreNumerators numerators.now }
     requires rising { AreRising terms.now }

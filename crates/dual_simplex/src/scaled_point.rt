@@ -8,7 +8,7 @@ ghost use Rattle.dual_simplex.specs.PointSums.{checked_sum};
 ghost use Rattle.dual_simplex.specs.Sizes.{IsIntegerTo};
 ghost use Rattle.dual_simplex.specs.Scaled.{point_over, numerator_at, IsDenominator, AreNumerators, IsSumOver};
 
-use crate::narrow_sums::{self, narrow_numerators};
+use crate::narrow_sums::{self, narrow_numerators, small_coefficient};
 use fraction::Frac;
 use node_events::RationalPoint;
 use problem::Term;
@@ -18,9 +18,6 @@ use std::marker::Model;
 
 /// The greatest size of a denominator and of a numerator.
 const MOST: u128 = 1 << 76;
-
-/// The greatest size of a coefficient.
-const MOST_COEFFICIENT: u128 = 1 << 40;
 
 /// The greatest size of a right side.
 const MOST_SIDE: u128 = 1 << 50;
@@ -63,7 +60,8 @@ fn with_denominator(common: u128, other: u128) -> Option<u128>
     requires small { other < 2 ^ 127 }
     ensures { IfSome result IsDenominator }
 {
-    if common % other == 0 {
+    // Most numbers of a vertex are whole.
+    if other == 1 || common % other == 0 {
         return Some(common);
     }
     let factor = Frac::make(common as i128, other as i128).denom();
@@ -111,17 +109,30 @@ fn small_multiple(number: i128, factor: u128) -> Option<i128>
     }
 }
 
+/// By what the other denominator has to be multiplied to give the first; none where there is no such number.
+fn factor_to(denominator: u128, other: u128) -> Option<u128>
+    requires positive { 0 < other }
+    ensures factor { IfSome result (λ f. f * other ≡ denominator) }
+    ensures small { IfSome result (λ f. f ≤ denominator) }
+{
+    // A division takes ten times as long as the test.
+    if other == 1 {
+        return Some(denominator);
+    }
+    if denominator % other != 0 {
+        return None;
+    }
+    Some(denominator / other)
+}
+
 /// The numerator of a number over a denominator; none where it isn't whole, or its size is above 2^76.
 fn numerator_over(number: Frac, denominator: u128) -> Option<i128>
     requires { IsDenominator denominator }
     ensures value { IfSome result (λ z. frac z denominator ≡ number) }
     ensures small { IfSome result (λ z. nat_abs z ≤ 2 ^ 76) }
 {
-    let part = number.denom();
-    if denominator % part != 0 {
-        return None;
-    }
-    small_multiple(number.numer(), denominator / part)
+    let factor = factor_to(denominator, number.denom())?;
+    small_multiple(number.numer(), factor)
 }
 
 /// The numerators of a point's numbers over a denominator; none where one of them isn't whole, or its size is above 2^76. The one error is want of
@@ -195,12 +206,13 @@ fn with_term(numerators: &[i128], total: i128, term: &Term) -> Option<i128>
     ensures small { IfSome result (λ t. nat_abs t ≤ nat_abs total + 2 ^ 116) }
     ensures integer { IfSome result (λ _. IsIntegerTo (2 ^ 40) term.now.1) }
 {
-    let coefficient = integer_to(term.coefficient(), MOST_COEFFICIENT)?;
+    let coefficient = small_coefficient(term)?;
     Some(total + product(coefficient, numerator_in(numerators, term.column())))
 }
 
 /// The numerator of the sum of coefficient times number, where the columns of the terms rise; none where there are more than 1,000 terms, or a
 /// coefficient isn't whole, or its size is above 2^40.
+#[inline(never)]
 fn numerator_of_sum(numerators: &[i128], terms: &[Term]) -> Option<i128>
     requires numerators { AreNumerators numerators.now }
     requires rising { AreRising terms.now }

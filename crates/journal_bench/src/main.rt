@@ -47,12 +47,11 @@ fn scanned<R: Files<File = File>>(
 
 fn add<R: Files<File = File>>(
     journal: &mut Journal<FileDisk<'_, R>>,
-    alloc: Global,
     payload: &[u8],
 ) -> io::Result<()>
     requires { length payload.now < 2 ^ 32 }
 {
-    match journal.append(alloc, payload) {
+    match journal.append(payload) {
         Ok(_) => Ok(()),
         Err(_) => Err(Error::new(ErrorKind::Other, "a payload was not added")),
     }
@@ -67,7 +66,7 @@ fn add_lines<R: Files<File = File> + Input>(
     for line in rt.lines(alloc) {
         let line = line?;
         if line.len() < 1000 {
-            add(journal, alloc, line.as_bytes())?;
+            add(journal, line.as_bytes())?;
         }
     }
     Ok(())
@@ -110,7 +109,7 @@ fn repeat<R: Files<File = File>>(
     requires { length payload.now < 2 ^ 32 }
 {
     for _ in 0..count {
-        add(journal, alloc, payload)?;
+        add(journal, payload)?;
     }
     Ok(())
 }

@@ -11,7 +11,6 @@ use crate::recovery::recover_disk;
 use crate::write_payload::write_payload;
 use crate::{AppendFault, Scanned};
 use outside::Disk;
-use std::alloc::Global;
 
 /// A journal: a list of payloads on a disk, to which more can be added. A crash at any moment leaves a disk that has
 /// each payload that was acknowledged. The payloads themselves stand on the disk alone.
@@ -75,9 +74,9 @@ impl<D: Disk> Journal<D> {
         }
     }
 
-    /// Adds a payload, and answers its number. At `Ok` it is acknowledged: from then on each crash leaves a disk that
-    /// has it. After `Disk` the journal is failed: it answers `Disk` from then on, and keeps the count that rose.
-    pub fn append(&mut self, _alloc: Global, payload: &[u8]) -> Result<u64, AppendFault>
+    /// Adds a payload of fewer than 2^32 bytes, and answers its number, from 0. At `Ok` it is acknowledged: from then on each crash leaves a disk that
+    /// has it. After `Memory` all is as before. After `Disk` the journal is failed: it answers `Disk` from then on, and keeps the count that rose.
+    pub fn append(&mut self, payload: &[u8]) -> Result<u64, AppendFault>
         requires small { length payload.now < 2 ^ 32 }
         ensures number { IfOk result (λ n. n ≡ self.old.count) }
         ensures count { OnOk result (self.new.count ≡ self.old.count + 1) }

@@ -19,8 +19,8 @@ fn run(alloc: Global, stop: u64) -> Result<(usize, MemDisk), AllocError> {
     match Journal::recover(disk, scanned) {
         Ok(recovered) => {
             let mut journal = recovered;
-            let first = journal.append(alloc, b"one").is_ok();
-            let second = journal.append(alloc, b"three").is_ok();
+            let first = journal.append(b"one").is_ok();
+            let second = journal.append(b"three").is_ok();
             Ok((first as usize + second as usize, journal.into_disk()))
         }
         Err(disk) => Ok((0, disk)),

@@ -28,7 +28,7 @@ pub struct Receipt {
 pub enum CommitFault {
     /// The disk failed, and counted it. The pool is halted.
     Disk,
-    /// There was no memory for the event. All is as before.
+    /// There was no memory for the event. It is not made, and the pool isn't halted by it.
     Memory,
     /// The two children of the node that was to be split would pass the budget. The pool is halted.
     Budget,

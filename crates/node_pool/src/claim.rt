@@ -23,7 +23,8 @@ impl<D: Disk> Pool<D> {
         self.state.reserve(alloc, &Event::Claim { node: 0 })
     }
 
-    /// Gives the worker the greatest of the open nodes that nobody holds. It takes no memory.
+    /// Gives the worker, who holds no node, the greatest of the open nodes that nobody holds, or says why it gets none. `ready` was called before, so
+    /// this takes no memory.
     pub fn claim(&mut self, worker: u32) -> Claim
         requires ready { IsReadyToClaim self.old.state }
         requires idle { is_busy self.old.state.state (Some worker) ≡ false }

@@ -61,13 +61,7 @@ impl<D: Disk> Pool<D> {
     }
 
     /// Adds an event for which all is ready to the journal, and then to the state.
-    fn add(
-        &mut self,
-        alloc: Global,
-        worker: u32,
-        event: Event,
-        payload: &[u8],
-    ) -> Result<Receipt, CommitFault>
+    fn add(&mut self, worker: u32, event: Event, payload: &[u8]) -> Result<Receipt, CommitFault>
         requires sound { self.old.halt ≡ None }
         requires admitted { judged self.old.state.state (Some worker) event ≡ Yes }
         requires journaled { is_journaled event ≡ true }
@@ -99,7 +93,7 @@ impl<D: Disk> Pool<D> {
         let tree = state.tree();
         tree.conditions_hold();
         let number = tree.len() as u32;
-        match self.journal.append(alloc, payload) {
+        match self.journal.append(payload) {
             Ok(first) => {
                 add_children(&mut self.free, &event, number);
                 self.state.apply(Some(worker), event);
@@ -154,7 +148,7 @@ impl<D: Disk> Pool<D> {
             return Err(CommitFault::Budget);
         }
         match self.prepare(alloc, &event) {
-            Ok(payload) => self.add(alloc, worker, event, &payload),
+            Ok(payload) => self.add(worker, event, &payload),
             Err(_) => Err(CommitFault::Memory),
         }
     }

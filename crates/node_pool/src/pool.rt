@@ -21,12 +21,12 @@ use std::alloc::Global;
 pub struct Pool<D: Disk> {
     pub(crate) state: State,
     pub(crate) journal: Journal<D>,
-    // The open nodes that nobody holds, by rising number: the last one is claimed next.
+    /// The open nodes that nobody holds, by rising number: the last one is claimed next.
     pub(crate) free: Vec<u32>,
-    // How many nodes the tree may have.
+    /// How many nodes the tree may have.
     pub(crate) budget: u32,
     pub(crate) halt: Option<Halt>,
-    // The disk's count of faults when the pool was made.
+    /// The disk's count of faults when the pool was made.
     pub(crate) faults: u64,
     ghost listed: { AreFreeNodes state.state free.items },
     // A release takes no memory.

@@ -1,7 +1,7 @@
 //! A column with its coefficient.
 
 ghost use Rattle.std.specs.Prelude.{◌≡◌, IfOk};
-ghost use Rattle.fraction.specs.Narrow.{narrow};
+ghost use Rattle.fraction.specs.Narrow.{narrow_integer};
 
 use fraction::{Frac, NarrowFrac};
 use std::alloc::{AllocError, Global};
@@ -40,9 +40,11 @@ impl Model for Term {
 
     ghost coded = { coded× coded_ℕ code_ℚ };
 
-    ghost use Rattle.problem.specs.Forms.{pair_of};
+    ghost use Rattle.problem.specs.Forms.{pair_of, IsNarrowWhereItFits};
 
     ghost view = { λ t. pair_of t.form };
+
+    ghost invariant = { λ t. IsNarrowWhereItFits t.form };
 }
 
 impl Term {
@@ -108,14 +110,14 @@ impl Term {
         }
     }
 
-    /// The coefficient in 64 bits, where it fits.
+    /// The coefficient, where it is a whole number and its size is below 2^63.
     #[inline(always)]
-    pub fn narrow(&self) -> Option<NarrowFrac>
-        ensures { result ≡ narrow self.now.1 }
+    pub fn integer(&self) -> Option<i64>
+        ensures { result ≡ narrow_integer self.now.1 }
     {
         match &self.form {
-            Form::Narrow { coefficient, .. } => coefficient.wide().narrow(),
-            Form::Wide { coefficient, .. } => coefficient.narrow(),
+            Form::Narrow { coefficient, .. } => coefficient.integer(),
+            Form::Wide { .. } => None,
         }
     }
 

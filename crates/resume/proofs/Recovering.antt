@@ -95,3 +95,12 @@ ok_part (Err e) f y P same h = tt
 pub err_part : {T E A : Type 0} (r : Result T E) (f : E → A) (y : A) (P : A → Type 0) → IfErr r (λ e. f e ≡ y) → P y → IfErr r (λ e. P (f e))
 err_part (Ok x) f y P same h = tt
 err_part (Err e) f y P same h = subst P (sym same) h
+
+-- what holds of each value holds of the one in an `Err`
+pub if_err_all : {T E : Type 0} (r : Result T E) (P : E → Type 0) → ((e : E) → P e) → IfErr r P
+if_err_all (Ok x) P f = tt
+if_err_all (Err e) P f = f e
+
+pub none_held : (ps : List (List ℕ)) → length ps ≡ 0 → ps ≡ []
+none_held [] e = refl
+none_held (p ∷ ps) e = cc

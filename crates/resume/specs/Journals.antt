@@ -25,6 +25,10 @@ IsReadFrom c = (ps : List (List ℕ)) × StandsFor c.state.problem ps c.history
 abbrev pub StandsOnDisk : Problem → List ℕ → Type 0
 StandsOnDisk p c = (ps : List (List ℕ)) × (es : List Entry) × (records c ≡ Holds ps) × StandsFor p ps es
 
+-- they stand for some problem
+abbrev pub StandsForSome : List ℕ → Type 0
+StandsForSome c = (p : Problem) × StandsOnDisk p c
+
 -- The bytes are a journal without a payload, or one that stands for the problem and events of its search, each of them legal after those before it.
 abbrev pub IsFreshOrStands : Problem → List ℕ → Type 0
 IsFreshOrStands p c = (records c ≡ Holds []) ⊎ StandsOnDisk p c

@@ -14,7 +14,7 @@ ghost use Rattle.node_pool.specs.Payloads.{codes, IsJournalOf};
 ghost use Rattle.node_pool.specs.Stored.{IsStored};
 ghost use Rattle.resume.specs.Models.{IsTextOf};
 ghost use Rattle.resume.specs.Events.{node_limit};
-ghost use Rattle.resume.specs.Journals.{StandsFor, IsReadFrom, IsReplayed};
+ghost use Rattle.resume.specs.Journals.{StandsFor, StandsForSome, IsFreshOrOf, IsReadFrom, IsReplayed};
 ghost use Rattle.resume.specs.Refusals.{Refuses, RefusesPayloads, RefusesPayloadsFor, is_disk, is_refusal};
 ghost use Rattle.resume.specs.Crashes.{IsAsBefore, IsAsBeforeOrBegun, LeavesHistory};
 
@@ -91,7 +91,6 @@ fn continue_journal<D: Disk>(
 
 /// Makes an empty disk the journal of the record of a model.
 fn begin_journal<D: Disk>(
-    alloc: Global,
     disk: D,
     scanned: Scanned,
     model: &[u8],
@@ -119,7 +118,7 @@ fn begin_journal<D: Disk>(
         Err(disk) => return Err((ResumeFault::Disk, disk)),
     };
     journal.history_holds();
-    let appended = journal.append(alloc, model);
+    let appended = journal.append(model);
     journal.history_holds();
     match appended {
         Ok(_) => Ok(journal),
@@ -160,7 +159,7 @@ fn begin_search<D: Disk>(
     let Ok(state) = State::new(alloc, problem) else {
         return Err((ResumeFault::Memory, disk));
     };
-    match begin_journal(alloc, disk, scanned, model) {
+    match begin_journal(disk, scanned, model) {
         Ok(journal) => make_pool(alloc, state, journal, budget),
         Err(refused) => Err(refused),
     }
@@ -190,6 +189,8 @@ pub fn open_any<B: BuildHasher + Drop, D: Disk>(
     ensures refused { D.tells ≡ true → IfErr result (λ e. Refuses RefusesPayloads e.0 (records (D.now disk).seen)) }
     // A refusal leaves the disk as it is.
     ensures untouched { IfErr result (λ e. is_refusal e.0 ≡ true → NoMomentPasses (D.past disk) (D.now disk) (D.past e.1) (D.now e.1)) }
+    // Nothing is written, unless the disk held a journal.
+    ensures spared { D.tells ≡ true → IfErr result (λ e. NoMomentPasses (D.past disk) (D.now disk) (D.past e.1) (D.now e.1) ⊎ StandsForSome (D.now disk).seen) }
     // Where the disk was at rest, a crash at any moment of the call leaves the payloads that were there.
     ensures any_moment { D.tells ≡ true → AtRest (D.now disk) → IfOk result (λ p. LeavesOnly (D.past disk) (D.now disk) (D.past p.journal.disk) (D.now p.journal.disk) (IsAsBefore (records (D.now disk).seen))) }
     ensures any_moment_err { D.tells ≡ true → AtRest (D.now disk) → IfErr result (λ e. LeavesOnly (D.past disk) (D.now disk) (D.past e.1) (D.now e.1) (IsAsBefore (records (D.now disk).seen))) }
@@ -245,6 +246,8 @@ pub fn open_pool<B: BuildHasher + Drop, D: Disk>(
     ensures refused { D.tells ≡ true → IfErr result (λ e. Refuses (RefusesPayloadsFor (model_code text.now upper)) e.0 (records (D.now disk).seen)) }
     // A refusal leaves the disk as it is.
     ensures untouched { IfErr result (λ e. is_refusal e.0 ≡ true → NoMomentPasses (D.past disk) (D.now disk) (D.past e.1) (D.now e.1)) }
+    // Nothing is written, unless the disk was empty, or held a journal of this model.
+    ensures spared { D.tells ≡ true → IfErr result (λ e. NoMomentPasses (D.past disk) (D.now disk) (D.past e.1) (D.now e.1) ⊎ IsFreshOrOf (model_code text.now upper) problem (D.now disk).seen) }
     // Where the disk was at rest, a crash at any moment of the call leaves the payloads that were there, or on an empty disk the model's record.
     ensures any_moment { D.tells ≡ true → AtRest (D.now disk) → IfOk result (λ p. LeavesOnly (D.past disk) (D.now disk) (D.past p.journal.disk) (D.now p.journal.disk) (IsAsBeforeOrBegun (records (D.now disk).seen) (model_code text.now upper))) }
     ensures any_moment_err { D.tells ≡ true → AtRest (D.now disk) → IfErr result (λ e. LeavesOnly (D.past disk) (D.now disk) (D.past e.1) (D.now e.1) (IsAsBeforeOrBegun (records (D.now disk).seen) (model_code text.now upper))) }

@@ -1,6 +1,6 @@
 -- What came of a command that opens a journal and searches on from there, and what it keeps of that journal.
 use Rattle.std.specs.Prelude.{◌≡◌, ℕ, Bool, true, false, List, Some, None, Result, Err}
-use Rattle.std.proofs.Common.{sym, subst}
+use Rattle.std.proofs.Common.{sym, ◌∙◌, subst}
 use Rattle.problem.specs.Problem.{Problem}
 use Rattle.outside.specs.Faults.{Counts}
 use Rattle.outside.specs.Images.{IsImage, AtRest}
@@ -16,9 +16,9 @@ use Rattle.solve_top.specs.declared.outcome.Answer.{Answer}
 use Rattle.solve_top.specs.declared.outcome.Refusal.{Refusal}
 use Rattle.solve_top.specs.declared.request.Request.{Request}
 use Rattle.solve_top.specs.Changes.{SourceChange, SinkChange, DiskChange, Stays, TakesNothing, disk_change}
-use Rattle.solve_top.specs.Models.{IsOwnProblem, RefusesJournal}
+use Rattle.solve_top.specs.Models.{BeganWith, HasRead, IsOwnProblem, RefusesJournal}
 use Rattle.solve_top.specs.Journals.{IsKept, IsKeptUnopened, IsOpened, IsUnopened, KeepsJournal}
-use Rattle.solve_top.specs.Searches.{Search}
+use Rattle.solve_top.specs.Searches.{Search, events_read}
 use Rattle.solve_top.specs.Steps.{IsPerformed, IsSolution, IsWithin, fails_by_disk}
 use Rattle.solve_top.proofs.Opened.{kept_unopened, kept_whole}
 use Rattle.solve_top.proofs.Owning.{IsAbout}
@@ -26,8 +26,9 @@ use Rattle.solve_top.proofs.Performing.{searched, unopened}
 
 -- It was opened. `a` is the disk before the call, `b` the one of the pool that was opened, and `e` the one at the end.
 module _ {D : Type 0} (tells : Bool) (past : D → List Moment) (now : D → Moment) (count : D → ℕ) (a b e : D) (q : Request) (m : SourceChange) (model : List ℕ) (p : Problem) (es : List Entry) (opened : ℕ)
-    (first : tells ≡ true → IsOpened model p es opened (disk_change tells past now count a b)) (same : count b ≡ count a) (there : tells ≡ true → IsImage (now e) (now e).seen) (about : IsAbout q m (disk_change tells past now count a e) p) (cert : SinkChange) (s : Search)
-    (o : Result Answer Refusal) (within : IsWithin q p s) (solution : IsSolution q s cert o) (cause : Counts (count b) (count e) (fails_by_disk o)) where
+    (first : tells ≡ true → IsOpened model p es opened (disk_change tells past now count a b)) (same : count b ≡ count a) (there : tells ≡ true → IsImage (now e) (now e).seen) (about : IsAbout q m (disk_change tells past now count a e) p model)
+    (began : BeganWith q m (disk_change tells past now count a e) p es) (ends : tells ≡ true → model_in (payloads_in (now e)) ≡ model_in (payloads_in (now b))) (cert : SinkChange) (s : Search)
+    (o : Result Answer Refusal) (within : IsWithin q p s) (read : events_read s.history ≡ es) (solution : IsSolution q s cert o) (cause : Counts (count b) (count e) (fails_by_disk o)) where
   abbrev d : DiskChange
   d = disk_change tells past now count a e
 
@@ -35,14 +36,15 @@ module _ {D : Type 0} (tells : Bool) (past : D → List Moment) (now : D → Mom
       → (tells ≡ true → IsModelOf (model_in (payloads_in (now b))) p → fails_by_disk o ≡ false → StandsFor p (payloads_in (now e)) (journaled s.history))
       → (Stays m.faults → IsPerformed q m d cert (Some s) o) × (tells ≡ true → AtRest (now a) → KeepsJournal d (IsOwnProblem q m d))
   went_on kept stands = (
-    λ stays. searched q m d cert p s o within about.of solution stays (subst (λ (n : ℕ). Counts n (count e) (fails_by_disk o)) same cause)
-        (λ other. about.holds s (λ told. subst (λ (x : Problem). StandsFor x (payloads_in (now e)) (journaled s.history)) (sym within.same) (stands told (first told).stands.model other))),
+    λ stays. searched q m d cert p s o within about.of es began read solution stays (subst (λ (n : ℕ). Counts n (count e) (fails_by_disk o)) same cause)
+        (λ other. about.holds s (λ told. subst (λ (x : Problem). StandsFor x (payloads_in (now e)) (journaled s.history)) (sym within.same) (stands told (first told).stands.model other))
+        (λ told. ends told ∙ (first told).of_model)),
     λ told rests. kept_whole tells past now count a b e model p es opened (first told) (kept told (first told).stands.model) (there told) rests (IsOwnProblem q m d) (about.only told) same,
   )
 
 -- It was not opened.
 pub came_to_nothing : (q : Request) (m : SourceChange) (d : DiskChange) (cert : SinkChange) (model : List ℕ) (P : ResumeFault → Type 0) → ((f : ResumeFault) → (d.tells ≡ true → P f) → RefusesJournal q m d f)
-    → ((o : Problem) → IsOwnProblem q m d o → IsModelOf model o) → (r : Refusal) → IsUnopened P d r → (d.tells ≡ true → AtRest d.now_before → IsKeptUnopened model d) → TakesNothing cert → Stays cert.faults
+    → HasRead q m → ((o : Problem) → IsOwnProblem q m d o → IsModelOf model o) → (r : Refusal) → IsUnopened P d r → (d.tells ≡ true → AtRest d.now_before → IsKeptUnopened model d) → TakesNothing cert → Stays cert.faults
     → (Stays m.faults → IsPerformed q m d cert None (Err r)) × (d.tells ≡ true → AtRest d.now_before → KeepsJournal d (IsOwnProblem q m d))
-came_to_nothing q m d cert model P refuses own r why kept nothing unwritten =
-    (λ stays. unopened q m d cert P refuses stays r why nothing unwritten, λ told rests. kept_unopened model d (IsOwnProblem q m d) (kept told rests) own)
+came_to_nothing q m d cert model P refuses read own r why kept nothing unwritten =
+    (λ stays. unopened q m d cert P refuses stays read r why nothing unwritten, λ told rests. kept_unopened model d (IsOwnProblem q m d) (kept told rests) own)

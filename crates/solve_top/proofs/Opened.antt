@@ -15,21 +15,21 @@ use Rattle.mps_reader.specs.Refusals.{IsModestUpper}
 use Rattle.event_codec.specs.Models.{model_code, IsUpper}
 use Rattle.event_core.specs.declared.entry.Entry.{Entry}
 use Rattle.node_journal.specs.Records.{Records, Holds, Foreign, BrokenAt, payloads_held, records}
-use Rattle.node_journal.specs.History.{BeginsWith, EachFrom, IsHistory, IsPrefixOf, KeepsHistory}
+use Rattle.node_journal.specs.History.{Anything, BeginsWith, EachFrom, IsHistory, IsPrefixOf, KeepsHistory}
 use Rattle.node_journal.specs.Lemmas.Histories.{continued, history_begins, remains_stands, run_each, some_stands}
 use Rattle.node_journal.specs.Whole.{payloads_in}
 use Rattle.node_pool.specs.Payloads.{model_in}
 use Rattle.resume.specs.Crashes.{IsAsBefore, IsAsBeforeOrBegun}
 use Rattle.resume.specs.Lemmas.Histories.{histories_joined, keeps_joined, last_moment}
 use Rattle.resume.specs.Models.{bound_of, IsTextOf, IsModelOf}
-use Rattle.resume.specs.Journals.{StandsFor, IsFreshOrStands}
+use Rattle.resume.specs.Journals.{StandsFor, StandsForSome, IsFreshOrOf, IsFreshOrStands}
 use Rattle.resume.specs.declared.fault.ResumeFault.{ResumeFault}
 use Rattle.resume.specs.declared.fault.ResumeFault.TheVariants as fault
 use Rattle.resume.specs.Refusals.{is_disk, is_refusal}
 use Rattle.solve_top.specs.Statuses.{refusal_of}
 use Rattle.solve_top.specs.Changes.{DiskChange, IsUntouched, Rises, disk_change}
 use Rattle.solve_top.specs.Journals.{IsKept, IsKeptUnopened, IsOpened, IsUnopened, KeepsJournal}
-use Rattle.solve_top.specs.Models.{record_of}
+use Rattle.solve_top.specs.Models.{IsFreshOrWith, StandsWith, record_of}
 
 -- ---- the record of a model
 same_bound : (upper : Option ℕ) → bound_of (option_map pos upper) ≡ upper
@@ -130,6 +130,7 @@ module _ {D : Type 0} (tells : Bool) (past : D → List Moment) (now : D → Mom
   -- whatever else is asked of the problem makes it this one
   pub kept_whole : (IsOwn : Problem → Type 0) → ((o : Problem) → IsOwn o → o ≡ p) → count b ≡ count a → KeepsJournal (disk_change tells past now count a e) IsOwn
   kept_whole IsOwn one same = record {
+    extends = λ i m at. then.extends i m (continued (past a) (now a) (past b) (now b) (IsAsBeforeOrBegun (records (now a).seen) model) (first.any_moment rests) i m at);
     history = λ ps held. history_whole;
     prefixes = λ ps held calm. prefixes_whole (unless_before same calm);
     stands = λ o own stands.
@@ -141,6 +142,7 @@ module _ {D : Type 0} (tells : Bool) (past : D → List Moment) (now : D → Mom
 -- ---- one that was not opened
 pub kept_unopened : (model : List ℕ) (d : DiskChange) (IsOwn : Problem → Type 0) → IsKeptUnopened model d → ((o : Problem) → IsOwn o → IsModelOf model o) → KeepsJournal d IsOwn
 kept_unopened model d IsOwn kept own = record {
+  extends = continued d.past_before d.now_before d.past_after d.now_after (IsAsBeforeOrBegun (records d.now_before.seen) model) kept.any_moment;
   history = kept.history;
   prefixes = kept.prefixes;
   stands = λ o is stands i m c ge at image.
@@ -157,6 +159,7 @@ module _ {D : Type 0} (tells : Bool) (past : D → List Moment) (now : D → Mom
 
   pub kept_untouched : (IsOwn : Problem → Type 0) → KeepsJournal (disk_change tells past now count a e) IsOwn
   kept_untouched IsOwn = record {
+    extends = continued (past a) (now a) (past e) (now e) Anything (leaves_seen Anything tt);
     history = λ ps held. history_begins (past a) (now a) (past e) (now e) ps (leaves_seen (λ c. records c ≡ Holds ps) held) (some_stands (past a) (now a) (past e) (now e) (λ c. records c ≡ Holds ps) none)
         (λ qs. remains_stands (past a) (now a) (past e) (now e) (λ c. BeginsWith qs (records c)) none);
     prefixes = λ ps held calm. run_each (past a) (now a) (past e) (now e) (λ c. IsPrefixOf (payloads_in (now e)) (records c))
@@ -183,6 +186,27 @@ record_is text items u upper a b = ap (λ (t : List ℕ). model_code t u) a ∙ 
 
 pub first_is : (ps rest : List (List ℕ)) (first model : List ℕ) → ps ≡ first ∷ rest → first ≡ model → model_in ps ≡ model
 first_is ps rest first model e same = ap model_in e ∙ same
+
+pub held_events : (model : List ℕ) (p : Problem) (es : List Entry) (b : List ℕ) (ps : List (List ℕ)) → (records b ≡ Holds ps) ⊎ ((records b ≡ Holds []) × (es ≡ [])) → model_in ps ≡ model
+    → StandsFor p ps es → IsFreshOrWith model p es b
+held_events model p es b ps (inl held) of_model stands = inr (ps, held, of_model, stands)
+held_events model p es b ps (inr fresh) of_model stands = inl fresh
+
+-- an empty disk held none
+pub none_held : (model : List ℕ) (p : Problem) (es : List Entry) (b : List ℕ) → b ≡ [] → IsFreshOrWith model p es b → es ≡ []
+none_held model p es b empty (inl fresh) = fresh.1
+none_held model p es b empty (inr held) =
+    let none : Holds [] ≡ Holds held.0 = ap records (sym empty) ∙ held.1 in
+    let bad : [] ≡ model_in held.0 ∷ held.3.rest = ap payloads_held none ∙ held.3.parts in
+    cc
+
+pub stands_some : (p : Problem) (es : List Entry) (b : List ℕ) → StandsWith p es b → StandsForSome b
+stands_some p es b stood = (p, (stood.0, es, stood.1, stood.2))
+
+-- what it held is fresh or of the model
+pub own_content : (model : List ℕ) (p : Problem) (es : List Entry) (b : List ℕ) → IsFreshOrWith model p es b → IsFreshOrOf model p b
+own_content model p es b (inl fresh) = inl fresh.0
+own_content model p es b (inr held) = inr (held.0, es, held.1, held.2, held.3)
 
 pub unopened_by : (P : ResumeFault → Type 0) (d : DiskChange) (f : ResumeFault) → (d.tells ≡ true → P f) → Counts d.faults.before d.faults.after (is_disk f) → (is_refusal f ≡ true → IsUntouched d)
     → IsUnopened P d (refusal_of f)

@@ -1,12 +1,14 @@
 -- What came of a command, by what came of its steps.
-use Rattle.std.specs.Prelude.{◌≡◌, ℕ, Bool, true, false, Option, Some, None, Result, Ok, Err, refl}
+use Rattle.std.specs.Prelude.{◌≡◌, ◌⊎◌, ℕ, Bool, true, false, List, [], Option, Some, None, Result, Ok, Err, refl}
 use Rattle.std.proofs.Common.{sym, ◌∙◌, ap, subst, inl}
 use Rattle.problem.specs.Problem.{Problem}
 use Rattle.outside.specs.Faults.{Counts}
 use Rattle.mps_reader.specs.Reading.{Reads}
 use Rattle.drill_instance.specs.Texts.{generated}
 use Rattle.command_words.specs.declared.limits.Limits.{Limits}
+use Rattle.event_core.specs.declared.entry.Entry.{Entry}
 use Rattle.node_journal.specs.Records.{records}
+use Rattle.resume.specs.Journals.{StandsForSome, IsFreshOrOf}
 use Rattle.resume.specs.Refusals.{Refuses, RefusesPayloads}
 use Rattle.resume.specs.declared.fault.ResumeFault.{ResumeFault}
 use Rattle.solve_top.specs.declared.outcome.Answer.{Answer}
@@ -17,17 +19,24 @@ use Rattle.solve_top.specs.declared.request.Request.{Request}
 use Rattle.solve_top.specs.declared.request.Request.TheVariants.{Solve, Resume, Show, Drill}
 use Rattle.solve_top.specs.Requests.{limits_in}
 use Rattle.solve_top.specs.Changes.{SourceChange, SinkChange, DiskChange, Stays, TakesNothing, IsUntouched}
-use Rattle.solve_top.specs.Models.{IsProblemOf, RefusesJournal}
+use Rattle.solve_top.specs.Models.{BeganWith, HasRead, IsProblemOf, RefusesJournal, record_of}
 use Rattle.solve_top.specs.Journals.{HoldsSearch, IsUnopened, LeavesAlone}
-use Rattle.solve_top.specs.Searches.{Search}
+use Rattle.solve_top.specs.Searches.{Search, events_read}
 use Rattle.solve_top.specs.Steps.{IsPerformed, IsReading, IsRefusedBy, IsRefusedDrill, IsShowingOf, IsSolution, IsWithin, fails_by_disk, without_disk}
 
 -- a search that a command began
-pub searched : (q : Request) (m : SourceChange) (d : DiskChange) (cert : SinkChange) (p : Problem) (s : Search) (o : Result Answer Refusal) → IsWithin q p s → IsProblemOf q m d p → IsSolution q s cert o
-    → Stays m.faults → Counts d.faults.before d.faults.after (fails_by_disk o) → (fails_by_disk o ≡ false → HoldsSearch q d s) → IsPerformed q m d cert (Some s) o
-searched q m d cert p s o within of solution model cause journal = record {
+pub searched : (q : Request) (m : SourceChange) (d : DiskChange) (cert : SinkChange) (p : Problem) (s : Search) (o : Result Answer Refusal) → IsWithin q p s → IsProblemOf q m d p → (es : List Entry) → BeganWith q m d p es
+    → events_read s.history ≡ es → IsSolution q s cert o → Stays m.faults → Counts d.faults.before d.faults.after (fails_by_disk o) → (fails_by_disk o ≡ false → HoldsSearch q m d s) → IsPerformed q m d cert (Some s) o
+searched q m d cert p s o within of es began read solution model cause journal = record {
   solution = solution;
-  search = record { problem = subst (IsProblemOf q m d) (sym within.same) of; legal = within.legal; of_workers = within.of_workers; within = within.within; few_cuts = within.few_cuts };
+  search = record {
+    problem = subst (IsProblemOf q m d) (sym within.same) of;
+    began = subst (λ (x : Problem). BeganWith q m d x (events_read s.history)) (sym within.same) (subst (λ (l : List Entry). BeganWith q m d p l) (sym read) began);
+    legal = within.legal;
+    of_workers = within.of_workers;
+    within = within.within;
+    few_cuts = within.few_cuts;
+  };
   model = model;
   cause = cause;
   journal = journal;
@@ -35,13 +44,13 @@ searched q m d cert p s o within of solution model cause journal = record {
 
 -- a journal that was not opened
 module _ (q : Request) (m : SourceChange) (d : DiskChange) (cert : SinkChange) (P : ResumeFault → Type 0) (refuses : (f : ResumeFault) → (d.tells ≡ true → P f) → RefusesJournal q m d f)
-    (model : Stays m.faults) where
+    (model : Stays m.faults) (read : HasRead q m) where
   refused_by : (r : Refusal) → IsUnopened P d r → IsRefusedBy q m d r
   refused_by refusal.Usage h = absurd h
   refused_by (refusal.Model line k) h = absurd h
-  refused_by (refusal.Journal f) h = (h.0, refuses f h.1, model, h.2, h.3)
+  refused_by (refusal.Journal f) h = (h.0, refuses f h.1, model, h.2, h.3, read)
   refused_by refusal.Read h = absurd h
-  refused_by refusal.Disk h = (model, h)
+  refused_by refusal.Disk h = (model, h, read)
   refused_by refusal.Sink h = absurd h
   refused_by refusal.Memory h = (model, h)
 
@@ -71,7 +80,7 @@ module _ (q : Request) (shows : q ≡ Show) where
   shown m d cert (Ok (answer.Spent lines)) h model nothing kept = absurd h
   shown m d cert (Ok (answer.Shown lines)) h model nothing kept = (shows, h, model, nothing, kept)
   shown m d cert (Err r) h model nothing kept =
-      unopened q m d cert (λ f. Refuses RefusesPayloads f (records d.now_before.seen)) (λ f refused. subst (λ (x : Request). RefusesJournal x m d f) (sym shows) refused) model r h.0 nothing kept
+      unopened q m d cert (λ f. Refuses RefusesPayloads f (records d.now_before.seen)) (λ f refused. subst (λ (x : Request). RefusesJournal x m d f) (sym shows) refused) model (subst (λ (x : Request). HasRead x m) (sym shows) tt) r h.0 nothing kept
 
 -- nothing is written on it
 pub left_alone : (d : DiskChange) (o : Result Answer Refusal) → IsShowingOf d o → IsUntouched d
@@ -80,18 +89,22 @@ left_alone d (Ok (answer.Spent lines)) h = absurd h
 left_alone d (Ok (answer.Shown lines)) h = h.untouched
 left_alone d (Err r) h = h.1
 
--- whatever the command is
-pub alone_by : (q : Request) (d : DiskChange) → IsUntouched d → LeavesAlone q d
-alone_by (Solve limits upper) d untouched = tt
-alone_by (Resume limits) d untouched = tt
-alone_by Show d untouched = untouched
-alone_by (Drill seed limits) d untouched = untouched
+-- whatever the command is, where no call of the disk was made
+pub alone_by : (q : Request) (m : SourceChange) (d : DiskChange) → IsUntouched d → Stays d.faults → LeavesAlone q m d
+alone_by (Solve limits upper) m d untouched stays = λ told tells. inl untouched
+alone_by (Resume limits) m d untouched stays = λ tells. inl untouched
+alone_by Show m d untouched stays = untouched
+alone_by (Drill seed limits) m d untouched stays = (untouched, stays)
 
-pub alone_searched : (q : Request) (limits : Limits) (upper : Option ℕ) (d : DiskChange) → q ≡ Solve limits upper → LeavesAlone q d
-alone_searched q limits upper d solves = subst (λ (x : Request). LeavesAlone x d) (sym solves) tt
+pub alone_shown : (q : Request) (m : SourceChange) (d : DiskChange) → q ≡ Show → IsUntouched d → LeavesAlone q m d
+alone_shown q m d shows untouched = subst (λ (x : Request). LeavesAlone x m d) (sym shows) untouched
 
-pub alone_resumed : (q : Request) (limits : Limits) (d : DiskChange) → q ≡ Resume limits → LeavesAlone q d
-alone_resumed q limits d resumes = subst (λ (x : Request). LeavesAlone x d) (sym resumes) tt
+pub alone_searched : (q : Request) (limits : Limits) (upper : Option ℕ) (m : SourceChange) (d : DiskChange) → q ≡ Solve limits upper
+    → (m.tells ≡ true → d.tells ≡ true → IsUntouched d ⊎ ((p : Problem) × Reads m.text upper p × IsFreshOrOf (record_of m.text upper) p d.now_before.seen)) → LeavesAlone q m d
+alone_searched q limits upper m d solves h = subst (λ (x : Request). LeavesAlone x m d) (sym solves) h
+
+pub alone_resumed : (q : Request) (limits : Limits) (m : SourceChange) (d : DiskChange) → q ≡ Resume limits → (d.tells ≡ true → IsUntouched d ⊎ StandsForSome d.now_before.seen) → LeavesAlone q m d
+alone_resumed q limits m d resumes h = subst (λ (x : Request). LeavesAlone x m d) (sym resumes) h
 
 -- a drill, whose own disk's faults are want of memory
 no_disk : (q : Request) (s : Search) (cert : SinkChange) (o : Result Answer Refusal) → IsSolution q s cert o → IsSolution q s cert (without_disk o) × (fails_by_disk (without_disk o) ≡ false)
@@ -106,21 +119,21 @@ no_disk q s cert (Err refusal.Memory) h = (h, refl)
 
 -- what came of a drill: of its search, or of none
 abbrev pub IsDrilled : Request → ℕ → SinkChange → Option Search → Result Answer Refusal → Type 0
-IsDrilled q seed cert (Some s) o = IsSolution q s cert o × (fails_by_disk o ≡ false) × Reads (generated seed) None s.problem × IsWithin q s.problem s
+IsDrilled q seed cert (Some s) o = IsSolution q s cert o × (fails_by_disk o ≡ false) × Reads (generated seed) None s.problem × IsWithin q s.problem s × (events_read s.history ≡ [])
 IsDrilled q seed cert None (Err r) = IsRefusedDrill seed r × TakesNothing cert × Stays cert.faults
 IsDrilled q seed cert None (Ok a) = ⊥
 
 -- a model of a seed that was searched
-pub drilled_search : (q : Request) (seed : ℕ) (cert : SinkChange) (p : Problem) (s : Search) (o : Result Answer Refusal) → IsWithin q p s → IsSolution q s cert o → Reads (generated seed) None p
-    → IsDrilled q seed cert (Some s) (without_disk o)
-drilled_search q seed cert p s o within solution reads =
+pub drilled_search : (q : Request) (seed : ℕ) (cert : SinkChange) (p : Problem) (s : Search) (o : Result Answer Refusal) → IsWithin q p s → events_read s.history ≡ [] → IsSolution q s cert o
+    → Reads (generated seed) None p → IsDrilled q seed cert (Some s) (without_disk o)
+drilled_search q seed cert p s o within fresh solution reads =
     let none = no_disk q s cert o solution in
-    (none.0, none.1, subst (λ (x : Problem). Reads (generated seed) None x) (sym within.same) reads, subst (λ (x : Problem). IsWithin q x s) (sym within.same) within)
+    (none.0, none.1, subst (λ (x : Problem). Reads (generated seed) None x) (sym within.same) reads, subst (λ (x : Problem). IsWithin q x s) (sym within.same) within, fresh)
 
 drilled : (seed : ℕ) (limits : Limits) (m : SourceChange) (d : DiskChange) (cert : SinkChange) (last : Option Search) (o : Result Answer Refusal) → IsDrilled (Drill seed limits) seed cert last o
     → Stays m.faults → Stays d.faults → IsUntouched d → IsPerformed (Drill seed limits) m d cert last o
 drilled seed limits m d cert (Some s) o h model disk untouched =
-    searched (Drill seed limits) m d cert s.problem s o h.3 h.2 h.0 model (subst (λ (b : Bool). Counts d.faults.before d.faults.after b) (sym h.1) disk) (λ e. untouched)
+    searched (Drill seed limits) m d cert s.problem s o h.3 h.2 (events_read s.history) h.4 refl h.0 model (subst (λ (b : Bool). Counts d.faults.before d.faults.after b) (sym h.1) disk) (λ e. untouched)
 drilled seed limits m d cert None (Ok a) h model disk untouched = absurd h
 drilled seed limits m d cert None (Err refusal.Usage) h model disk untouched = absurd h.0
 drilled seed limits m d cert None (Err (refusal.Model line k)) h model disk untouched = ((h.0, model, disk, untouched), h.1, h.2)

@@ -1,6 +1,7 @@
 -- What the steps of a run say of it is all that it promises.
 use Rattle.std.specs.Prelude.{◌≡◌, ℕ, Bool, true, List, Option, Some, None, Result, Ok, Err, codes, refl}
 use Rattle.std.proofs.Common.{sym, ◌∙◌, ap, subst, inl, inr}
+use Rattle.problem.specs.Problem.{Problem}
 use Rattle.resume.specs.Laws.{StandingIsNotRefused}
 use Rattle.outside.specs.Images.{AtRest}
 use Rattle.outside.specs.declared.moment.Moment.{Moment}
@@ -9,12 +10,12 @@ use Rattle.solve_top.specs.declared.outcome.Answer.TheVariants as answer
 use Rattle.solve_top.specs.declared.outcome.Refusal.{Refusal}
 use Rattle.solve_top.specs.declared.outcome.Refusal.TheVariants as refusal
 use Rattle.solve_top.specs.declared.request.Request.{Request}
-use Rattle.solve_top.specs.declared.request.Request.TheVariants.{Show}
+use Rattle.solve_top.specs.declared.request.Request.TheVariants.{Solve, Resume, Show, Drill}
 use Rattle.solve_top.specs.declared.status.Status.{Status}
 use Rattle.solve_top.specs.declared.status.Status.TheVariants as status
 use Rattle.solve_top.specs.Requests.{requested}
-use Rattle.solve_top.specs.Changes.{SourceChange, SinkChange, disk_change, Stays, Takes, TakesPrefix, TakesNothing, IsTold}
-use Rattle.solve_top.specs.Models.{IsOwnProblem}
+use Rattle.solve_top.specs.Changes.{SourceChange, SinkChange, DiskChange, disk_change, Stays, Takes, TakesPrefix, TakesNothing, IsTold}
+use Rattle.solve_top.specs.Models.{HasRead, IsOwnProblem, IsProblemOf}
 use Rattle.solve_top.specs.Journals.{KeepsJournal, LeavesAlone}
 use Rattle.solve_top.specs.Searches.{Search, IsSearchOf}
 use Rattle.solve_top.specs.Output.{survey_lines}
@@ -22,6 +23,13 @@ use Rattle.solve_top.specs.Steps.{IsPerformed, IsSearched, IsShown, IsRefusedBy,
 use Rattle.solve_top.specs.Statuses.{exit_number}
 use Rattle.solve_top.specs.Headline.{Run, EndsWith, Ends, as_done, as_shown, as_model, as_journal, as_read_fault, as_disk_fault, as_certificate_fault, as_lines_fault, as_spent, as_memory, in_answer, in_spent, in_figures, IsComplete, IsShowing, KeepsPromise}
 use Rattle.solve_top.proofs.Completeness.{no_fault_of_text, no_fault_of_journal}
+
+-- the text of a search's model reads
+has_read : (q : Request) (m : SourceChange) (d : DiskChange) (p : Problem) → IsProblemOf q m d p → HasRead q m
+has_read (Solve limits upper) m d p of = λ told. (p, of told)
+has_read (Resume limits) m d p of = tt
+has_read Show m d p of = tt
+has_read (Drill seed limits) m d p of = tt
 
 module _ (q : Request) (r : Run) (asked : requested r.words ≡ Some q) (t : Status) (number : EndsWith r t) where
   at : (u : Status) → t ≡ u → EndsWith r u
@@ -76,6 +84,7 @@ module _ (q : Request) (r : Run) (asked : requested r.words ≡ Some q) (t : Sta
       number = at status.Disk told.0;
       rises = h.cause.1;
       model = h.model;
+      read = has_read q r.model r.disk s.problem h.search.problem;
       told = told.1;
       nothing = h.solution.0;
       kept = h.solution.1;
@@ -130,6 +139,7 @@ module _ (q : Request) (r : Run) (asked : requested r.words ≡ Some q) (t : Sta
       fault = f;
       content = h.0;
       refused = h.1;
+      read = h.5;
       well = record { model = h.2; disk = h.3 };
       only = record { told = told.1; unsearched = last; untouched = h.4; nothing = nothing; kept = kept };
     })
@@ -144,6 +154,7 @@ module _ (q : Request) (r : Run) (asked : requested r.words ≡ Some q) (t : Sta
       number = at status.Disk told.0;
       rises = h.1;
       model = h.0;
+      read = h.2;
       told = told.1;
       nothing = nothing;
       kept = kept;
@@ -186,7 +197,7 @@ complete law q r (as_memory h) can model disk cert out = inr (inr h.number)
 
 -- of words that ask for this
 pub promise_asked : StandingIsNotRefused → (q : Request) (r : Run) (t : Status) (last : Option Search) (o : Result Answer Refusal) → requested r.words ≡ Some q → EndsWith r t → r.last ≡ last
-    → LeavesAlone q r.disk → IsPerformed q r.model r.disk r.cert last o → IsToldAs r.out o t → (r.disk.tells ≡ true → AtRest r.disk.now_before → KeepsJournal r.disk (IsOwnProblem q r.model r.disk)) → KeepsPromise r
+    → LeavesAlone q r.model r.disk → IsPerformed q r.model r.disk r.cert last o → IsToldAs r.out o t → (r.disk.tells ≡ true → AtRest r.disk.now_before → KeepsJournal r.disk (IsOwnProblem q r.model r.disk)) → KeepsPromise r
 promise_asked law q r t last o asked number same alone h told journal =
     let ends = performed_ends q r asked t number last o same h told in
     inr (inr (q, asked, record { ends = ends; complete = complete law q r ends; alone = alone; journal = journal }))
@@ -194,12 +205,12 @@ promise_asked law q r t last o asked number same alone h told journal =
 -- the same of a run over a disk
 pub promise_of : {D : Type 0} (tells : Bool) (past : D → List Moment) (now : D → Moment) (count : D → ℕ) (a b e : D) → e ≡ b → StandingIsNotRefused → (q : Request) (words : List (List ℕ)) (m : SourceChange)
     (cert out : SinkChange) (last there : Option Search) (number : ℕ) (t : Status) (o : Result Answer Refusal) → requested words ≡ Some q → number ≡ exit_number t → last ≡ there
-    → LeavesAlone q (disk_change tells past now count a b) → IsPerformed q m (disk_change tells past now count a b) cert there o → IsToldAs out o t
+    → LeavesAlone q m (disk_change tells past now count a b) → IsPerformed q m (disk_change tells past now count a b) cert there o → IsToldAs out o t
     → (tells ≡ true → AtRest (now a) → KeepsJournal (disk_change tells past now count a b) (IsOwnProblem q m (disk_change tells past now count a b)))
     → KeepsPromise (record { words = words; model = m; disk = disk_change tells past now count a e; cert = cert; out = out; last = last; number = number })
 promise_of {D} tells past now count a b e same law q words m cert out last there number t o asked number_is last_is alone performed told journal =
     promise_asked law q (record { words = words; model = m; disk = disk_change tells past now count a e; cert = cert; out = out; last = last; number = number }) t there o asked number_is last_is
-    (subst (λ (x : D). LeavesAlone q (disk_change tells past now count a x)) (sym same) alone)
+    (subst (λ (x : D). LeavesAlone q m (disk_change tells past now count a x)) (sym same) alone)
     (subst (λ (x : D). IsPerformed q m (disk_change tells past now count a x) cert there o) (sym same) performed) told
     (subst (λ (x : D). tells ≡ true → AtRest (now a) → KeepsJournal (disk_change tells past now count a x) (IsOwnProblem q m (disk_change tells past now count a x))) (sym same) journal)
 

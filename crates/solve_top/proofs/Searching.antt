@@ -71,6 +71,10 @@ made_last : (n : ℕ) (hs es : List Entry) → AllByRecursion IsStored hs → Al
 made_last n [] es stored all = of_workers_all n es all
 made_last n (h ∷ hs) es stored all = if_none h.worker (events_made (hs ++ es)) (h ∷ (hs ++ es)) stored.0.worker ∙ made_last n hs es stored.1 all
 
+-- the events that were read are those that the search began with
+pub read_back : (q : Request) (old new : Recorded) → IsReadFrom old → GoesOnByWorkers (limits_in q).workers old new → events_read new.history ≡ old.history
+read_back q old new read goes = ap events_read goes.history ∙ read_first (limits_in q).workers old.history goes.entries read.1.read.stored goes.of_workers
+
 -- ---- how far it went
 pub within_limits : (q : Request) (old new : Recorded) → old.state ≡ state_of old.state.problem old.history → IsReadFrom old → GoesOnByWorkers (limits_in q).workers old new → new.state.problem ≡ old.state.problem
     → new.state ≡ state_of new.state.problem new.history → AreLegal new.state.problem new.history

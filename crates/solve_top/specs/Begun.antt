@@ -24,12 +24,12 @@ use Rattle.solve_top.specs.Journals.{IsKept, KeepsJournal, LeavesAlone}
 use Rattle.solve_top.specs.Models.{IsOwnProblem}
 use Rattle.solve_top.specs.Requests.{limits_in}
 use Rattle.solve_top.specs.Searchers.{SearchesOn}
-use Rattle.solve_top.specs.Searches.{Search, search_of}
+use Rattle.solve_top.specs.Searches.{Search, events_read, search_of}
 use Rattle.solve_top.specs.Steps.{IsPerformed, IsSolution, IsWithin, fails_by_disk, without_disk}
 
 -- What came of a command: it is performed, and its journal is kept.
 pub record IsCarriedOut (q : Request) (m : SourceChange) (d : DiskChange) (cert : SinkChange) (last : Option Search) (o : Result Answer Refusal) : Type 0 where
-  pub alone : LeavesAlone q d
+  pub alone : LeavesAlone q m d
   pub outcome : IsPerformed q m d cert last o
   pub journal : d.tells ≡ true → AtRest d.now_before → KeepsJournal d (IsOwnProblem q m d)
 
@@ -54,9 +54,11 @@ module _ {D : Type 0} {d : Ghosts D} where
   -- beginnings of a history.
   pub record IsSearchedIn (q : Request) (pool : Pool D d) (disk : D) (cert : SinkChange) (s : Search) (o : Result Answer Refusal) : Type 0 where
     pub within : IsWithin q pool.state.state.problem s
+    pub read : events_read s.history ≡ pool.state.history
     pub solution : IsSolution q s cert o
     pub cause : Counts (d.count pool.journal.disk) (d.count disk) (fails_by_disk o)
     pub seen : d.tells ≡ true → IsImage (d.now disk) (d.now disk).seen
+    pub model : d.tells ≡ true → model_in (payloads_in (d.now disk)) ≡ model_in (payloads_in (d.now pool.journal.disk))
     pub kept : d.tells ≡ true → IsModelOf (model_in (payloads_in (d.now pool.journal.disk))) pool.state.state.problem
         → IsKept pool.journal.opened pool.state.state.problem (disk_change d.tells d.past d.now d.count pool.journal.disk disk)
     pub stands : d.tells ≡ true → IsModelOf (model_in (payloads_in (d.now pool.journal.disk))) pool.state.state.problem → fails_by_disk o ≡ false

@@ -18,7 +18,7 @@ use Rattle.solve_top.specs.declared.status.Status.{Status}
 use Rattle.solve_top.specs.declared.status.Status.TheVariants as status
 use Rattle.solve_top.specs.Requests.{requested, limits_in}
 use Rattle.solve_top.specs.Changes.{SourceChange, SinkChange, DiskChange, Rises, Stays, Takes, TakesPrefix, TakesNothing, IsTold, IsUntouched}
-use Rattle.solve_top.specs.Models.{IsOwnProblem, IsFaultOf, RefusesJournal, record_of}
+use Rattle.solve_top.specs.Models.{HasRead, IsOwnProblem, IsFaultOf, RefusesJournal, record_of}
 use Rattle.solve_top.specs.Journals.{KeepsJournal, HoldsSearch, LeavesAlone}
 use Rattle.solve_top.specs.Searches.{Search, HasFinished, HasSpent, HasTooFewNodes, IsSearchOf, IsSolved, certificate_text, lines_due, lines_for}
 use Rattle.solve_top.specs.Output.{survey_lines}
@@ -58,7 +58,7 @@ pub record HandsBack (q : Request) (r : Run) (s : Search) : Type 0 where
   pub search : IsSearchOf q r.model r.disk s
   pub well : ReadsWell r
   -- the journal has the events of the search, and nothing more
-  pub journal : HoldsSearch q r.disk s
+  pub journal : HoldsSearch q r.model r.disk s
 
 -- ---- one record for each number with which a run ends
 
@@ -84,6 +84,7 @@ pub record EndsAsJournal (q : Request) (r : Run) : Type 0 where
   pub fault : ResumeFault
   pub content : is_refusal fault ≡ true
   pub refused : RefusesJournal q r.model r.disk fault
+  pub read : HasRead q r.model
   pub well : ReadsWell r
   pub only : TellsOnly r (journal_line fault)
 
@@ -99,6 +100,7 @@ pub record EndsAsDiskFault (q : Request) (r : Run) : Type 0 where
   pub number : r.number ≡ exit_number status.Disk
   pub rises : Rises r.disk.faults
   pub model : Stays r.model.faults
+  pub read : HasRead q r.model
   pub told : IsTold r.out (codes "fault disk\n")
   pub nothing : TakesNothing r.cert
   pub kept : Stays r.cert.faults
@@ -208,10 +210,10 @@ IsComplete q r =
 pub record KeepsPromiseOf (q : Request) (r : Run) : Type 0 where
   pub ends : Ends q r
   pub complete : IsComplete q r
-  pub alone : LeavesAlone q r.disk
+  pub alone : LeavesAlone q r.model r.disk
   pub journal : r.disk.tells ≡ true → AtRest r.disk.now_before → KeepsJournal r.disk (IsOwnProblem q r.model r.disk)
 
--- words that are no command, or no memory to read them: nothing is touched
+-- no memory to read the words
 pub record EndsUnread (r : Run) : Type 0 where
   pub number : r.number ≡ exit_number status.Memory
   pub well : ReadsWell r

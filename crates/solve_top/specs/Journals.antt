@@ -1,6 +1,7 @@
 -- What a run keeps of a journal, whatever crash comes.
-use Rattle.std.specs.Prelude.{◌≡◌, ◌+◌, ◌≤◌, ℕ, true, List, length, None}
+use Rattle.std.specs.Prelude.{◌≡◌, ◌⊎◌, ◌+◌, ◌≤◌, ℕ, true, List, length, None}
 use Rattle.problem.specs.Problem.{Problem}
+use Rattle.mps_reader.specs.Reading.{Reads}
 use Rattle.outside.specs.Images.{AtRest, LeavesOnly}
 use Rattle.event_core.specs.declared.entry.Entry.{Entry}
 use Rattle.event_core.specs.Histories.{journaled}
@@ -8,7 +9,7 @@ use Rattle.node_journal.specs.Records.{Holds, records}
 use Rattle.node_journal.specs.Whole.{payloads_in}
 use Rattle.node_journal.specs.History.{EachFrom, ExtendsMoments, IsHistory, IsPrefixOf, Keeps, KeepsHistory}
 use Rattle.node_pool.specs.Payloads.{model_in}
-use Rattle.resume.specs.Journals.{StandsFor, IsFreshOrStands}
+use Rattle.resume.specs.Journals.{StandsFor, StandsForSome, IsFreshOrOf, IsFreshOrStands}
 use Rattle.resume.specs.Refusals.{is_refusal}
 use Rattle.resume.specs.declared.fault.ResumeFault.{ResumeFault}
 use Rattle.resume.specs.Crashes.{IsAsBeforeOrBegun}
@@ -16,11 +17,14 @@ use Rattle.solve_top.specs.declared.outcome.Refusal.{Refusal}
 use Rattle.solve_top.specs.declared.outcome.Refusal.TheVariants as refusal
 use Rattle.solve_top.specs.declared.request.Request.{Request}
 use Rattle.solve_top.specs.declared.request.Request.TheVariants.{Solve, Resume, Show, Drill}
-use Rattle.solve_top.specs.Changes.{DiskChange, Rises, Stays, IsUntouched, moments_before, moments_after}
+use Rattle.solve_top.specs.Changes.{SourceChange, DiskChange, Rises, Stays, IsUntouched, moments_before, moments_after}
+use Rattle.solve_top.specs.Models.{IsFreshOrWith, model_before, record_of}
 use Rattle.solve_top.specs.Searches.{Search}
 
 -- Of a disk that was at rest before the call. `IsOwn` says which problem the run is about.
 pub record KeepsJournal (d : DiskChange) (IsOwn : Problem → Type 0) : Type 0 where
+  -- The moments from before the call stay the first ones.
+  pub extends : ExtendsMoments (moments_before d) (moments_after d)
   -- Where the disk held a journal, so does what each crash leaves at each moment of the call; of two such journals one begins the other; and what all
   -- crashes at one moment leave, all crashes at each later moment leave. So no event that was acknowledged is ever gone.
   pub history : (ps : List (List ℕ)) → records d.now_before.seen ≡ Holds ps → IsHistory (length d.past_before) (moments_after d)
@@ -44,6 +48,7 @@ pub record IsKept (opened : ℕ) (p : Problem) (d : DiskChange) : Type 0 where
 pub record IsOpened (model : List ℕ) (p : Problem) (history : List Entry) (opened : ℕ) (d : DiskChange) : Type 0 where
   pub next : opened ≡ length d.past_before + 1
   pub begun : opened ≤ length d.past_after
+  pub held : IsFreshOrWith model p history d.now_before.seen
   pub of_model : model_in (payloads_in d.now_after) ≡ model
   pub stands : StandsFor p (payloads_in d.now_after) history
   pub all : Keeps (payloads_in d.now_after) d.now_after
@@ -67,16 +72,18 @@ pub record IsKeptUnopened (model : List ℕ) (d : DiskChange) : Type 0 where
   pub any_moment : LeavesOnly d.past_before d.now_before d.past_after d.now_after (IsAsBeforeOrBegun (records d.now_before.seen) model)
   pub rests : ¬ Rises d.faults → AtRest d.now_after
 
--- `show` and `drill` don't touch the disk
-abbrev pub LeavesAlone : Request → DiskChange → Type 0
-LeavesAlone (Solve limits upper) d = Unit {0}
-LeavesAlone (Resume limits) d = Unit {0}
-LeavesAlone Show d = IsUntouched d
-LeavesAlone (Drill seed limits) d = IsUntouched d
+-- Nothing is written on a disk, however the command ends, but by `solve` where it held no payload or a journal of its model, and by `resume` where it
+-- held a journal. A drill calls the disk at no time.
+abbrev pub LeavesAlone : Request → SourceChange → DiskChange → Type 0
+LeavesAlone (Solve limits upper) m d = m.tells ≡ true → d.tells ≡ true → IsUntouched d ⊎ ((p : Problem) × Reads m.text upper p × IsFreshOrOf (record_of m.text upper) p d.now_before.seen)
+LeavesAlone (Resume limits) m d = d.tells ≡ true → IsUntouched d ⊎ StandsForSome d.now_before.seen
+LeavesAlone Show m d = IsUntouched d
+LeavesAlone (Drill seed limits) m d = IsUntouched d × Stays d.faults
 
--- the disk holds the model's record and the events of the search, and nothing more; a drill doesn't touch it
-abbrev pub HoldsSearch : Request → DiskChange → Search → Type 0
-HoldsSearch (Solve limits upper) d s = d.tells ≡ true → StandsFor s.problem (payloads_in d.now_after) (journaled s.history)
-HoldsSearch (Resume limits) d s = d.tells ≡ true → StandsFor s.problem (payloads_in d.now_after) (journaled s.history)
-HoldsSearch Show d s = ⊥
-HoldsSearch (Drill seed limits) d s = IsUntouched d
+-- The disk holds the record of the command's model and the events of the search, and nothing more. A drill doesn't touch it.
+abbrev pub HoldsSearch : Request → SourceChange → DiskChange → Search → Type 0
+HoldsSearch (Solve limits upper) m d s =
+    d.tells ≡ true → StandsFor s.problem (payloads_in d.now_after) (journaled s.history) × (m.tells ≡ true → model_in (payloads_in d.now_after) ≡ record_of m.text upper)
+HoldsSearch (Resume limits) m d s = d.tells ≡ true → StandsFor s.problem (payloads_in d.now_after) (journaled s.history) × (model_in (payloads_in d.now_after) ≡ model_before d)
+HoldsSearch Show m d s = ⊥
+HoldsSearch (Drill seed limits) m d s = IsUntouched d

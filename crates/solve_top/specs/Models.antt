@@ -1,12 +1,14 @@
 -- Which model a command is about.
-use Rattle.std.specs.Prelude.{◌≡◌, ℕ, pos, true, List, Option, None, option_map}
+use Rattle.std.specs.Prelude.{◌≡◌, ◌⊎◌, ℕ, pos, true, List, [], Option, None, option_map}
 use Rattle.problem.specs.Problem.{Problem}
 use Rattle.mps_reader.specs.Reading.{Reads, IsRefused}
 use Rattle.mps_reader.specs.declared.kinds.Kind.{Kind}
 use Rattle.event_codec.specs.Models.{model_code}
-use Rattle.node_journal.specs.Records.{payloads_held, records}
+use Rattle.event_core.specs.declared.entry.Entry.{Entry}
+use Rattle.node_journal.specs.Records.{Holds, payloads_held, records}
 use Rattle.node_pool.specs.Payloads.{model_in}
 use Rattle.drill_instance.specs.Texts.{generated}
+use Rattle.resume.specs.Journals.{StandsFor}
 use Rattle.resume.specs.Models.{IsModelOf}
 use Rattle.resume.specs.Refusals.{Refuses, RefusesPayloads, RefusesPayloadsFor}
 use Rattle.resume.specs.declared.fault.ResumeFault.{ResumeFault}
@@ -33,6 +35,13 @@ IsOwnProblem (Resume limits) m d p = IsModelOf (model_before d) p
 IsOwnProblem Show m d p = Unit {0}
 IsOwnProblem (Drill seed limits) m d p = Unit {0}
 
+-- the text of the command's model reads as a problem
+abbrev pub HasRead : Request → SourceChange → Type 0
+HasRead (Solve limits upper) m = m.tells ≡ true → (p : Problem) × Reads m.text upper p
+HasRead (Resume limits) m = Unit {0}
+HasRead Show m = Unit {0}
+HasRead (Drill seed limits) m = Unit {0}
+
 -- this is the first fault of its text
 abbrev pub IsFaultOf : Request → SourceChange → ℕ → Kind → Type 0
 IsFaultOf (Solve limits upper) m line k = m.tells ≡ true → IsRefused m.text upper line k
@@ -43,6 +52,21 @@ IsFaultOf (Drill seed limits) m line k = IsRefused (generated seed) None line k
 -- the record of a text with an upper bound
 abbrev pub record_of : List ℕ → Option ℕ → List ℕ
 record_of text upper = model_code text (option_map pos upper)
+
+-- the bytes stand for the problem and these events of its search
+abbrev pub StandsWith : Problem → List Entry → List ℕ → Type 0
+StandsWith p es c = (ps : List (List ℕ)) × (records c ≡ Holds ps) × StandsFor p ps es
+
+-- The bytes are a journal without a payload, and there are no events; or they stand for the problem and these events, behind the record of this model.
+abbrev pub IsFreshOrWith : List ℕ → Problem → List Entry → List ℕ → Type 0
+IsFreshOrWith model p es c = ((records c ≡ Holds []) × (es ≡ [])) ⊎ ((ps : List (List ℕ)) × (records c ≡ Holds ps) × (model_in ps ≡ model) × StandsFor p ps es)
+
+-- The events with which a command began its search of the problem: those that its journal held, none on a disk without a payload, and none of a drill.
+abbrev pub BeganWith : Request → SourceChange → DiskChange → Problem → List Entry → Type 0
+BeganWith (Solve limits upper) m d p es = m.tells ≡ true → d.tells ≡ true → IsFreshOrWith (record_of m.text upper) p es d.now_before.seen
+BeganWith (Resume limits) m d p es = d.tells ≡ true → StandsWith p es d.now_before.seen
+BeganWith Show m d p es = ⊥
+BeganWith (Drill seed limits) m d p es = es ≡ []
 
 -- this is what is wrong with the journal on its disk
 abbrev pub RefusesJournal : Request → SourceChange → DiskChange → ResumeFault → Type 0

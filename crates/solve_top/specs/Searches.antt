@@ -20,7 +20,7 @@ use Rattle.solve_top.specs.declared.request.Request.{Request}
 use Rattle.solve_top.specs.declared.request.Request.TheVariants.{Solve, Resume, Show, Drill}
 use Rattle.solve_top.specs.Changes.{SourceChange, SinkChange, DiskChange, Takes, KeepsAll}
 use Rattle.solve_top.specs.Requests.{limits_in}
-use Rattle.solve_top.specs.Models.{IsProblemOf}
+use Rattle.solve_top.specs.Models.{BeganWith, IsProblemOf}
 use Rattle.solve_top.specs.Output.{answer_line, answer_lines, spent_lines}
 
 -- a problem, and the events of its search in order
@@ -54,10 +54,11 @@ begin_of s = state_of s.problem (events_read s.history)
 abbrev pub end_of : Search → State
 end_of s = state_of s.problem s.history
 
--- The search is of the problem of the command's model. Its events are legal in turn, and those that it has made are of the workers that the command
--- asks for. It has at most as many nodes and cuts as the command asks for, or as its journal had at the beginning.
+-- The search is of the problem of the command's model, and began with the events that its journal held. Its events are legal in turn, and those that it
+-- has made are of the workers that the command asks for. It has at most as many nodes and cuts as the command asks for, or as it began with.
 pub record IsSearchOf (q : Request) (m : SourceChange) (d : DiskChange) (s : Search) : Type 0 where
   pub problem : IsProblemOf q m d s.problem
+  pub began : BeganWith q m d s.problem (events_read s.history)
   pub legal : AreLegal s.problem s.history
   pub of_workers : All (IsOfWorkers (limits_in q).workers) (events_made s.history)
   pub within : length (end_of s).nodes ≤ max (limits_in q).nodes (length (begin_of s).nodes)

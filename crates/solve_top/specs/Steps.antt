@@ -21,7 +21,7 @@ use Rattle.solve_top.specs.declared.status.Status.{Status}
 use Rattle.solve_top.specs.declared.status.Status.TheVariants as status
 use Rattle.solve_top.specs.Requests.{limits_in}
 use Rattle.solve_top.specs.Changes.{SourceChange, SinkChange, DiskChange, Rises, Stays, Takes, TakesPrefix, TakesNothing, IsTold, IsUntouched}
-use Rattle.solve_top.specs.Models.{IsFaultOf, RefusesJournal}
+use Rattle.solve_top.specs.Models.{HasRead, IsFaultOf, RefusesJournal}
 use Rattle.solve_top.specs.Journals.{HoldsSearch, IsUnopened}
 use Rattle.solve_top.specs.Searches.{Search, begin_of, end_of, events_made, HasFinished, HasSpent, HasTooFewNodes, IsOfWorkers, IsSearchOf, IsSolved, certificate_text, lines_due, lines_for}
 use Rattle.solve_top.specs.Output.{survey_lines}
@@ -77,15 +77,15 @@ pub record IsSearched (q : Request) (m : SourceChange) (d : DiskChange) (cert : 
   pub search : IsSearchOf q m d s
   pub model : Stays m.faults
   pub cause : Counts d.faults.before d.faults.after (fails_by_disk o)
-  pub journal : fails_by_disk o ≡ false → HoldsSearch q d s
+  pub journal : fails_by_disk o ≡ false → HoldsSearch q m d s
 
 -- why a command came to nothing before a search began
 abbrev pub IsRefusedBy : Request → SourceChange → DiskChange → Refusal → Type 0
 IsRefusedBy q m d refusal.Usage = ⊥
 IsRefusedBy q m d (refusal.Model line k) = IsFaultOf q m line k × Stays m.faults × Stays d.faults × IsUntouched d
-IsRefusedBy q m d (refusal.Journal f) = (is_refusal f ≡ true) × RefusesJournal q m d f × Stays m.faults × Stays d.faults × IsUntouched d
+IsRefusedBy q m d (refusal.Journal f) = (is_refusal f ≡ true) × RefusesJournal q m d f × Stays m.faults × Stays d.faults × IsUntouched d × HasRead q m
 IsRefusedBy q m d refusal.Read = Rises m.faults × Stays d.faults × IsUntouched d
-IsRefusedBy q m d refusal.Disk = Stays m.faults × Rises d.faults
+IsRefusedBy q m d refusal.Disk = Stays m.faults × Rises d.faults × HasRead q m
 IsRefusedBy q m d refusal.Sink = ⊥
 IsRefusedBy q m d refusal.Memory = Stays m.faults × Stays d.faults
 

@@ -26,7 +26,7 @@ fn drilled_model<B: BuildHasher + Drop>(alloc: Global, keys: B, seed: u32) -> Re
     }
 }
 
-// The pool of the search of a seed's model, with its journal on a disk in memory. What that disk may fail for is want of memory.
+/// The pool of the search of a seed's model, with its journal on a disk in memory. What that disk may fail for is want of memory.
 pub fn drilled_pool<B: BuildHasher + Clone + Drop>(
     alloc: Global,
     keys: B,
@@ -36,6 +36,7 @@ pub fn drilled_pool<B: BuildHasher + Clone + Drop>(
     requires few { nodes ≤ 1_000_000_000 }
     ensures read { IfOk result (λ p. IsReadFrom p.state) }
     ensures problem { IfOk result (λ p. Reads (generated seed) None p.state.state.problem) }
+    ensures fresh { IfOk result (λ p. p.state.history ≡ []) }
     ensures unheld { IfOk result (λ p. p.state.state.holds ≡ []) }
     ensures budget { IfOk result (λ p. p.budget ≡ nodes) }
     ensures halt { IfOk result (λ p. p.halt ≡ None) }

@@ -12,16 +12,16 @@ use problem::Problem;
 use std::alloc::Global;
 use std::hash::BuildHasher;
 
-// A model: its text, and the problem that this reads as.
+/// A model: its text, and the problem that this reads as.
 #[derive(Drop)]
 pub struct Model {
-    // The text.
+    /// The text.
     pub text: Vec<u8>,
-    // The problem.
+    /// The problem.
     pub problem: Problem,
 }
 
-// The problem of a text, in which `upper` is the upper bound of columns that have none.
+/// The problem of a text, in which `upper` is the upper bound of columns that have none.
 pub fn problem_of<B: BuildHasher + Drop>(
     alloc: Global,
     keys: B,
@@ -38,7 +38,7 @@ pub fn problem_of<B: BuildHasher + Drop>(
     }
 }
 
-// Reads a model to its end. `upper` is the upper bound of columns that have none.
+/// Reads a model to its end. `upper` is the upper bound of columns that have none.
 pub fn read_model<B: BuildHasher + Drop, S: Source>(
     alloc: Global,
     keys: B,
@@ -64,7 +64,7 @@ pub fn read_model<B: BuildHasher + Drop, S: Source>(
         Err(refusal) => Err(refusal),
     }
 }
-// The name of a kind of fault.
+/// The name of a kind of fault.
 pub fn kind_name(kind: Kind) -> &'static [u8]
     ensures { result.now ≡ kind_name kind }
 {

@@ -1,16 +1,16 @@
 // Opens the journal of a command.
-ghost use Rattle.std.specs.Prelude.{◌≡◌, ◌≤◌, [], pos, true, None, IfErr, IfOk, option_map};
+ghost use Rattle.std.specs.Prelude.{◌≡◌, ◌⊎◌, ◌≤◌, [], pos, true, None, IfErr, IfOk, option_map};
 ghost use Rattle.outside.specs.Images.{AtRest};
 ghost use Rattle.mps_reader.specs.Reading.{Reads};
 ghost use Rattle.mps_reader.specs.Refusals.{IsModestUpper};
 ghost use Rattle.node_journal.specs.Records.{records};
 ghost use Rattle.node_journal.specs.Whole.{payloads_in};
 ghost use Rattle.node_pool.specs.Payloads.{model_in};
-ghost use Rattle.resume.specs.Journals.{IsReadFrom};
+ghost use Rattle.resume.specs.Journals.{IsFreshOrOf, IsReadFrom, StandsForSome};
 ghost use Rattle.resume.specs.Refusals.{Refuses, RefusesPayloads, RefusesPayloadsFor};
-ghost use Rattle.solve_top.specs.Changes.{disk_change};
+ghost use Rattle.solve_top.specs.Changes.{IsUntouched, disk_change};
 ghost use Rattle.solve_top.specs.Journals.{IsKeptUnopened, IsOpened, IsUnopened};
-ghost use Rattle.solve_top.specs.Models.{record_of};
+ghost use Rattle.solve_top.specs.Models.{StandsWith, record_of};
 
 use crate::model::Model;
 use crate::outcome::Refusal;
@@ -30,7 +30,7 @@ fn recorded(upper: Option<u32>) -> Option<i64>
     }
 }
 
-// The pool of the search of a model, which goes on from the journal where the disk has one. `upper` is the upper bound of columns that have none.
+/// The pool of the search of a model, which goes on from the journal where the disk has one. `upper` is the upper bound of columns that have none.
 pub fn open_of<B: BuildHasher + Drop, D: Disk>(
     alloc: Global,
     keys: B,
@@ -51,6 +51,7 @@ pub fn open_of<B: BuildHasher + Drop, D: Disk>(
     ensures opened { D.tells ≡ true → IfOk result (λ p. IsOpened (record_of model.text.items upper) p.state.state.problem p.state.history p.journal.opened (disk_change D.tells D.past D.now D.count disk p.journal.disk)) }
     ensures unopened { IfErr result (λ e. IsUnopened (λ f. Refuses (RefusesPayloadsFor (record_of model.text.items upper)) f (records (D.now disk).seen)) (disk_change D.tells D.past D.now D.count disk e.1) e.0) }
     ensures kept { D.tells ≡ true → AtRest (D.now disk) → IfErr result (λ e. IsKeptUnopened (record_of model.text.items upper) (disk_change D.tells D.past D.now D.count disk e.1)) }
+    ensures spared { D.tells ≡ true → IfErr result (λ e. IsUntouched (disk_change D.tells D.past D.now D.count disk e.1) ⊎ IsFreshOrOf (record_of model.text.items upper) model.problem (D.now disk).seen) }
 {
     let Model { text, problem } = model;
     match open_pool(alloc, keys, disk, &text, problem, recorded(upper), nodes) {
@@ -62,7 +63,7 @@ pub fn open_of<B: BuildHasher + Drop, D: Disk>(
     }
 }
 
-// The pool of the search that the journal on the disk has, of whatever model.
+/// The pool of the search that the journal on the disk has, of whatever model.
 pub fn open_kept<B: BuildHasher + Drop, D: Disk>(
     alloc: Global,
     keys: B,
@@ -78,6 +79,8 @@ pub fn open_kept<B: BuildHasher + Drop, D: Disk>(
     ensures opened { D.tells ≡ true → IfOk result (λ p. IsOpened (model_in (payloads_in (D.now disk))) p.state.state.problem p.state.history p.journal.opened (disk_change D.tells D.past D.now D.count disk p.journal.disk)) }
     ensures unopened { IfErr result (λ e. IsUnopened (λ f. Refuses RefusesPayloads f (records (D.now disk).seen)) (disk_change D.tells D.past D.now D.count disk e.1) e.0) }
     ensures kept { D.tells ≡ true → AtRest (D.now disk) → IfErr result (λ e. IsKeptUnopened (model_in (payloads_in (D.now disk))) (disk_change D.tells D.past D.now D.count disk e.1)) }
+    ensures stood { D.tells ≡ true → IfOk result (λ p. StandsWith p.state.state.problem p.state.history (D.now disk).seen) }
+    ensures spared { D.tells ≡ true → IfErr result (λ e. IsUntouched (disk_change D.tells D.past D.now D.count disk e.1) ⊎ StandsForSome (D.now disk).seen) }
 {
     match open_any(alloc, keys, disk, nodes) {
         Ok(pool) => {

@@ -68,19 +68,19 @@ impl From<ResumeFault> for Refusal {
     }
 }
 
-// What a command did: what came of it, its disk, and the state at which its search ended, if it began one.
+/// What a command did: what came of it, its disk, and the state at which its search ended, if it began one.
 #[derive(Drop)]
 pub struct Performed<D> {
-    // What came of it.
+    /// What came of it.
     pub outcome: Result<Answer, Refusal>,
-    // The disk.
+    /// The disk.
     pub disk: D,
-    // The state at which the search ended.
+    /// The state at which the search ended.
     pub last: Option<State>,
 }
 
 impl<D> Performed<D> {
-    // A command that came to nothing before a search began.
+    /// A command that came to nothing before a search began.
     pub fn refused(refusal: Refusal, disk: D) -> Self
         ensures outcome { result.outcome ≡ Err refusal }
         ensures disk { result.disk ≡ disk }
@@ -93,7 +93,7 @@ impl<D> Performed<D> {
         }
     }
 
-    // A command whose search has ended.
+    /// A command whose search has ended.
     pub fn searched(searched: Searched<D>) -> Self
         ensures outcome { result.outcome ≡ searched.outcome }
         ensures disk { result.disk ≡ searched.disk }
@@ -111,7 +111,7 @@ impl<D> Performed<D> {
         }
     }
 
-    // A drill whose search has ended, which was over a disk in memory. What that disk may fail for is want of memory.
+    /// A drill whose search has ended, which was over a disk in memory. What that disk may fail for is want of memory.
     pub fn drilled(searched: Searched<MemDisk>, disk: D) -> Self
         ensures outcome { result.outcome ≡ without_disk searched.outcome }
         ensures disk { result.disk ≡ disk }

@@ -56,7 +56,7 @@ fn push_answer(text: &mut Vec<u8>, claim: &Goal) -> Result<(), AllocError>
     Ok(())
 }
 
-// The lines of a search that is finished: its answer, and the numbers of nodes and cuts; for a drill the answer alone.
+/// The lines of a search that is finished: its answer, and the numbers of nodes and cuts; for a drill the answer alone.
 pub fn finished_text(
     alloc: Global,
     request: &Request,
@@ -77,7 +77,7 @@ pub fn finished_text(
     }
 }
 
-// The lines of a search that stopped with open nodes.
+/// The lines of a search that stopped with open nodes.
 pub fn spent_text(
     alloc: Global,
     nodes: usize,
@@ -108,7 +108,7 @@ fn push_best(text: &mut Vec<u8>, best: Option<Frac>) -> Result<(), AllocError>
     Ok(())
 }
 
-// The lines of a journal that is shown.
+/// The lines of a journal that is shown.
 pub fn survey_text(alloc: Global, figures: &Survey) -> Result<Vec<u8>, AllocError>
     ensures { IfOk result (λ text. text.items ≡ survey_lines figures.now) }
 {
@@ -120,7 +120,7 @@ pub fn survey_text(alloc: Global, figures: &Survey) -> Result<Vec<u8>, AllocErro
     Ok(text)
 }
 
-// The line of a text that is refused.
+/// The line of a text that is refused.
 pub fn refused_text(alloc: Global, line: u64, kind: Kind) -> Result<Vec<u8>, AllocError>
     ensures { IfOk result (λ text. text.items ≡ refused_line line kind) }
 {
@@ -142,7 +142,7 @@ fn placed_text(alloc: Global, word: &[u8], place: u64) -> Result<Vec<u8>, AllocE
     Ok(text)
 }
 
-// The line of a journal that is refused.
+/// The line of a journal that is refused.
 pub fn journal_text(alloc: Global, fault: ResumeFault) -> Result<Vec<u8>, AllocError>
     ensures { IfOk result (λ text. text.items ≡ journal_line fault) }
 {

@@ -15,34 +15,34 @@ const DEFAULT: Limits = Limits {
     workers: 1,
 };
 
-// What a command asks for, without its paths.
+/// What a command asks for, without its paths.
 #[derive(Clone, Copy, Debug, PartialEq, Eq, Drop)]
 pub enum Request {
-    // Solve the model of the source, going on from the journal where it has one.
+    /// Solve the model of the source, going on from the journal where it has one.
     Solve {
-        // The limits of the search.
+        /// The limits of the search.
         limits: Limits,
-        // The bound of each column that has none.
+        /// The bound of each column that has none.
         upper: Option<u32>,
     },
-    // Go on from the journal, which has the model.
+    /// Go on from the journal, which has the model.
     Resume {
-        // The limits of the search.
+        /// The limits of the search.
         limits: Limits,
     },
-    // Tell how far the search of the journal has come.
+    /// Tell how far the search of the journal has come.
     Show,
-    // Solve the model of a seed.
+    /// Solve the model of a seed.
     Drill {
-        // The seed.
+        /// The seed.
         seed: u32,
-        // The limits of the search.
+        /// The limits of the search.
         limits: Limits,
     },
 }
 
 impl Request {
-    // The limits of the search; where there is none, those of a command that doesn't say.
+    /// The limits of the search; where there is none, those of a command that doesn't say.
     pub fn limits(&self) -> Limits
         ensures limits { result ≡ limits_in self.now }
         ensures ranges { HasRanges self.now → AreInRange result }
@@ -89,7 +89,7 @@ fn without_paths(command: &Command) -> Request
     }
 }
 
-// What the words ask for. `Usage`: they are no command.
+/// What the words ask for. `Usage`: they are no command.
 pub fn request_of(alloc: Global, words: &Words) -> Result<Request, Refusal>
     ensures asked { IfOk result (λ q. requested words.now ≡ Some q) }
     ensures ranges { IfOk result HasRanges }

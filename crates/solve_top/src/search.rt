@@ -111,14 +111,14 @@ fn spend(alloc: Global, state: &State, request: &Request) -> Result<Answer, Refu
     Ok(Answer::Spent(lines))
 }
 
-// A search that has ended.
+/// A search that has ended.
 #[derive(Drop)]
 pub struct Searched<D> {
-    // What came of it.
+    /// What came of it.
     pub outcome: Result<Answer, Refusal>,
-    // The state at which it ended.
+    /// The state at which it ended.
     pub state: State,
-    // The disk of its journal.
+    /// The disk of its journal.
     pub disk: D,
 }
 
@@ -157,7 +157,7 @@ fn part<D: Disk>(pool: Pool<D>) -> (State, D)
     (state, journal.into_disk())
 }
 
-// What comes of a search that has ended so in this pool: its certificate is written if it is finished.
+/// What comes of a search that has ended so in this pool: its certificate is written if it is finished.
 pub fn end_search<D: Disk, C: Sink>(
     alloc: Global,
     ending: Ending,

@@ -9,7 +9,7 @@ use resume::survey;
 use std::alloc::Global;
 use std::hash::BuildHasher;
 
-// The figures of the journal on a disk, on which nothing is written.
+/// The figures of the journal on a disk, on which nothing is written.
 pub fn show<B: BuildHasher + Drop, D: Disk>(
     alloc: Global,
     keys: B,

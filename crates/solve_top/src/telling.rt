@@ -81,7 +81,7 @@ fn tell_refusal<O: Sink>(alloc: Global, refusal: Refusal, out: &mut O) -> Status
     }
 }
 
-// Tells an outcome, and gives the status of the run.
+/// Tells an outcome, and gives the status of the run.
 pub fn tell_outcome<O: Sink>(alloc: Global, outcome: Result<Answer, Refusal>, out: &mut O) -> Status
     ensures { IsToldAs (sink_change O.tells O.taken O.kept O.faults out.old out.new) outcome result }
 {

@@ -179,8 +179,8 @@ impl<D: Disk> Kin<D> {
         settle(alloc, finding, state, node, &area, self.cuts)
     }
 
-    /// Settles the node that the worker holds as the finding says, by the cuts and the incumbent that there are. At an error the first events may stand,
-    /// but none that ends the node.
+    /// Settles the node that the worker holds as the finding says, by the cuts and the incumbent that there are. The errors are those of
+    /// `PoolGate::commit`.
     pub fn commit(
         &mut self,
         alloc: Global,

@@ -5,7 +5,7 @@ use node_pool::Halt;
 use outside::Moment;
 use std::collections::LinkedList;
 
-/// What a pool was when its list began, and what is asked of those that ask it.
+/// What a pool was when its list began, and the limits that those who ask it keep to.
 pub struct Opening {
     /// The state with its history.
     pub state: State,

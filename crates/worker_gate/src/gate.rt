@@ -50,7 +50,8 @@ pub trait PoolGate {
         ensures step { Stepped (worker self.old) (seen self.old) (seen self.new) (Glances node known result) };
 
     /// Settles the worker's node as the finding says, by the cuts and the incumbent that there are now. The receipt tells of the events, which may be
-    /// none where there is no room for cuts. At an error the first events may stand, but none that ends the node.
+    /// none where there is no room for cuts. `Halted`: the pool was halted before, and nothing is made. `Memory`: there was no memory for the settlement
+    /// or an event. `Disk`, `Budget`: the pool was halted at an event. The events before it stand then, and none of them ends the node.
     fn commit<R: Wait>(
         &mut self,
         rt: &R,

@@ -11,15 +11,15 @@ use turn_lock::Kept;
 /// list.
 pub struct Kin<D: Disk> {
     pub(crate) pool: Pool<D>,
-    // What the pool was when the list began. It is for contracts.
+    /// What the pool was when the list began. It is for contracts.
     pub(crate) first: Snapshot<Pool<D>>,
-    // How many events its history had then.
+    /// How many events its history had then.
     pub(crate) count: usize,
-    // How many events its history had when it was halted.
+    /// How many events its history had when it was halted.
     pub(crate) stop: usize,
-    // How many cuts the book takes at most.
+    /// How many cuts the book takes at most.
     pub(crate) cuts: u32,
-    // How many workers may ask.
+    /// How many workers may ask.
     pub(crate) workers: u32,
 }
 

@@ -9,7 +9,8 @@ use outside::Disk;
 use std::snapshot::Snapshot;
 
 impl<D: Disk> Kin<D> {
-    /// The list of a pool that isn't halted begins. The book takes at most `cuts` cuts, or as many as there are; workers 0 to `workers - 1` may ask.
+    /// A pool that isn't halted, with a list that begins now. The book takes at most `cuts` cuts, 0 to 256, or as many as it has already. Workers 0 to
+    /// `workers - 1` may ask.
     pub fn make(pool: Pool<D>, cuts: u32, workers: u32) -> Kin<D>
         requires sound { pool.halt ≡ None }
         requires few { cuts ≤ 256 }
@@ -30,7 +31,7 @@ impl<D: Disk> Kin<D> {
         }
     }
 
-    /// The list is legal, and the book takes at most 256 cuts. This computes nothing: its contract is for callers' proofs.
+    /// The list is legal. This computes nothing: its contract is for callers' proofs.
     pub fn is_legal_now(&self)
         ensures { IsLegalList self.now }
     {

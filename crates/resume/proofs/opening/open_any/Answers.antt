@@ -1,12 +1,14 @@
-use Rattle.std.proofs.Common.{sym, subst, refl, ◌≡◌, List, ℕ}
+use Rattle.std.specs.Prelude.{◌⊎◌}
+use Rattle.std.proofs.Common.{sym, subst, refl, inl, inr, ◌≡◌, List, ℕ}
+use Rattle.outside.specs.Images.{NoMomentPasses}
 use Rattle.event_core.specs.Rooms.{Recorded}
 use Rattle.node_journal.specs.Records.{records}
 use Rattle.node_journal.specs.Views.{payloads_of}
 use Rattle.node_journal.specs.Whole.{payloads_in}
-use Rattle.resume.specs.Journals.{StandsFor}
+use Rattle.resume.specs.Journals.{StandsFor, StandsForSome}
 use Rattle.resume.specs.Crashes.{IsAsBefore}
 use Rattle.resume.proofs.KeptHistories.{untouched_history}
-use Rattle.resume.proofs.Recovering.{untouched, if_both}
+use Rattle.resume.proofs.Recovering.{untouched, if_both, if_err_all}
 use Rattle.resume.proofs.opening.open_any.Goals as goal
 
 pub returns-in-Ok-read_search-clause-stands : goal.returns-in-Ok-read_search-clause-stands
@@ -24,3 +26,17 @@ returns-in-Err-clause-history_err g c told rests ps holds = untouched_history _ 
 
 pub returns-in-Err-read_search-clause-history_err : goal.returns-in-Err-read_search-clause-history_err
 returns-in-Err-read_search-clause-history_err g c told rests ps holds = untouched_history _ _ _ _ ps _ rests holds c.scan.ensures.stands
+
+pub returns-in-Err-clause-spared : goal.returns-in-Err-clause-spared
+returns-in-Err-clause-spared g c told = inl c.scan.ensures.stands
+
+pub returns-in-Err-read_search-clause-spared : goal.returns-in-Err-read_search-clause-spared
+returns-in-Err-read_search-clause-spared g c told = inl c.scan.ensures.stands
+
+pub returns-in-Ok-read_search-clause-spared : goal.returns-in-Ok-read_search-clause-spared
+returns-in-Ok-read_search-clause-spared g c told =
+    let past = g.D.Disk.past in
+    let now = g.D.Disk.now in
+    let state = c.in-Ok-read_search.state in
+    if_err_all c.continue_journal.result (λ e. NoMomentPasses (past c.args.disk) (now c.args.disk) (past e.1) (now e.1) ⊎ StandsForSome (now c.args.disk).seen)
+    (λ e. inr (state.state.problem, (payloads_of c.in-Ok.scanned, state.history, c.in-Ok.ensures.records told, c.in-Ok-read_search.ensures.read.stands)))

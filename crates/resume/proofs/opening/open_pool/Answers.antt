@@ -1,18 +1,19 @@
-use Rattle.std.proofs.Common.{sym, subst, refl, inl, ◌∙◌, ◌≡◌, ◌<◌, ◌^◌, List, [], ◌∷◌, ℕ, length}
+use Rattle.std.specs.Prelude.{◌⊎◌}
+use Rattle.std.proofs.Common.{sym, subst, refl, inl, inr, ap, ◌∙◌, ◌≡◌, ◌<◌, ◌^◌, List, [], ◌∷◌, ℕ, length}
 use Rattle.problem.specs.Problem.{Problem}
-use Rattle.outside.specs.Images.{LeavesOnly}
+use Rattle.outside.specs.Images.{LeavesOnly, NoMomentPasses}
 use Rattle.event_codec.specs.Models.{model_code}
 use Rattle.event_core.specs.declared.entry.Entry.{Entry}
 use Rattle.event_core.specs.Rooms.{Recorded}
 use Rattle.event_core.specs.States.{State, first_state}
-use Rattle.node_journal.specs.Records.{records}
+use Rattle.node_journal.specs.Records.{Holds, records}
 use Rattle.node_journal.specs.Views.{payloads_of}
 use Rattle.node_journal.specs.Whole.{payloads_in}
-use Rattle.resume.specs.Journals.{StandsFor, IsReadFrom}
+use Rattle.resume.specs.Journals.{StandsFor, IsFreshOrOf, IsReadFrom}
 use Rattle.resume.specs.Crashes.{IsAsBefore, IsAsBeforeOrBegun}
 use Rattle.resume.proofs.Models.{own_model, small_model}
 use Rattle.resume.proofs.KeptHistories.{untouched_history}
-use Rattle.resume.proofs.Recovering.{untouched, behind_scan, still_rests, stands_alone, if_both, if_then, if_err}
+use Rattle.resume.proofs.Recovering.{untouched, behind_scan, still_rests, stands_alone, if_both, if_then, if_err, if_err_all, none_held}
 use Rattle.resume.proofs.opening.open_pool.Goals as goal
 
 pub returns-in-Err-clause-any_moment_err : goal.returns-in-Err-clause-any_moment_err
@@ -87,3 +88,33 @@ returns-then-count-eq0-clause-read g c =
           (stands_alone c.args.problem c.deref.result.now
           (own_model c.deref.result.now c.args.text.now c.args.upper c.args.problem (c.deref.ensures.value ∙ c.in-Ok-encode_model.ensures) c.requires.model))),
     ))
+
+pub returns-in-Err-clause-spared : goal.returns-in-Err-clause-spared
+returns-in-Err-clause-spared g c told = inl c.scan.ensures.stands
+
+pub returns-in_default-clause-spared : goal.returns-in_default-clause-spared
+returns-in_default-clause-spared g c told = inl c.scan.ensures.stands
+
+pub returns-in-Err-read_search_of-clause-spared : goal.returns-in-Err-read_search_of-clause-spared
+returns-in-Err-read_search_of-clause-spared g c told = inl c.scan.ensures.stands
+
+pub returns-then-count-eq0-clause-spared : goal.returns-then-count-eq0-clause-spared
+returns-then-count-eq0-clause-spared g c told =
+    let past = g.D.Disk.past in
+    let now = g.D.Disk.now in
+    if_err_all c.begin_search.result (λ e. NoMomentPasses (past c.args.disk) (now c.args.disk) (past e.1) (now e.1) ⊎ IsFreshOrOf (model_code c.args.text.now c.args.upper) c.args.problem (now c.args.disk).seen)
+    (λ e. inr (inl (c.in-Ok.ensures.records told ∙ ap Holds (none_held (payloads_of c.in-Ok.scanned) (sym c.count.ensures ∙ c.if-count-eq0.true)))))
+
+pub returns-in-Ok-read_search_of-clause-spared : goal.returns-in-Ok-read_search_of-clause-spared
+returns-in-Ok-read_search_of-clause-spared g c told =
+    let past = g.D.Disk.past in
+    let now = g.D.Disk.now in
+    let state = c.in-Ok-read_search_of.state in
+    if_err_all c.continue_journal.result (λ e. NoMomentPasses (past c.args.disk) (now c.args.disk) (past e.1) (now e.1) ⊎ IsFreshOrOf (model_code c.args.text.now c.args.upper) c.args.problem (now c.args.disk).seen)
+    (λ e. inr (inr (
+      payloads_of c.in-Ok.scanned,
+      state.history,
+      c.in-Ok.ensures.records told,
+      c.in-Ok-read_search_of.ensures.model ∙ c.deref-2.ensures.value ∙ c.in-Ok-encode_model.ensures,
+      subst (λ (q : Problem). StandsFor q (payloads_of c.in-Ok.scanned) state.history) c.in-Ok-read_search_of.ensures.problem c.in-Ok-read_search_of.ensures.read.stands,
+    )))

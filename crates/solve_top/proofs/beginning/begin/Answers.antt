@@ -2,7 +2,7 @@ use Rattle.std.specs.Prelude.{refl}
 use Rattle.solve_top.specs.Changes.{disk_change, source_change}
 use Rattle.solve_top.specs.Models.{IsOwnProblem}
 use Rattle.solve_top.proofs.Opened.{kept_untouched}
-use Rattle.solve_top.proofs.Performing.{alone_by, drills, left_alone, resumes, shown, solves}
+use Rattle.solve_top.proofs.Performing.{alone_shown, drills, left_alone, resumes, shown, solves}
 use Rattle.solve_top.proofs.beginning.begin.Goals as goal
 
 pub solve-requires-clause-solves : goal.solve-requires-clause-solves
@@ -23,7 +23,7 @@ returns-in-Show g c = λ cert nothing unwritten.
     let d = disk_change g.D.Disk.tells g.D.Disk.past g.D.Disk.now g.D.Disk.count c.args.disk c.show-outcome.new.disk in
     let untouched = left_alone d c.show-outcome.result c.show-outcome.ensures in
     record {
-      alone = alone_by c.args.request.now d untouched;
+      alone = alone_shown c.args.request.now m d c.in-Show.is untouched;
       outcome = shown c.args.request.now c.in-Show.is m d cert c.show-outcome.result c.show-outcome.ensures refl nothing unwritten;
       journal = λ told rests. kept_untouched g.D.Disk.tells g.D.Disk.past g.D.Disk.now g.D.Disk.count c.args.disk c.show-outcome.new.disk untouched rests (IsOwnProblem c.args.request.now m d);
     }

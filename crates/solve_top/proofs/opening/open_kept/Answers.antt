@@ -1,3 +1,4 @@
+use Rattle.std.proofs.Common.{inr}
 use Rattle.solve_top.proofs.Opened.{before_or_begun, not_by_disk, same_model}
 use Rattle.solve_top.proofs.opening.open_kept.Goals as goal
 
@@ -5,6 +6,7 @@ pub returns-in-Ok-clause-opened : goal.returns-in-Ok-clause-opened
 returns-in-Ok-clause-opened g c = λ told. record {
   next = c.in-Ok.ensures.opened told;
   begun = (c.history_holds.ensures.kept told).begun;
+  held = inr (_, c.in-Ok.ensures.held told, same_model _ _ (c.in-Ok.ensures.held told), c.in-Ok.ensures.stands told);
   of_model = same_model _ _ (c.in-Ok.ensures.held told);
   stands = c.in-Ok.ensures.stands told;
   all = c.in-Ok.ensures.kept told;
@@ -19,3 +21,6 @@ returns-in-Err-clause-kept g c = λ told rests. record {
   any_moment = before_or_begun _ _ _ _ _ _ (c.in-Err.ensures.any_moment_err told rests);
   rests = λ calm. c.in-Err.ensures.rests_err told rests (not_by_disk _ _ _ c.in-Err.ensures.cause_err calm);
 }
+
+pub returns-in-Ok-clause-stood : goal.returns-in-Ok-clause-stood
+returns-in-Ok-clause-stood g c = λ told. (_, c.in-Ok.ensures.held told, c.in-Ok.ensures.stands told)

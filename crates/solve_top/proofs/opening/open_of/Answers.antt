@@ -1,18 +1,18 @@
-use Rattle.std.specs.Prelude.{ℕ, List}
+use Rattle.std.specs.Prelude.{◌⊎◌, ℕ, List}
 use Rattle.std.proofs.Common.{subst, sym}
 use Rattle.problem.specs.Problem.{Problem}
-use Rattle.outside.specs.Images.{LeavesOnly}
+use Rattle.outside.specs.Images.{LeavesOnly, NoMomentPasses}
 use Rattle.event_codec.specs.Models.{model_code}
 use Rattle.node_journal.specs.Records.{records}
 use Rattle.node_journal.specs.Whole.{payloads_in}
 use Rattle.resume.specs.Crashes.{IsAsBeforeOrBegun}
-use Rattle.resume.specs.Journals.{StandsFor}
+use Rattle.resume.specs.Journals.{StandsFor, IsFreshOrOf}
 use Rattle.resume.specs.Refusals.{Refuses, RefusesPayloadsFor}
 use Rattle.solve_top.specs.declared.outcome.Refusal.{Refusal}
 use Rattle.solve_top.specs.Changes.{disk_change}
 use Rattle.solve_top.specs.Journals.{IsUnopened}
 use Rattle.solve_top.specs.Models.{record_of}
-use Rattle.solve_top.proofs.Opened.{first_is, not_by_disk, record_is, unopened_by}
+use Rattle.solve_top.proofs.Opened.{first_is, held_events, not_by_disk, record_is, unopened_by}
 use Rattle.solve_top.proofs.opening.open_of.Goals as goal
 
 pub returns-in-Ok-clause-opened : goal.returns-in-Ok-clause-opened
@@ -20,6 +20,8 @@ returns-in-Ok-clause-opened g c = λ told.
     let is = record_is _ _ _ c.args.upper c.deref.ensures.value c.recorded.ensures in record {
       next = c.in-Ok.ensures.opened told;
       begun = (c.history_holds.ensures.kept told).begun;
+      held = held_events _ _ _ (g.D.Disk.now c.args.disk).seen _ (c.in-Ok.ensures.held told) (first_is _ _ (model_code c.deref.result.now c.recorded.result) (record_of c.args.model.text.items c.args.upper) (c.in-Ok.ensures.journal told) is)
+          (subst (λ (p : Problem). StandsFor p (payloads_in (g.D.Disk.now c.in-Ok.pool.journal.disk)) c.in-Ok.pool.state.history) (sym c.in-Ok.ensures.problem) (c.in-Ok.ensures.stands told));
       of_model = first_is _ _ (model_code c.deref.result.now c.recorded.result) (record_of c.args.model.text.items c.args.upper) (c.in-Ok.ensures.journal told) is;
       stands = subst (λ (p : Problem). StandsFor p (payloads_in (g.D.Disk.now c.in-Ok.pool.journal.disk)) c.in-Ok.pool.state.history) (sym c.in-Ok.ensures.problem) (c.in-Ok.ensures.stands told);
       all = c.in-Ok.ensures.kept told;
@@ -48,3 +50,9 @@ returns-clause-kept g c = λ told rests.
           (c.in-Err.ensures.any_moment_err told rests);
       rests = λ calm. c.in-Err.ensures.rests_err told rests (not_by_disk _ _ _ c.in-Err.ensures.cause_err calm);
     }
+
+pub returns-clause-spared : goal.returns-clause-spared
+returns-clause-spared g c = λ told.
+    let is = record_is _ _ _ c.args.upper c.deref.ensures.value c.recorded.ensures in
+    subst (λ (l : List ℕ). NoMomentPasses (g.D.Disk.past c.args.disk) (g.D.Disk.now c.args.disk) (g.D.Disk.past c.in-Err.disk) (g.D.Disk.now c.in-Err.disk) ⊎ IsFreshOrOf l c.args.model.problem (g.D.Disk.now c.args.disk).seen) is
+    (c.in-Err.ensures.spared told)

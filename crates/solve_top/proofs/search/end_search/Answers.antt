@@ -1,9 +1,11 @@
 use Rattle.std.specs.Prelude.{◌≤◌, ℕ, max, length}
 use Rattle.std.proofs.Common.{◌∙◌, ap, sym, subst}
 use Rattle.event_core.specs.Rooms.{Recorded}
+use Rattle.node_journal.specs.Whole.{payloads_in}
+use Rattle.node_pool.specs.Payloads.{model_in}
 use Rattle.solve_top.specs.Requests.{limits_in}
 use Rattle.solve_top.specs.Searchers.{GoesOnByWorkers}
-use Rattle.solve_top.proofs.Searching.{counted, within_limits, kept_search, stands_search}
+use Rattle.solve_top.proofs.Searching.{counted, read_back, within_limits, kept_search, stands_search}
 use Rattle.solve_top.proofs.search.end_search.Goals as goal
 
 pub returns : goal.returns
@@ -20,9 +22,11 @@ returns g c = λ old ready on.
           (subst (λ (r : Recorded). length r.state.nodes ≤ max (limits_in q).nodes (length old.state.state.nodes)) (sym same)
           (subst (λ (n : ℕ). length pool.state.state.nodes ≤ max n (length old.state.state.nodes)) ready.budget on.within_budget))
           (subst (λ (r : Recorded). length r.state.cuts ≤ max (limits_in q).cuts (length old.state.state.cuts)) (sym same) on.within_cuts);
+      read = read_back q old.state left.0 ready.read (subst (λ (r : Recorded). GoesOnByWorkers (limits_in q).workers old.state r) (sym same) on.goes_on);
       solution = c.conclude-outcome.ensures.solution;
       cause = counted g.D.Disk.count old.journal.disk pool.journal.disk left.1 c.part-state.ensures.disk _ _ c.conclude-outcome.ensures.disk on.cause;
       seen = c.part-state.ensures.seen;
+      model = λ told. ap (λ x. model_in (payloads_in (g.D.Disk.now x))) c.part-state.ensures.disk ∙ on.model told;
       kept = λ told model.
           kept_search g.D.Disk.tells g.D.Disk.past g.D.Disk.now g.D.Disk.count old.journal.disk pool.journal.disk left.1 c.part-state.ensures.disk old.state pool.state left.0 same
           on.problem ready.state ready.read c.conditions_hold.ensures.state c.conditions_hold.ensures.legal _ c.problem.ensures c.journals_are_legal.ensures c.history_holds.ensures.stored
