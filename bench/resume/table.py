@@ -13,7 +13,11 @@ MODELS = (
     ("knapsack", 100, 10, 1, 5_001),
     ("cover", 120, 300, 1, 101),
 )
-LONG = ("knapsack", 50, 5, 2, 50_001)  # its journal has 50,002 events
+# the same with the most cuts: without cuts the journal has 50,002 events
+LONG = (
+    ("knapsack", 50, 5, 2, 50_001, 0),
+    ("knapsack", 50, 5, 1, 20_001, 256),
+)
 RUNS = 5
 SPENT = 8
 
@@ -45,17 +49,17 @@ def number(lines, name):
     return int(next(line.split()[1] for line in lines.splitlines() if line.startswith(name + " ")))
 
 
-def solve(model, budget):
+def solve(model, budget, cuts):
     """A search that is spent, with its journal from the beginning: its nodes and its time."""
     if os.path.exists(journal):
         os.remove(journal)
-    lines, seconds, _ = run(program, "solve", model, journal, certificate, "--cuts", 0, "--nodes", budget, status=SPENT)
+    lines, seconds, _ = run(program, "solve", model, journal, certificate, "--cuts", cuts, "--nodes", budget, status=SPENT)
     return number(lines, "nodes"), seconds
 
 
-def search(model, budget):
+def search(model, budget, cuts):
     """The same search with no file: its nodes and its time."""
-    lines, seconds, _ = run(bench, "search", model, budget, 0)
+    lines, seconds, _ = run(bench, "search", model, budget, cuts)
     return int(lines.split()[1]), seconds
 
 
@@ -63,7 +67,7 @@ def search_row(name, model, budget):
     with_file, without = [], []
     for turn in range(RUNS):
         for call, times in ((solve, with_file), (search, without))[:: 1 if turn % 2 else -1]:
-            times.append(call(model, budget))
+            times.append(call(model, budget, 0))
     if {nodes for nodes, _ in with_file + without} != {budget}:
         sys.exit(f"{name}: the searches have other nodes")
     least, least_without = (min(seconds for _, seconds in times) for times in (with_file, without))
@@ -90,6 +94,8 @@ def read_row(command, words, status):
 print("each line: the program, then the search with no file, and the ratio of their processor times")
 for kind, columns, rows, seed, budget in MODELS:
     search_row(f"{kind} {columns} x {rows}, {seed}", make(kind, columns, rows, seed), budget)
-solve(make(*LONG[:4]), LONG[4])
-read_row("show", (), 0)
-read_row("resume", (certificate, "--cuts", 0, "--nodes", LONG[4]), SPENT)
+for kind, columns, rows, seed, budget, cuts in LONG:
+    print(f"{kind} {columns} x {rows}, {seed}, cuts {cuts}:")
+    solve(make(kind, columns, rows, seed), budget, cuts)
+    read_row("show", (), 0)
+    read_row("resume", (certificate, "--cuts", cuts, "--nodes", budget), SPENT)
