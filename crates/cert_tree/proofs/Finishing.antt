@@ -3,7 +3,7 @@ use Rattle.std.specs.Prelude.{◌≡◌, ◌<◌, ℤ, pos, List, [], ◌∷◌,
 use Rattle.std.proofs.Common.{sym, ap, ◌∙◌, subst, inl, inr, arith}
 use Rattle.std.proofs.lemmas.Int.{ints}
 use Rattle.std.proofs.lemmas.List.Elements.{All-nil, All-cons}
-use Rattle.fraction.specs.Rational.{ℚ, whole, ◌≤ℚ◌}
+use Rattle.fraction.specs.Rational.{whole, ◌≤ℚ◌}
 use Rattle.fraction.specs.Lemmas.Order.{same_le, less_most}
 use Rattle.problem.specs.declared.row.Row.{Row}
 use Rattle.problem.specs.Problem.{Problem}

@@ -1,5 +1,5 @@
 -- What incumbents promise.
-use Rattle.std.specs.Prelude.{ℤ, List, Option, IsSomeAnd}
+use Rattle.std.specs.Prelude.{Option, IsSomeAnd}
 use Rattle.fraction.specs.Rational.{ℚ, ◌≤ℚ◌}
 use Rattle.problem.specs.Problem.{Problem}
 use Rattle.incumbent.specs.declared.best.Best.{Best}

@@ -1,5 +1,5 @@
 -- Points that become the incumbent.
-use Rattle.std.specs.Prelude.{◌≡◌, ℤ, Bool, true, List, Option, Some, None}
+use Rattle.std.specs.Prelude.{◌≡◌, Bool, true, Option, Some, None}
 use Rattle.std.specs.Option.{ForSome}
 use Rattle.std.specs.Ordering.{is_lt}
 use Rattle.fraction.specs.Rational.{ℚ}
