@@ -73,7 +73,7 @@ pub record IsKeptUnopened (model : List ℕ) (d : DiskChange) : Type 0 where
   pub rests : ¬ Rises d.faults → AtRest d.now_after
 
 -- Nothing is written on a disk, however the command ends, but by `solve` where it held no payload or a journal of its model, and by `resume` where it
--- held a journal. A drill calls the disk at no time.
+-- held a journal. A drill counts no fault of the disk either.
 abbrev pub LeavesAlone : Request → SourceChange → DiskChange → Type 0
 LeavesAlone (Solve limits upper) m d = m.tells ≡ true → d.tells ≡ true → IsUntouched d ⊎ ((p : Problem) × Reads m.text upper p × IsFreshOrOf (record_of m.text upper) p d.now_before.seen)
 LeavesAlone (Resume limits) m d = d.tells ≡ true → IsUntouched d ⊎ StandsForSome d.now_before.seen
