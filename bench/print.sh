@@ -1,20 +1,8 @@
 #!/bin/sh
-# How fast a certificate is printed into memory: 200,000 derived lines by the crate vipr_print, beside the same lines by `write!` in plain
-# Rust (bench/print/plain.rs), in one run on one machine, the least of five. Build the program first: `rt run` in crates/vipr_print_bench.
+# How fast a certificate is made and printed: the built program solves an equation of 18 columns without a solution, and then resumes the
+# finished search, which prints its certificate again into memory (/dev/shm). What `show` takes on the same journal, which is read alike, is
+# taken off. Beside it plain Rust (bench/print/plain.rs), which has the same lines in memory and prints them by `write!`, each by one write to
+# the file, as the program does; in one run on one machine, the least of five. Build the program first: `make test`, or `make build`.
 . "$(dirname "$0")/common.sh"
-prepare vipr_print_bench print
-for run in 1 2 3 4 5; do
-    "$work/plain" >>"$work/plain.txt"
-    "$proved" time >>"$work/proved.txt"
-done
-python3 - "$work/plain.txt" "$work/proved.txt" <<'END'
-import sys
-
-
-def fastest(path):
-    return min(tuple(map(int, line.split()[:2])) for line in open(path))
-
-
-(plain, length), (proved, printed) = fastest(sys.argv[1]), fastest(sys.argv[2])
-print(f"plain Rust {length / plain * 1000:6.0f} MB/s  vipr_print {printed / proved * 1000:6.0f} MB/s  time ratio {proved / printed / (plain / length):5.2f}")
-END
+prepare bnc_cli print /dev/shm
+python3 bench/print/table.py "$work" "$work/plain" "$proved"

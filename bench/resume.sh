@@ -1,11 +1,9 @@
 #!/bin/sh
-# What its journal costs a search, and how fast a journal is read again. First the program's search with a journal in memory (/dev/shm)
-# beside that of core_search_bench, whose journal is no file: the processor time of both, and the ratio. Then `show` and `resume` of a
-# journal of 50,000 events without cuts, and of one of 20,000 nodes with 256 cuts: events a second, and the peak of the memory beside the
-# journal's size. Where another program of the same commands is named, it reads the same journal, and the ratio to its time is printed too.
-# Build the programs first: `rt run` in crates/bnc_cli and in crates/core_search_bench.
+# How fast a journal is read again. First `show` and `resume` of a journal in memory (/dev/shm) of 50,000 events without cuts, and of one of
+# 20,000 nodes with 256 cuts: events a second, and the peak of the memory beside the journal's size. Then the same of journals of deep trees:
+# of two equality knapsacks, beside the processor time of the search that wrote them, and `show` of a chain of 100,000 splits
+# (resume/chain.py). Where another program of the same commands is named, it reads the same journals, and the ratio to its time is printed
+# too. Build the program first: `make test`, or `make build`.
 . "$(dirname "$0")/common.sh"
-prepare core_search_bench "" /dev/shm
-program=$PWD/crates/bnc_cli/out/bnc_cli
-[ -x "$program" ] || { echo "no $program: call make test, or rt run in crates/bnc_cli" >&2; exit 1; }
-python3 bench/resume/table.py "$work" "$proved" "$program" "$@"
+prepare bnc_cli "" /dev/shm
+python3 bench/resume/table.py "$work" "$proved" "$@"

@@ -1,8 +1,7 @@
 #!/bin/sh
-# How fast the proved search and its dual simplex are, beside the same in plain Rust on whole numbers without events (bench/search/plain.rs), in one
-# run on one machine, on knapsacks and set covers (bench/search/models.py): nodes and pivots a second. Then the bytes that an event takes beside the
-# numbers that it carries. It builds the program first, which proves what isn't proved yet.
+# How fast the built program's search and its dual simplex are, beside the same in plain Rust on whole numbers without events and without a journal
+# (bench/search/plain.rs), in one run on one machine, on knapsacks and set covers (bench/search/models.py): nodes and pivots a second. The
+# program's journal lies in memory (/dev/shm). Build the program first: `make test`, or `make build`.
 . "$(dirname "$0")/common.sh"
-(cd crates/core_search_bench && rt run >/dev/null)
-prepare core_search_bench search
+prepare bnc_cli search /dev/shm
 python3 bench/search/table.py "$work/plain" "$proved" "$work"

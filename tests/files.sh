@@ -3,7 +3,7 @@
 # certificate is whole where the status says so, that the journal has what it should, and that no other file of the user's changes. It prints a line
 # for each case, and ends with status 1 if any failed. It says what can't be tried on a machine.
 #
-# A case runs a command in a folder of its own, in which the model stands as one.mps, and the journal of its finished search as j. Then each
+# A case runs a command in a folder of its own, with standard error in a file beside it, in which the model stands as one.mps, and the journal of its finished search as j. Then each
 # FILE=TEXT has to hold: the file is this text, or isn't there where the text is 'none'. One.mps and j have to be as they were, unless the case
 # says otherwise.
 set -eu
@@ -42,7 +42,7 @@ try() {
     cp "$texts/model" one.mps
     cp "$texts/journal" j
     chmod 666 j
-    (set +e; eval "$command") || status=$?
+    (set +e; eval "$command") 2>"$scratch/$tried.err" || status=$?
     [ "$status" = "$wanted" ] || why=" status $status and not $wanted;"
     for pair; do
         if [ "${pair#*=}" = none ]; then
@@ -55,6 +55,7 @@ try() {
         echo "ok: $name"
     else
         echo "FAILED: $name:$why"
+        sed 's/^/    /' "$scratch/$tried.err"
         failed=$((failed + 1))
     fi
 }
@@ -103,12 +104,10 @@ printf '%s\n' 'events 2' 'nodes 1' 'cuts 0' 'open 0' 'best 6' | text shown
 echo 'earlier text' | text earlier
 seq 10000 | text long
 text empty </dev/null
+tail -n +2 "$texts/model" | text part_of_model
 cat "$texts/earlier" "$texts/both" | text earlier_both
 cat "$texts/earlier" "$texts/cert" | text earlier_cert
 cat "$texts/both" "$texts/earlier" | text both_earlier
-cat "$texts/model" "$texts/sink" | text model_sink
-cat "$texts/journal" "$texts/sink" | text journal_sink
-cat "$texts/journal" "$texts/lines" | text journal_lines
 printf '%s\n' spent 'nodes 1' 'cuts 0' 'open 1' | text spent
 
 # Journals that are torn, damaged, or of another model, and where that shows.
@@ -232,6 +231,23 @@ done
 for cert in ./j '$PWD/j' hard soft; do
     try "the certificate of a search that is resumed is the journal: $cert" 7 "$links; bnc resume j $cert >out" out=sink hard=journal
 done
+
+# The certificate is another journal, or a copy of the model. Nothing is searched then.
+try 'the certificate and the journal are exchanged' 7 'bnc solve one.mps c j >out' out=sink c=none
+try 'the certificate of a drill is a journal' 7 'bnc drill 7 j >out' out=sink
+try 'the certificate is another journal' 7 'cp j k; bnc solve one.mps new k >out' out=sink k=journal new=none
+try 'the certificate is a journal that is begun' 7 'cp "$texts/begun" k; bnc resume j k >out' out=sink k=begun
+try 'the certificate is a damaged journal' 7 'cp "$texts/torn" k; bnc solve one.mps new k >out' out=sink k=torn new=none
+try 'the certificate is the mark alone' 7 'printf BNCJRNL1 | tee k >k2; bnc solve one.mps new k >out; status=$?; cmp k k2; exit $status' out=sink new=none
+try 'the certificate is the model of the journal' 7 'bnc resume j one.mps >out' out=sink
+try 'the certificate is the model of a journal that is begun' 7 'cp "$texts/begun" j; bnc resume j one.mps >out' out=sink j=begun
+for command in 'solve one.mps new copy' 'solve one.mps j copy' 'resume j copy' 'solve /dev/stdin j copy'; do
+    try "the certificate is a copy of the model: $command" 7 "cp one.mps copy; bnc $command <one.mps >out" out=sink copy=model new=none
+done
+try 'the certificate is a copy of the model, which comes through a pipe' 7 'cp one.mps copy; cat one.mps | bnc solve /dev/stdin new copy >out' out=sink copy=model new=journal
+for cert in two part_of_model empty cert; do
+    try "the certificate is no copy of the model: $cert" 0 "cp \"\$texts/$cert\" c; bnc solve one.mps new c >out; bnc resume j c >again" out=lines again=lines c=cert new=journal
+done
 try 'the certificate and the journal are one new file' 7 'bnc solve one.mps new ./new >out' out=sink new=journal
 try 'the journal is the model by another name' 4 'bnc solve one.mps ./one.mps c >out' out=NotAJournal c=none
 try 'the model comes through a pipe' 0 'cat one.mps | bnc solve /dev/stdin j c >out' c=cert out=lines
@@ -301,8 +317,11 @@ done
 try 'the journal is in no folder' 6 'bnc solve one.mps none/j c >out' c=none out=disk none=none
 try 'the folder of a new journal may only be read' 6 'mkdir -m 555 d; bnc_as_user solve one.mps d/j c >out; status=$?; chmod 755 d; exit $status' out=disk d/j=none c=none
 try 'the journal may only be read, and is shown' 0 'chmod 444 j; bnc_as_user show j >out' out=shown
-try 'the journal may only be read' 6 'chmod 444 j; bnc_as_user solve one.mps j c >out' out=disk c=none
-try 'the journal may only be read, and is resumed' 6 'chmod 444 j; bnc_as_user resume j c >out' out=disk c=none
+try 'the journal may only be read, and is finished' 0 'chmod 444 j; bnc_as_user solve one.mps j c >out' out=lines c=cert
+try 'the journal may only be read, is finished, and is resumed' 0 'chmod 444 j; bnc_as_user resume j c >out' out=lines c=cert
+for name in begun part bare; do
+    try "the journal may only be read: $name" 6 "cp \"\$texts/$name\" j; chmod 444 j; bnc_as_user solve one.mps j c >out" out=disk c=none j=$name
+done
 if command -v flock >/dev/null; then
     try 'the journal is in use' 6 'flock j "$scratch/bnc" solve one.mps j c >out' out=disk c=none
     try 'the journal is in use, and only begun' 6 'cp "$texts/begun" j; flock j "$scratch/bnc" resume j c >out' j=begun out=disk c=none
@@ -313,8 +332,10 @@ if command -v flock >/dev/null; then
 else
     echo 'not tried, for want of the command flock: a journal or a certificate that is in use'
 fi
-try 'the certificate is the journal, which is renamed while the search goes on' 7 'cp "$texts/odd" m; bnc solve m k c --cuts 0 >out & until [ -e k ] && [ "$(stat -c %s k)" -gt 1000 ]; do :; done
-    mv k c; wait $! || status=$?; bnc show c | grep -qx "open 0"; exit $status' out=sink k=none
+search='cp "$texts/odd" m; bnc solve m k c --cuts 0 >out & until [ -e k ] && [ "$(stat -c %s k)" -gt 1000 ]; do :; done'
+try 'the journal is removed while the search goes on' 6 "$search; rm k; wait \$!" out=disk k=none c=none
+try 'the journal is replaced while the search goes on' 6 "$search; cp one.mps n; mv n k; wait \$!" out=disk k=model c=none
+try 'the certificate is the journal, which is renamed while the search goes on' 7 "$search; mv k c; wait \$! || status=\$?; bnc show c | grep -qx 'open 0'; exit \$status" out=sink k=none
 
 # The disk is full.
 try 'no file may get longer' 6 'set -o pipefail; (trap "" XFSZ; ulimit -f 0; bnc solve one.mps new c) | cat >out' out=disk new=empty c=none
@@ -325,7 +346,8 @@ if mount -t tmpfs -o size=8k,mode=777 tmpfs "$scratch/small" 2>/dev/null; then
     fill='ln -s "$scratch/small" d; rm -f d/*; { printf "%9000s" >d/filler; } 2>/dev/null'
     try 'the disk is full' 6 "$fill; bnc solve one.mps d/j c >out" out=disk d/j=empty c=none
     try 'the disk was full' 0 "$fill; bnc solve one.mps d/j c >first || rm d/filler; bnc solve one.mps d/j c >out" first=disk out=lines d/j=journal c=cert
-    try 'the disk of the certificate is full' 7 "$fill; bnc solve one.mps j d/c >out" out=sink d/c=empty
+    try 'the disk of the certificate is full' 7 "$fill; bnc solve one.mps j d/c >out" out=sink d/c=none d/c.1.part=none
+    try 'the disk of an older certificate is full' 7 "$fill; rm d/filler; cp \"\$texts/earlier\" d/c; { printf '%9000s' >d/filler; } 2>/dev/null; bnc solve one.mps j d/c >out" out=sink d/c=earlier d/c.1.part=none
 else
     echo 'not tried, since no file system may be mounted here: a small disk that is full'
 fi
@@ -341,10 +363,18 @@ try 'standard output has a text behind' 0 '{ bnc solve one.mps j out; cat "$text
 try 'standard output is a pipe' 0 'set -o pipefail; bnc solve one.mps j /dev/stdout | cat >out' out=both
 try 'standard output is a pipe that nobody reads' 7 'mkfifo pipe; exec 4<>pipe 5>pipe 4<&-; bnc solve one.mps j /dev/stdout >&5'
 try 'standard output is open for reading alone' 7 'cp "$texts/earlier" in; bnc solve one.mps j /dev/stdout 1<in' in=earlier
-try 'standard output goes on behind the model' 7 'bnc solve one.mps j /dev/stdout >>one.mps' one.mps=model_sink
-try 'standard output goes on behind the journal' 7 'bnc solve one.mps j /dev/stdout >>j' j=journal_sink
-try 'the lines go on behind the journal' 0 'bnc solve one.mps j c >>j' j=journal_lines c=cert
-try 'the lines went on behind the journal' 0 'bnc solve one.mps j c >>j; bnc solve one.mps j c >out' out=lines c=cert
+
+# Standard output, or standard error, is the model or a journal.
+for cert in /dev/stdout c; do
+    try "standard output goes on behind the model: $cert" 7 "bnc solve one.mps j $cert >>one.mps" c=none
+    try "standard output goes on behind the journal: $cert" 7 "bnc solve one.mps j $cert >>j" c=none
+    try "standard output is the journal, which the shell has emptied: $cert" 7 "bnc solve one.mps j $cert >j" j=empty c=none
+    try "standard output goes on behind another journal: $cert" 7 "cp j k; bnc solve one.mps new $cert >>k" k=journal c=none new=none
+done
+try 'standard output goes on behind the journal, which is shown' 7 'bnc show j >>j'
+try 'standard error goes on behind the model' 6 'bnc solve one.mps d/j c >out 2>>one.mps' out=disk c=none
+try 'standard error goes on behind the journal' 5 'bnc solve none j c >out 2>>j' out=read c=none
+try 'standard error goes on behind another journal' 5 'cp j k; bnc solve none j c >out 2>>k' out=read c=none k=journal
 try 'the certificate is standard error' 0 'bnc solve one.mps j /dev/stderr >out 2>err' out=lines err=cert
 try 'the certificate is standard error, behind other text' 0 'cp "$texts/earlier" err; bnc solve one.mps j /dev/stderr >out 2>>err' out=lines err=earlier_cert
 try 'standard output and standard error are one file' 0 'bnc solve one.mps j /dev/stderr >out 2>&1' out=both
@@ -354,11 +384,89 @@ else
     echo 'not tried, for want of the command script: standard output is a terminal'
 fi
 
+if command -v python3 >/dev/null; then
+    # The pipe is full when the program starts, and is read a while later.
+    cat >"$scratch/unblocked" <<'END'
+import os, subprocess, sys, time
+reader, writer = os.pipe()
+os.set_blocking(writer, False)
+filled = 0
+try:
+    while True:
+        filled += os.write(writer, bytes(4096))
+except BlockingIOError:
+    pass
+run = subprocess.Popen(sys.argv[1:], stdout=writer)
+time.sleep(0.3)
+os.close(writer)
+with open(reader, "rb") as pipe:
+    told = pipe.read()
+sys.stdout.buffer.write(told[filled:])
+sys.exit(run.wait(60))
+END
+    try 'standard output does not block, and is full at first' 0 'python3 "$scratch/unblocked" "$scratch/bnc" solve one.mps j c >out' out=lines c=cert
+    try 'the certificate goes to standard output, which does not block' 0 'python3 "$scratch/unblocked" "$scratch/bnc" solve one.mps j /dev/stdout >out' out=both
+else
+    echo 'not tried, for want of the command python3: standard output that does not block'
+fi
+
+# Calls of the system that fail, or end the program.
+if strace -o /dev/null true 2>/dev/null; then
+    failing() { timeout 60 strace -f -o /dev/null -e "inject=$1" "$scratch/bnc" "${@:2}"; }
+    for error in EINVAL EIO; do
+        try "the certificate can't be synced: $error" 7 "cp \"\$texts/earlier\" c; failing fsync:error=$error drill 7 c >out" out=sink c=earlier c.1.part=none
+        try "the journal can't be synced: $error" 6 "failing fsync:error=$error solve one.mps new c >out" out=disk c=none
+    done
+    try 'what is no plain file is not synced' 0 'failing fsync:error=EINVAL drill 7 /dev/null >out; status=$?; failing fsync:error=EIO drill 7 /dev/stdout >both; exit $status'
+    try "the certificate can't be put in its place" 7 'cp "$texts/earlier" c; failing rename,renameat,renameat2:error=EBUSY solve one.mps j c >out' out=sink c=earlier c.1.part=none
+    try 'a run is killed before its certificate is in its place' 0 'cp "$texts/earlier" c; { failing rename,renameat,renameat2:signal=KILL solve one.mps j c >out; } 2>/dev/null; [ $? = 137 ] && cp c before && bnc solve one.mps j c >out' \
+        before=earlier c.1.part=cert out=lines c=cert
+else
+    echo 'not tried, for want of the command strace: calls of the system that fail'
+fi
+
+# What a person is told on standard error.
+told() { echo "bnc: $1" | text "told"; }
+told "unexpected argument '--node' found; see man bnc"
+try 'told of a wrong word' 2 'bnc solve one.mps j c --node 5 >out 2>err' out=usage err=told c=none
+told 'two of the paths are the same; see man bnc'
+try 'told of equal paths' 2 'bnc resume j j >out 2>err' out=usage err=told
+told 'a word is not UTF-8; see man bnc'
+try 'told of a word that is not UTF-8' 2 'bnc show "$(printf "\377")" >out 2>err' out=usage err=told
+told 'none: No such file or directory (os error 2)'
+try 'told of a model that is not there' 5 'bnc solve none j c >out 2>err' out=read err=told c=none
+told 'd/j: No such file or directory (os error 2)'
+try 'told of a journal in no folder' 6 'bnc solve one.mps d/j c >out 2>err' out=disk err=told c=none
+told 'd: it is no plain file'
+try 'told of a journal that is a folder' 6 'mkdir d; bnc show d >out 2>err' out=disk err=told
+told 'd/c: No such file or directory (os error 2)'
+try 'told of a certificate in no folder' 7 'bnc solve one.mps j d/c >out 2>err' out=sink err=told
+told 'j: it is a journal'
+try 'told of a certificate that is a journal' 7 'bnc drill 7 j >out 2>err' out=sink err=told
+told './j: it is the model or the journal'
+try 'told of a certificate that is the journal' 7 'bnc resume j ./j >out 2>err' out=sink err=told
+told 'one.mps: it is a copy of the model'
+try 'told of a certificate that is a copy of the model' 7 'bnc resume j one.mps >out 2>err' out=sink err=told
+told 'standard output: No space left on device (os error 28)'
+try 'told of standard output that is full' 7 'bnc solve one.mps j c >/dev/full 2>err' c=cert err=told
+told 'standard output: it is the model or the journal'
+try 'told of standard output that is the journal' 7 'bnc solve one.mps j c >>j 2>err' c=none err=told
+try 'told nothing where all is well' 0 'bnc solve one.mps j c >out 2>err' c=cert out=lines err=empty
+try 'told nothing of a refusal' 4 'cp "$texts/foreign" j; bnc show j >out 2>err' j=foreign out=NotAJournal err=empty
+try 'told nothing where standard error is full' 5 'bnc solve none j c >out 2>/dev/full' out=read c=none
+try 'a stack of 64 KB' 0 '(ulimit -s 64; "$scratch/bnc" solve one.mps j c --workers 4 >out)' out=lines c=cert
+
 # What can't be written or read.
 try 'the certificate is a folder' 7 'mkdir c; bnc solve one.mps j c >out' out=sink
 try 'the certificate is in no folder' 7 'bnc solve one.mps j none/c >out' out=sink none=none
 try 'the certificate is in a file' 7 'bnc solve one.mps j one.mps/c >out' out=sink
 try 'the certificate is on a full device' 7 'bnc solve one.mps j /dev/full >out' out=sink
+try 'the certificate may be written, and its folder may not' 0 'mkdir d; cp "$texts/long" d/c; chmod 666 d/c; chmod 555 d; bnc_as_user solve one.mps j d/c >out; status=$?; chmod 755 d; exit $status' out=lines d/c=cert
+try 'the certificate may only be written' 7 'cp "$texts/earlier" c; chmod 222 c; bnc_as_user solve one.mps j c >out; status=$?; chmod 644 c; exit $status' out=sink c=earlier
+try 'an older certificate keeps its permissions' 0 'cp "$texts/long" c; chmod 604 c; bnc solve one.mps j c >out && [ "$(stat -c %a c)" = 604 ]' out=lines c=cert c.1.part=none
+try 'a new certificate has the permissions of a new file' 0 'umask 027; : >new; bnc solve one.mps j c >out && [ "$(stat -c %a c)" = "$(stat -c %a new)" ]' out=lines c=cert
+try 'a part of a certificate was left by a run that was killed' 0 'cp "$texts/earlier" c.1.part; bnc solve one.mps j c >out' out=lines c=cert c.1.part=earlier c.2.part=none
+try 'the name of the certificate is as long as a name may be' 0 'name=$(printf "%0255d"); bnc solve one.mps j $name >out && cp $name c' out=lines c=cert
 try 'the certificate may only be read' 7 'cp "$texts/earlier" c; chmod 444 c; bnc_as_user solve one.mps j c >out' out=sink c=earlier
 try 'the folder of the certificate may only be read' 7 'mkdir -m 555 d; bnc_as_user solve one.mps j d/c >out; status=$?; chmod 755 d; exit $status' out=sink d/c=none
 for cert in d/c c; do

@@ -4,48 +4,56 @@ import os
 import statistics
 import subprocess
 import sys
+import time
 
-APPENDS = 150
-PAYLOAD = 200  # bytes, about as many as an event of the search has
+BENCH = os.path.dirname(os.path.dirname(os.path.abspath(__file__)))
+MODEL = ("knapsack", "50", "5", "1")
+NODES = 61  # some 150 events
 ROUNDS = 31  # many short ones, since a disk's syncs differ much from one another
-LARGE = 100_000_000
+SPENT = 8
 
 folder, plain, proved = sys.argv[1:]
+model, journal, copied, certificate = (os.path.join(folder, name) for name in ("model.mps", "journal", "copied", "certificate"))
 
 
-def run(*words):
-    return subprocess.run(words, check=True, capture_output=True, text=True).stdout.split()
+def run(status, *words):
+    """What a program prints, and the seconds that it spends outside its own code: in calls of the system, or waiting for them."""
+    start = time.monotonic()
+    process = subprocess.Popen(words, stdout=subprocess.PIPE, text=True)
+    lines = process.stdout.read()
+    _, ended, usage = os.wait4(process.pid, 0)
+    seconds = time.monotonic() - start - usage.ru_utime
+    process.stdout.close()
+    if os.waitstatus_to_exitcode(ended) != status:
+        sys.exit(f"{' '.join(words)}: ended with {os.waitstatus_to_exitcode(ended)}, {lines}")
+    return lines, seconds
 
 
-def appends(program):
-    """The nanoseconds of the appends to a journal of its own."""
-    path = os.path.join(folder, "appended")
-    time, count = run(program, "append", path, str(APPENDS), str(PAYLOAD))
-    assert int(count) == APPENDS
-    os.remove(path)
-    return int(time)
+def search():
+    """A search with a new journal."""
+    if os.path.exists(journal):
+        os.remove(journal)
+    return run(SPENT, proved, "solve", model, journal, certificate, "--cuts", "0", "--nodes", str(NODES))[1]
 
 
-def read(path):
-    """The seconds of a reading, the payloads, and the peak of the program's memory in bytes."""
-    child = subprocess.Popen([proved, "read", path], stdout=subprocess.PIPE, text=True)
-    words = child.stdout.read().split()
-    _, status, usage = os.wait4(child.pid, 0)
-    assert status == 0
-    return int(words[0]) / 1e9, int(words[1]), usage.ru_maxrss * 1024
+def copy():
+    """The frames of that journal, added to a new one."""
+    if os.path.exists(copied):
+        os.remove(copied)
+    return run(0, plain, journal, copied)[1]
 
 
-times = {plain: [], proved: []}
+with open(model, "w", encoding="ascii") as file:
+    subprocess.run([sys.executable, os.path.join(BENCH, "search", "models.py"), *MODEL], stdout=file, check=True)
+search()
+seconds = {search: [], copy: []}
 for turn in range(ROUNDS):
-    for program in (plain, proved) if turn % 2 else (proved, plain):
-        times[program].append(appends(program))
-ratio = statistics.median(times[proved]) / statistics.median(times[plain])
-for name, program in (("plain", plain), ("proved", proved)):
-    print(f"{name:6} {APPENDS / statistics.median(times[program]) * 1e9:8.0f} appends a second")
-print(f"proved takes {ratio:.2f} times plain, by the medians of {ROUNDS} rounds of {APPENDS} appends of {PAYLOAD} bytes")
-
-path = os.path.join(folder, "large")
-run(plain, "make", path, str(LARGE), str(PAYLOAD))
-size = os.path.getsize(path)
-seconds, count, peak = min(read(path) for _ in range(3))
-print(f"reading {size / 1e6:.0f} MB, {count} payloads: {seconds:.2f} s, peak {peak / size:.2f} times the file's size")
+    for call in (search, copy) if turn % 2 else (copy, search):
+        seconds[call].append(call())
+with open(journal, "rb") as file, open(copied, "rb") as other:
+    if file.read() != other.read():
+        sys.exit("plain Rust wrote another journal")
+frames = int(run(0, plain, journal)[0])
+own, base = (statistics.median(seconds[call]) for call in (search, copy))
+print(f"the program {frames / own:8.0f} frames a second, plain Rust {frames / base:8.0f}")
+print(f"the program takes {own / base:.2f} times plain Rust, by the medians of {ROUNDS} rounds of {frames} frames ({os.path.getsize(journal)} bytes)")

@@ -1,46 +1,60 @@
-// Writes the same lines as crates/vipr_print_bench by `write!` into a Vec, for bench/print.sh.
+// Prints the derived lines of a certificate by `write!`, each by one write to a file, for bench/print.sh: `plain CERTIFICATE PRINTED`. It takes them
+// apart into numbers first, and prints the nanoseconds of the printing alone.
+use std::env;
+use std::error::Error;
+use std::fmt::{self, Display};
+use std::fs::{self, File};
 use std::io::Write;
 use std::time::Instant;
 
-const LINES: u32 = 200_000;
-
-struct Line {
-    label: String,
-    rhs: i128,
-    mult: Vec<(u32, i128, i128)>,
+/// A word of a line: a number, or text.
+enum Word {
+    Whole(i128),
+    Fraction(i128, u128),
+    Text(String),
 }
 
-fn gcd(a: i128, b: i128) -> i128 {
-    if b == 0 { a } else { gcd(b, a % b) }
-}
-
-fn multiplier(first: u32, step: u32) -> (u32, i128, i128) {
-    let (num, den) = (i128::from(step) - 4, i128::from(step % 3) + 1);
-    let common = gcd(num.abs(), den);
-    (first + step, num / common, den / common)
-}
-
-fn write_number(text: &mut Vec<u8>, num: i128, den: i128) {
-    if den == 1 {
-        write!(text, " {num}").unwrap();
-    } else {
-        write!(text, " {num}/{den}").unwrap();
-    }
-}
-
-fn main() {
-    let lines: Vec<Line> = (0..LINES)
-        .map(|n| Line { label: format!("N{n}"), rhs: n.into(), mult: (0..8).map(|step| multiplier(n, step)).collect() })
-        .collect();
-    let start = Instant::now();
-    let mut text = Vec::new();
-    for line in &lines {
-        write!(text, "{} G {} 0 {{ lin {}", line.label, line.rhs, line.mult.len()).unwrap();
-        for &(row, num, den) in &line.mult {
-            write!(text, " {row}").unwrap();
-            write_number(&mut text, num, den);
+impl Word {
+    fn read(word: &str) -> Word {
+        if let Ok(number) = word.parse() {
+            return Word::Whole(number);
         }
-        text.extend_from_slice(b" } -1\n");
+        match word.split_once('/').map(|(num, den)| (num.parse(), den.parse())) {
+            Some((Ok(num), Ok(den))) => Word::Fraction(num, den),
+            _ => Word::Text(word.to_string()),
+        }
     }
-    println!("{} {}", start.elapsed().as_nanos(), text.len());
+}
+
+impl Display for Word {
+    fn fmt(&self, f: &mut fmt::Formatter<'_>) -> fmt::Result {
+        match self {
+            Word::Whole(number) => write!(f, "{number}"),
+            Word::Fraction(num, den) => write!(f, "{num}/{den}"),
+            Word::Text(text) => f.write_str(text),
+        }
+    }
+}
+
+fn main() -> Result<(), Box<dyn Error>> {
+    let words: Vec<String> = env::args().skip(1).collect();
+    let [certificate, printed] = words.as_slice() else { return Err("CERTIFICATE PRINTED".into()) };
+    let text = fs::read_to_string(certificate)?;
+    let derived = text.lines().skip_while(|line| !line.starts_with("DER ")).skip(1);
+    let lines: Vec<Vec<Word>> = derived.map(|line| line.split(' ').map(Word::read).collect()).collect();
+    let mut file = File::create(printed)?;
+    let mut buffer = Vec::new();
+    let start = Instant::now();
+    for line in &lines {
+        buffer.clear();
+        let mut gap = "";
+        for word in line {
+            write!(buffer, "{gap}{word}")?;
+            gap = " ";
+        }
+        buffer.push(b'\n');
+        file.write_all(&buffer)?;
+    }
+    println!("{}", start.elapsed().as_nanos());
+    Ok(())
 }

@@ -1,4 +1,4 @@
-// Reads the same texts as crates/mps_reader_bench into the same shape of data, for bench/reader.sh: the whole of the format's sections,
+// Reads the same texts as the program into the same shape of data, for bench/reader.sh: the whole of the format's sections,
 // with its refusals of unknown and repeated names and of numbers outside the limits, as a Rust programmer would write it without proofs.
 use std::collections::HashMap;
 use std::time::Instant;

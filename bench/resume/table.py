@@ -6,23 +6,24 @@ import subprocess
 import sys
 
 BENCH = os.path.dirname(os.path.dirname(os.path.abspath(__file__)))
-# kind, columns, rows, seed, budget of nodes
-MODELS = (
-    ("knapsack", 50, 5, 1, 20_001),
-    ("knapsack", 50, 5, 2, 20_001),
-    ("knapsack", 100, 10, 1, 5_001),
-    ("cover", 120, 300, 1, 101),
-)
-# the same with the most cuts: without cuts the journal has 50,002 events
+# kind, columns, rows, seed, budget of nodes, cuts: without cuts the journal has 50,002 events
 LONG = (
     ("knapsack", 50, 5, 2, 50_001, 0),
     ("knapsack", 50, 5, 1, 20_001, 256),
 )
+# equality knapsacks with no objective, whose trees are deep: the coefficients, and the budget of nodes; each right side is the same
+DEEP = (
+    ("cuww1", (12223, 12224, 36674, 61119, 85569), 200_001),
+    ("4 columns", (12223, 12224, 36674, 61119), 200_001),
+)
+RIGHT_SIDE = 89643481
+# splits of a journal whose tree is a chain, alone, and with its leaves closed from either end
+CHAIN = 100_000
 RUNS = 5
 SPENT = 8
 
-folder, bench, program = sys.argv[1:4]
-others = sys.argv[4:5]
+folder, program = sys.argv[1:3]
+others = sys.argv[3:4]
 journal, copied, certificate = (os.path.join(folder, name) for name in ("journal", "copied", "certificate"))
 
 
@@ -45,38 +46,31 @@ def make(kind, columns, rows, seed):
     return path
 
 
+def make_equality(name, coefficients):
+    path = os.path.join(folder, name.replace(" ", "-") + ".mps")
+    columns = "".join(f" x{j} row {number}\n" for j, number in enumerate(coefficients))
+    bounds = "".join(f" UP bound x{j} 10000\n" for j in range(len(coefficients)))
+    marked = f" m 'MARKER' 'INTORG'\n{columns} m 'MARKER' 'INTEND'\n"
+    with open(path, "w", encoding="ascii") as file:
+        file.write(f"NAME {name.split()[0]}\nROWS\n N cost\n E row\nCOLUMNS\n{marked}RHS\n rhs row {RIGHT_SIDE}\nBOUNDS\n{bounds}ENDATA\n")
+    return path
+
+
 def number(lines, name):
     return int(next(line.split()[1] for line in lines.splitlines() if line.startswith(name + " ")))
 
 
 def solve(model, budget, cuts):
-    """A search that is spent, with its journal from the beginning: its nodes and its time."""
+    """A search that is spent, with its journal from the beginning: its nodes, and its processor time in seconds."""
     if os.path.exists(journal):
         os.remove(journal)
     lines, seconds, _ = run(program, "solve", model, journal, certificate, "--cuts", cuts, "--nodes", budget, status=SPENT)
     return number(lines, "nodes"), seconds
 
 
-def search(model, budget, cuts):
-    """The same search with no file: its nodes and its time."""
-    lines, seconds, _ = run(bench, "search", model, budget, cuts)
-    return int(lines.split()[1]), seconds
-
-
-def search_row(name, model, budget):
-    with_file, without = [], []
-    for turn in range(RUNS):
-        for call, times in ((solve, with_file), (search, without))[:: 1 if turn % 2 else -1]:
-            times.append(call(model, budget, 0))
-    if {nodes for nodes, _ in with_file + without} != {budget}:
-        sys.exit(f"{name}: the searches have other nodes")
-    least, least_without = (min(seconds for _, seconds in times) for times in (with_file, without))
-    size = os.path.getsize(journal)
-    print(f"{name:22} {budget / least:9,.0f} and {budget / least_without:9,.0f} nodes/s, journal {size / 1e6:5.1f} MB  ratio {least / least_without:5.2f}")
-
-
-def read_row(command, words, status):
-    """A line on a command that reads the journal; with another program, the ratio of their times."""
+def read_row(command, words, status, searched=None):
+    """A line on a command that reads the journal; with another program, the ratio of their times. Where the time of the search is given, the ratio to
+    that is printed too."""
     size, events = os.path.getsize(journal), number(run(program, "show", journal)[0], "events")
     seen = {name: [] for name in [program] + others}
     for _ in range(RUNS):
@@ -88,14 +82,23 @@ def read_row(command, words, status):
     least = [min(seconds for _, seconds, _ in runs) for runs in seen.values()]
     peak = max(memory for _, _, memory in seen[program])
     ratio = "".join(f"  ratio {least[0] / seconds:5.2f}" for seconds in least[1:])
+    if searched:
+        ratio += f"  {least[0] / searched:5.3f} of the search"
     print(f"{command:8} {events:,} events, {size / 1e6:.1f} MB: {least[0]:5.2f} s, {events / least[0]:9,.0f} events/s, peak {peak / size:.2f} times the journal{ratio}")
 
 
-print("each line: the program, then the search with no file, and the ratio of their processor times")
-for kind, columns, rows, seed, budget in MODELS:
-    search_row(f"{kind} {columns} x {rows}, {seed}", make(kind, columns, rows, seed), budget)
 for kind, columns, rows, seed, budget, cuts in LONG:
     print(f"{kind} {columns} x {rows}, {seed}, cuts {cuts}:")
     solve(make(kind, columns, rows, seed), budget, cuts)
     read_row("show", (), 0)
     read_row("resume", (certificate, "--cuts", cuts, "--nodes", budget), SPENT)
+for name, coefficients, budget in DEEP:
+    nodes, searched = solve(make_equality(name, coefficients), budget, 0)
+    print(f"equality knapsack, {name}: {nodes:,} nodes searched in {searched:.2f} s")
+    read_row("show", (), 0, searched)
+    read_row("resume", (certificate, "--cuts", 0, "--nodes", budget), SPENT, searched)
+for order in ("", "deepest", "first"):
+    with open(journal, "wb") as file:
+        subprocess.run([sys.executable, os.path.join(BENCH, "resume", "chain.py"), str(CHAIN), order], stdout=file, check=True)
+    print(f"a chain of {CHAIN:,} splits" + (f", closed from the {order} leaf on:" if order else ":"))
+    read_row("show", (), 0)

@@ -1,4 +1,4 @@
-"""Makes the models, runs both programs on them, and prints their times, the least of five runs each; and the bytes that an event takes."""
+"""Makes the models, runs both programs on them, and prints their processor times, the least of five runs each."""
 import os
 import subprocess
 import sys
@@ -13,27 +13,41 @@ MODELS = (
     ("cover", 120, 300, 1, 101),
     ("cover", 120, 300, 2, 101),
 )
-CLAIMS = (1 << 20, 1 << 21)
 RUNS = 5
+SPENT = 8
+
+plain, proved, folder = sys.argv[1:]
+journal, certificate = os.path.join(folder, "journal"), os.path.join(folder, "certificate")
 
 
-def run(*words):
-    """What a program prints, in words, and the peak of its memory in bytes."""
+def run(status, *words):
+    """What a program prints, in words, and its processor time in seconds."""
     process = subprocess.Popen([str(word) for word in words], stdout=subprocess.PIPE, text=True)
-    line = process.stdout.read().split()
-    _, status, usage = os.wait4(process.pid, 0)
+    told = process.stdout.read().split()
+    _, ended, usage = os.wait4(process.pid, 0)
     process.stdout.close()
-    if status != 0:
-        sys.exit(f"{' '.join(map(str, words))}: status {status}")
-    return line, usage.ru_maxrss * 1024
+    if os.waitstatus_to_exitcode(ended) != status:
+        sys.exit(f"{' '.join(map(str, words))}: ended with {os.waitstatus_to_exitcode(ended)}, {told}")
+    return told, usage.ru_utime + usage.ru_stime
 
 
-def best(*words):
-    """The line of the fastest run."""
-    return min((run(*words)[0] for _ in range(RUNS)), key=lambda line: int(line[0]))
+def search_plain(path, budget):
+    """The nodes and the pivots of a search that is spent, and its time."""
+    (_, nodes, _, ending, pivots, *_), seconds = run(0, plain, "search", path, budget)
+    if ending != "spent":
+        sys.exit(f"{path}: {ending}")
+    return int(nodes), int(pivots), seconds
 
 
-def make(folder, kind, columns, rows, seed):
+def search_proved(path, budget):
+    """The nodes of the same search, and its time."""
+    if os.path.exists(journal):
+        os.remove(journal)
+    told, seconds = run(SPENT, proved, "solve", path, journal, certificate, "--cuts", 0, "--nodes", budget)
+    return int(told[told.index("nodes") + 1]), seconds
+
+
+def make(kind, columns, rows, seed):
     path = os.path.join(folder, f"{kind}-{columns}-{rows}-{seed}.mps")
     words = [sys.executable, os.path.join(HERE, "models.py"), kind, columns, rows, seed]
     with open(path, "w", encoding="ascii") as file:
@@ -41,32 +55,16 @@ def make(folder, kind, columns, rows, seed):
     return path
 
 
-def bytes_an_event(proved):
-    """What a claim or a release adds to the peak: neither carries a number."""
-    (few, low), (many, high) = (run(proved, "claims", count) for count in CLAIMS)
-    return (high - low) / (int(many[0]) - int(few[0]))
-
-
-def search_row(name, path, plain, proved, budget):
+def search_row(name, path, budget):
     """Nodes and pivots a second; the tree is the same in both, and so are the pivots, which plain Rust counts."""
-    base, own = best(plain, "search", path, budget), best(proved, "search", path, budget, 0)
-    if base[1:4] != own[1:4]:
-        sys.exit(f"{name}: plain Rust {base[1:4]}, core_search {own[1:4]}")
-    seconds = [int(line[0]) / 1e9 for line in (base, own)]
-    nodes, pivots = int(base[1]), int(base[4])
-    print(f"{name:22} {nodes / seconds[0]:9,.0f} and {nodes / seconds[1]:9,.0f} nodes/s  {pivots / seconds[0]:11,.0f} and {pivots / seconds[1]:11,.0f} pivots/s"
-          f"  ratio {seconds[1] / seconds[0]:5.2f}")
+    runs = [(search_plain(path, budget), search_proved(path, budget)) for _ in range(RUNS)]
+    nodes, pivots, _ = runs[0][0]
+    if any(own[0] != nodes for _, own in runs):
+        sys.exit(f"{name}: plain Rust makes {nodes} nodes, the program {runs[0][1][0]}")
+    base, own = min(run[0][2] for run in runs), min(run[1][1] for run in runs)
+    print(f"{name:22} {nodes / base:9,.0f} and {nodes / own:9,.0f} nodes/s  {pivots / base:11,.0f} and {pivots / own:11,.0f} pivots/s  ratio {own / base:5.2f}")
 
 
-def main():
-    plain, proved, folder = sys.argv[1:]
-    event = bytes_an_event(proved)
-    print("each line: plain Rust, then the proved program, and the ratio of their times")
-    for kind, columns, rows, seed, budget in MODELS:
-        path = make(folder, kind, columns, rows, seed)
-        name = f"{kind} {columns} x {rows}, {seed}"
-        search_row(name, path, plain, proved, budget)
-    print(f"an event: {event:4.1f} bytes beside the numbers that it carries")
-
-
-main()
+print("each line: plain Rust, then the proved program, and the ratio of their processor times")
+for kind, columns, rows, seed, budget in MODELS:
+    search_row(f"{kind} {columns} x {rows}, {seed}", make(kind, columns, rows, seed), budget)

@@ -5,6 +5,8 @@ import subprocess
 import sys
 import time
 
+import fine
+
 BENCH = os.path.dirname(os.path.dirname(os.path.abspath(__file__)))
 # kind, columns, rows, seed, budget of nodes, cuts
 MODELS = (
@@ -61,6 +63,8 @@ def table():
     print(f"each line: of each number of workers the nodes a second, their ratio to those of one, and the cores in use; best of {RUNS}")
     for kind, columns, rows, seed, budget, cuts in MODELS:
         row(f"{kind} {columns} x {rows}, {seed}, cuts {cuts}", make(kind, columns, rows, seed), budget, cuts)
+    fine.fine(program, folder)
+    fine.idle(program, folder, make)
 
 
 if max(WORKERS) > (os.cpu_count() or 1):

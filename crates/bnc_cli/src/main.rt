@@ -10,21 +10,24 @@
 //! The search has at most N nodes, 1 to 1,000,000,000, and 1,000,000 where the words don't say, and at most C cuts, 0 to 256, and 256 where they don't
 //! say. W workers search at a time, 1 to 16, and 1 where the words don't say. U, 0 to 1,000,000,000, bounds each column that has no bound.
 //!
-//! All of that is `run` of `solve_top`. Here the real files of `file_streams` and `file_disk` are put in its hands, and the exit status is told: the
-//! number of a `Status` of `solve_top`.
+//! All of that is `run` of `solve_top`. Here the real files of `file_streams` and `file_disk` are put in its hands, once it was looked at what they
+//! lead to, and the exit status is told: the number of a `Status` of `solve_top`. Why it is that one `help` tells a person.
 #![tactic(auto)]
+
+mod help;
 
 use file_disk::FileDisk;
 use file_streams::{Destination, FileSink, FileSource, Spared, StandardOutput, hold_standard};
+use help::{Explained, STANDARD_OUTPUT, explain, explain_usage};
 use outside::{Disk, NoHold};
-use solve_top::{Paths, Status, Words, WordsFault, paths_of, run};
+use solve_top::{Paths, Status, Words, WordsFault, paths_of, run, tell_no_place};
 use std::alloc::{AllocError, Global};
 use std::env;
 use std::fs::File;
 use std::hash::{BuildHasher, BuildHasherDefault, DefaultHasher, RandomState};
 use std::io::{ErrorKind, Stderr, Stdout};
 use std::process::ExitCode;
-use std::rt::Files;
+use std::rt::{Clock, Env, Files};
 use std::sync::Wait;
 use std::thread::Threads;
 
@@ -42,11 +45,33 @@ fn words_of(rt: &HostRuntime) -> Result<Words, AllocError> {
     Ok(words)
 }
 
+/// Looks at where the certificate and the lines of a command are to go. Where they would be written over a file of the user's it gives the status
+/// of that, and nothing is run. A line that would go there is not told.
+fn refused<R: Files<File = File> + Clock + Eprint>(
+    rt: &R,
+    there: &Destination<'_>,
+    out: &mut StandardOutput<'_, R>,
+) -> Option<u8> {
+    if there.path.is_none() && there.spared.journal.is_none() {
+        return None;
+    }
+    if let Err(error) = there.look_at_output(rt) {
+        explain(rt, there, STANDARD_OUTPUT, Some(error));
+        return Some(Status::Sink.number());
+    }
+    if let Err(error) = there.look(rt) {
+        let status = tell_no_place(out);
+        explain(rt, there, there.path.map(|path| path.as_str()), Some(error));
+        return Some(status.number());
+    }
+    None
+}
+
 /// The status of one run over the files of the paths, of which the certificate spares the other two.
 fn status_of<
-    R: Threads + Wait + Sync + Files<File = File>,
+    R: Threads + Wait + Sync + Files<File = File> + Clock + Env + Alloc + Eprint,
     B: BuildHasher + Clone + Drop,
-    D: Disk + Send + Drop,
+    D: Disk + Send + Drop + Explained,
 >(
     rt: &R,
     alloc: Global,
@@ -57,19 +82,35 @@ fn status_of<
     streams: (Stdout, Stderr),
 ) -> u8 {
     let mut model = FileSource::open(rt, paths.model.as_deref());
-    let destination = Destination {
+    let there = Destination {
         path: paths.cert.as_ref(),
         spared: Spared {
             open: model.inode(),
-            paths: [paths.model.as_deref(), paths.journal.as_deref()],
+            model: paths.model.as_deref(),
+            journal: paths.journal.as_deref(),
         },
         streams,
     };
-    let mut cert = FileSink::new(rt, destination);
-    let mut out = StandardOutput::new(streams.0);
+    let mut out = StandardOutput::new(rt, streams.0);
+    if let Some(status) = refused(rt, &there, &mut out) {
+        return status;
+    }
+    let mut cert = FileSink::new(rt, there);
     let ran = run(
         rt, alloc, keys, words, &mut model, disk, &mut cert, &mut out, &NoHold,
     );
+    if ran.status == Status::Usage.number() {
+        explain_usage(rt, alloc, &there, words);
+    } else if ran.status == Status::ReadFault.number() {
+        explain(rt, &there, paths.model.as_deref(), model.met());
+    } else if ran.status == Status::Disk.number() {
+        explain(rt, &there, paths.journal.as_deref(), ran.disk.said());
+    } else if ran.status == Status::Sink.number() {
+        match cert.met() {
+            Some(error) => explain(rt, &there, paths.cert.as_deref(), Some(error)),
+            None => explain(rt, &there, STANDARD_OUTPUT, out.met()),
+        }
+    }
     ran.status
 }
 

@@ -7,6 +7,7 @@ ghost use Rattle.event_core.specs.States.{first_state};
 ghost use Rattle.event_core.specs.Histories.{journaled};
 ghost use Rattle.node_pool.specs.Payloads.{IsJournalOf};
 ghost use Rattle.node_pool.specs.Stored.{IsStored};
+ghost use Rattle.node_tree.specs.Limits.{most_nodes};
 
 use anyhow::{Result, bail};
 use event_core::State;
@@ -58,7 +59,7 @@ fn pool_of(
     journal: Journal<MemDisk>,
     budget: u32,
 ) -> Result<Pool<MemDisk>>
-    requires few { budget ≤ 1_000_000_000 }
+    requires few { budget ≤ most_nodes }
     requires unheld { state.state.holds ≡ [] }
     requires sound { journal.fault ≡ None }
     requires counted { journal.count ≡ length (journaled state.history) + 1 }
@@ -79,7 +80,7 @@ fn pool_of(
 
 /// A pool at the beginning of a problem's search, with a journal in memory. The budget is how many nodes the tree may have.
 pub fn memory_pool(alloc: Global, problem: Problem, budget: u32) -> Result<Pool<MemDisk>>
-    requires { budget ≤ 1_000_000_000 }
+    requires { budget ≤ most_nodes }
     ensures state { IfOk result (λ p. p.state.state ≡ first_state problem) }
     ensures history { IfOk result (λ p. p.state.history ≡ []) }
     ensures budget { IfOk result (λ p. p.budget ≡ budget) }
@@ -92,7 +93,7 @@ pub fn memory_pool(alloc: Global, problem: Problem, budget: u32) -> Result<Pool<
 
 /// The pool with another budget, and halted no more. A pool whose disk failed is an error.
 pub fn with_budget(alloc: Global, pool: Pool<MemDisk>, budget: u32) -> Result<Pool<MemDisk>>
-    requires few { budget ≤ 1_000_000_000 }
+    requires few { budget ≤ most_nodes }
     requires unheld { pool.state.state.holds ≡ [] }
     ensures state { IfOk result (λ p. p.state ≡ pool.state) }
     ensures budget { IfOk result (λ p. p.budget ≡ budget) }

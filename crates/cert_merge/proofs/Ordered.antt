@@ -2,8 +2,8 @@
 use Rattle.std.specs.Prelude.{◌≡◌, ◌<◌, ◌≤◌, ◌+◌, ℕ, zero, suc, pos, negsuc, Bool, true, false, cond, eqb, List, [], ◌∷◌, ◌++◌, length, All, Option, Some, None, refl}
 use Rattle.std.specs.Option.{option_or}
 use Rattle.std.proofs.Common.{sym, subst, arith}
-use Rattle.std.proofs.lemmas.Option.{slice_get_within}
-use Rattle.std.proofs.lemmas.List.Elements.{All-nil, All-cons, All-head, All-tail, All-append, All-push}
+use Rattle.std.proofs.lemmas.Option.{slice_get_within, same_Some}
+use Rattle.std.proofs.lemmas.List.Elements.{All-nil, All-cons, All-head, All-tail, All-append}
 use Rattle.fraction.specs.Rational.{ℚ, whole}
 use Rattle.fraction.specs.Lemmas.Bounds.{whole_nonzero}
 use Rattle.problem.specs.declared.row.Row.{Row}
@@ -21,7 +21,6 @@ use Rattle.node_tree.specs.Lemmas.Boxes.{length-box}
 use Rattle.node_events.specs.declared.proof.Proof.{Proof}
 use Rattle.node_events.specs.declared.proof.Proof.TheVariants.{Empty, Refute, Bound}
 use Rattle.node_events.specs.declared.event.Event.{Event}
-use Rattle.node_events.specs.declared.event.Event.TheVariants.{Claim, Release, Cut as CutEvent, Offer, Split, Close}
 use Rattle.derivation_book.specs.declared.cut.Cut.{Cut}
 use Rattle.derivation_book.specs.Known.{known_lines}
 use Rattle.derivation_book.specs.Rounded.{rounded_row}
@@ -29,17 +28,20 @@ use Rattle.derivation_book.specs.Price.{reduced_cost}
 use Rattle.derivation_book.specs.Legal.{AreProofMultipliers, IsLegalProof}
 use Rattle.event_core.specs.declared.entry.Entry.{Entry}
 use Rattle.event_core.specs.States.{State, first_state, tree_of, box_of, cutoff}
-use Rattle.event_core.specs.After.{after, after_cut}
+use Rattle.event_core.specs.After.{after}
 use Rattle.event_core.specs.Histories.{state_from, state_of}
 use Rattle.cert_merge.specs.Closing.{bound_multipliers}
-use Rattle.cert_merge.specs.Endings.{closing, proof_of}
+use Rattle.cert_merge.specs.Endings.{closing, proof_of, proof_for}
 use Rattle.cert_merge.specs.Numbers.{line_of_bound, sources_of}
 use Rattle.cert_merge.specs.Merged.{cut_lines, assumption_of, assumption_lines, node_multipliers, crossing, closed_line, line_by, node_lines}
-use Rattle.cert_merge.specs.Laws.{AreOrdered, ReasonIsOrdered, ProofIsOrdered, EventIsOrdered, MergedIsOrdered}
+use Rattle.cert_merge.specs.Laws.{AreOrdered, ReasonIsOrdered, ProofIsOrdered, EventIsOrdered, MergedIsOrdered, CutIsOrdered, ClosingIsOrdered}
 use Rattle.cert_merge.specs.Lemmas.Filling.{All-placed, All-all_placed}
 use Rattle.cert_merge.specs.Lemmas.Placing.{all_placed_rises}
 use Rattle.cert_merge.specs.Lemmas.BoundLines.{IsBoundLine, is_bound_line, apart, bounds_nonzero, bounds_fresh}
 use Rattle.cert_merge.specs.Lemmas.Finished.{IsDone, done_from}
+use Rattle.event_core.specs.Frames.{closed_by, cut_by, cut_of_row, cuts_of}
+use Rattle.event_core.specs.Lemmas.Frames.{keeps_frame}
+use Rattle.problem.specs.Linear.{Multipliers}
 
 abbrev IsNonzero : ℕ × ℚ → Type 0
 IsNonzero m = m.1 ≡ whole (pos 0) → ⊥
@@ -80,16 +82,15 @@ module _ (s : State) (tree : IsTree (tree_of s)) (i : ℕ) where
 
 -- ---- the proof of a node
 closing_ordered : (e : Event) (i : ℕ) (proof : Proof) → EventIsOrdered e → closing e i ≡ Some proof → ProofIsOrdered proof
-closing_ordered (Claim k) i proof o e = cc
-closing_ordered (Release k) i proof o e = cc
-closing_ordered (CutEvent mult) i proof o e = cc
-closing_ordered (Offer x) i proof o e = cc
-closing_ordered (Split k j b r) i proof o e = cc
-closing_ordered (Close k q) i proof o e = step (eqb k i) e
+closing_ordered e i proof o c = step (closed_by e) o.1 c
   where
-    step : (b : Bool) → cond b (Some q) None ≡ Some proof → ProofIsOrdered proof
-    step true e = let z : q ≡ proof = cc in subst ProofIsOrdered z o
-    step false e = cc
+    step : (k : Option (ℕ × Proof)) → ClosingIsOrdered k → proof_for i k ≡ Some proof → ProofIsOrdered proof
+    step None o c = cc
+    step (Some d) o c = here (eqb d.0 i) c
+      where
+        here : (b : Bool) → cond b (Some d.1) None ≡ Some proof → ProofIsOrdered proof
+        here true c = subst ProofIsOrdered (same_Some d.1 proof c) o
+        here false c = cc
 
 abbrev EntryIsOrdered : Entry → Type 0
 EntryIsOrdered e = EventIsOrdered e.event
@@ -103,22 +104,21 @@ proof_ordered (d ∷ es) i proof o e = step (proof_of es i) (λ q f. proof_order
     step (Some q) ih e = ih proof e
 
 -- ---- the cuts
-abbrev CutIsOrdered : Cut → Type 0
-CutIsOrdered c = AreOrdered c.mult
+abbrev IsOrderedCut : Cut → Type 0
+IsOrderedCut c = AreOrdered c.mult
 
-cut_more : (s : State) (mult : List (ℕ × ℚ)) (o : Option Row) → AreOrdered mult → All CutIsOrdered s.cuts → All CutIsOrdered (after_cut s mult o).cuts
-cut_more s mult None m h = h
-cut_more s mult (Some r) m h = All-push CutIsOrdered s.cuts (record { row = r; mult = mult }) h m
+made_ordered : (s : State) (o : Option Multipliers) → CutIsOrdered o → All IsOrderedCut (cuts_of s o)
+made_ordered s None h = All-nil IsOrderedCut
+made_ordered s (Some mult) h = of_row (rounded_row s.problem s.cuts mult)
+  where
+    of_row : (o : Option Row) → All IsOrderedCut (cut_of_row mult o)
+    of_row None = All-nil IsOrderedCut
+    of_row (Some r) = All-cons IsOrderedCut (record { row = r; mult = mult }) [] h (All-nil IsOrderedCut)
 
-cuts_after : (s : State) (w : Option ℕ) (e : Event) → EventIsOrdered e → All CutIsOrdered s.cuts → All CutIsOrdered (after s w e).cuts
-cuts_after s w (Claim i) o h = h
-cuts_after s w (Release i) o h = h
-cuts_after s w (CutEvent mult) o h = cut_more s mult (rounded_row s.problem s.cuts mult) o h
-cuts_after s w (Offer x) o h = h
-cuts_after s w (Split i j b r) o h = h
-cuts_after s w (Close i proof) o h = h
+cuts_after : (s : State) (w : Option ℕ) (e : Event) → EventIsOrdered e → All IsOrderedCut s.cuts → All IsOrderedCut (after s w e).cuts
+cuts_after s w e o h = subst (All IsOrderedCut) (sym (keeps_frame s w e).cuts) (All-append IsOrderedCut s.cuts (cuts_of s (cut_by e)) h (made_ordered s (cut_by e) o.0))
 
-cuts_from : (s : State) (es : List Entry) → All EntryIsOrdered es → All CutIsOrdered s.cuts → All CutIsOrdered (state_from s es).cuts
+cuts_from : (s : State) (es : List Entry) → All EntryIsOrdered es → All IsOrderedCut s.cuts → All IsOrderedCut (state_from s es).cuts
 cuts_from s [] o h = h
 cuts_from s (e ∷ es) o h = cuts_from (after s e.worker e.event) es (All-tail EntryIsOrdered e es o) (cuts_after s e.worker e.event (All-head EntryIsOrdered e es o) h)
 
@@ -126,9 +126,9 @@ cuts_from s (e ∷ es) o h = cuts_from (after s e.worker e.event) es (All-tail E
 abbrev LineIsOrdered : CertRow × Why → Type 0
 LineIsOrdered d = ReasonIsOrdered d.1
 
-cut_lines_ordered : (i : ℕ) (cs : List Cut) → All CutIsOrdered cs → All LineIsOrdered (cut_lines i cs)
+cut_lines_ordered : (i : ℕ) (cs : List Cut) → All IsOrderedCut cs → All LineIsOrdered (cut_lines i cs)
 cut_lines_ordered i [] h = All-nil LineIsOrdered
-cut_lines_ordered i (c ∷ cs) h = All-cons LineIsOrdered _ (cut_lines (i + 1) cs) (All-head CutIsOrdered c cs h) (cut_lines_ordered (i + 1) cs (All-tail CutIsOrdered c cs h))
+cut_lines_ordered i (c ∷ cs) h = All-cons LineIsOrdered _ (cut_lines (i + 1) cs) (All-head IsOrderedCut c cs h) (cut_lines_ordered (i + 1) cs (All-tail IsOrderedCut c cs h))
 
 assumption_ordered : (i : ℕ) (o : Option Branch) → All LineIsOrdered (assumption_of i o)
 assumption_ordered i None = All-nil LineIsOrdered
@@ -156,5 +156,5 @@ pub merged_ordered : (p : Problem) → MergedIsOrdered p
 merged_ordered p es f o =
     let s = state_of p es in
     All-append LineIsOrdered (cut_lines 0 s.cuts ++ assumption_lines 0 s.nodes) (node_lines s es (length s.nodes))
-    (All-append LineIsOrdered (cut_lines 0 s.cuts) (assumption_lines 0 s.nodes) (cut_lines_ordered 0 s.cuts (cuts_from (first_state p) es o (All-nil CutIsOrdered))) (assumptions_ordered 0 s.nodes))
+    (All-append LineIsOrdered (cut_lines 0 s.cuts) (assumption_lines 0 s.nodes) (cut_lines_ordered 0 s.cuts (cuts_from (first_state p) es o (All-nil IsOrderedCut))) (assumptions_ordered 0 s.nodes))
     (nodes_ordered s es (done_from p es f.legal f.none_open) o (length s.nodes) (omega arith))

@@ -1,15 +1,17 @@
 -- The table of the events that closed nodes, one event more at a time.
-use Rattle.std.specs.Prelude.{◌≡◌, ◌≢◌, ◌<◌, ◌≤◌, ◌+◌, ℕ, zero, suc, Bool, true, false, cond, eqb, List, [], ◌∷◌, ◌++◌, length, take, Some, None, IsSome, slice_index, slice_index_or, slice_set, refl}
+use Rattle.std.specs.Prelude.{◌≡◌, ◌≢◌, ◌<◌, ◌≤◌, ◌+◌, ℕ, zero, suc, Bool, true, false, cond, eqb, List, [], ◌∷◌, ◌++◌, length, take, Some, None, IsSome, slice_index, slice_index_or, slice_set, refl, Option}
 use Rattle.std.specs.Option.{option_or}
 use Rattle.std.proofs.Common.{sym, ap, ◌∙◌, subst, arith}
 use Rattle.std.proofs.lemmas.Bool.{eqb-true, eqb-false}
 use Rattle.std.proofs.lemmas.List.{length-set, length-take-le, take_more, get_or-set_same, get_or-set_other}
 use Rattle.node_events.specs.declared.proof.Proof.{Proof}
 use Rattle.node_events.specs.declared.event.Event.{Event}
-use Rattle.node_events.specs.declared.event.Event.TheVariants.{Claim, Release, Cut, Offer, Split, Close}
+use Rattle.node_events.specs.declared.event.Event.TheVariants.{Close}
 use Rattle.event_core.specs.declared.entry.Entry.{Entry}
-use Rattle.cert_merge.specs.Endings.{closing, proof_of, proof_at, AreClosings}
+use Rattle.cert_merge.specs.Endings.{closing, proof_of, proof_at, AreClosings, proof_for}
 use Rattle.cert_merge.specs.Lemmas.Finished.{proof_of-push}
+use Rattle.event_core.specs.Frames.{closed_by}
+use Rattle.event_core.specs.Lemmas.Frames.{closed_is}
 
 -- ---- one entry more
 -- what an entry closes it still closes
@@ -81,9 +83,8 @@ past_closed e k proof ps q l i m = ap (λ d. closing d i) q ∙ step (eqb k i) r
 
 -- an event that is no close
 pub closes_none : (e : Event) → ((k : ℕ) (proof : Proof) → e ≡ Close k proof → ⊥) → (i : ℕ) → closing e i ≡ None
-closes_none (Claim k) n i = refl
-closes_none (Release k) n i = refl
-closes_none (Cut mult) n i = refl
-closes_none (Offer x) n i = refl
-closes_none (Split k j b r) n i = refl
-closes_none (Close k proof) n i = absurd (n k proof refl)
+closes_none e n i = ap (proof_for i) (none (closed_by e) refl)
+  where
+    none : (o : Option (ℕ × Proof)) → closed_by e ≡ o → o ≡ None
+    none None q = refl
+    none (Some c) q = absurd (n c.0 c.1 (closed_is e c q))

@@ -40,6 +40,7 @@ abbrev pub placed : ℕ × ℚ → Multipliers → Multipliers
 placed m [] = m ∷ []
 placed m (k ∷ ks) = if nat_lt m.0 k.0 then m ∷ k ∷ ks else k ∷ placed m ks
 
+-- multipliers put among others that rise, one by one
 abbrev pub all_placed : Multipliers → Multipliers → Multipliers
 all_placed [] ks = ks
 all_placed (m ∷ ms) ks = placed m (all_placed ms ks)

@@ -4,19 +4,19 @@ use Rattle.std.specs.Option.{option_or, option_and_then}
 use Rattle.problem.specs.Problem.{Problem}
 use Rattle.node_events.specs.declared.proof.Proof.{Proof}
 use Rattle.node_events.specs.declared.event.Event.{Event}
-use Rattle.node_events.specs.declared.event.Event.TheVariants.{Claim, Release, Cut, Offer, Split, Close}
 use Rattle.event_core.specs.declared.entry.Entry.{Entry}
 use Rattle.event_core.specs.States.{open_count}
 use Rattle.event_core.specs.Histories.{state_of, AreLegal}
+use Rattle.event_core.specs.Frames.{closed_by}
+
+-- the proof of a closed node, where that is node i
+abbrev pub proof_for : ℕ → Option (ℕ × Proof) → Option Proof
+proof_for i None = None
+proof_for i (Some c) = if eqb c.0 i then Some c.1 else None
 
 -- the proof with which the event closes node i
 abbrev pub closing : Event → ℕ → Option Proof
-closing (Claim k) i = None
-closing (Release k) i = None
-closing (Cut mult) i = None
-closing (Offer x) i = None
-closing (Split k j b reason) i = None
-closing (Close k proof) i = if eqb k i then Some proof else None
+closing e i = proof_for i (closed_by e)
 
 -- the proof with which node i was closed; the last one, if there were several
 abbrev pub proof_of : List Entry → ℕ → Option Proof

@@ -1,5 +1,5 @@
 -- What certificates promise.
-use Rattle.std.specs.Prelude.{◌≡◌, List, ◌<◌, ◌-◌, [], length, All, slice_index_or}
+use Rattle.std.specs.Prelude.{◌≡◌, List, ◌<◌, ◌-◌, [], length, All, slice_index_or, Option, Some, None, ℕ}
 use Rattle.fraction.specs.Rational.{ℚ}
 use Rattle.problem.specs.Problem.{Problem}
 use Rattle.problem.specs.Best.{IsVoid}
@@ -21,13 +21,13 @@ use Rattle.cert_rows.specs.declared.line.Why.TheVariants.{Asm, Lin, Rnd, Uns}
 use Rattle.node_events.specs.declared.proof.Proof.{Proof}
 use Rattle.node_events.specs.declared.proof.Proof.TheVariants.{Empty, Refute, Bound}
 use Rattle.node_events.specs.declared.event.Event.{Event}
-use Rattle.node_events.specs.declared.event.Event.TheVariants.{Claim, Release, Cut, Offer, Split, Close}
 use Rattle.derivation_book.specs.Price.{exact_price}
 use Rattle.event_core.specs.declared.entry.Entry.{Entry}
 use Rattle.cert_merge.specs.Closing.{BoundSource, AreSources, AreBelow, closing_multipliers}
 use Rattle.cert_merge.specs.Endings.{IsFinished}
 use Rattle.cert_merge.specs.Merged.{merged}
 use Rattle.cert_merge.specs.Tree.{NodeLine, derived_of, AreNodeLines, paths_with, IsConcluded}
+use Rattle.event_core.specs.Frames.{closed_by, cut_by}
 
 -- where a valid certificate claims infeasibility, no point is feasible
 abbrev pub InfeasibilityHolds : Problem → Cert → Type 0
@@ -75,14 +75,19 @@ ProofIsOrdered (Empty column) = Unit {0}
 ProofIsOrdered (Refute mult) = AreOrdered mult
 ProofIsOrdered (Bound mult rounded) = AreOrdered mult
 
+-- those of a cut, if there is one
+abbrev pub CutIsOrdered : Option Multipliers → Type 0
+CutIsOrdered None = Unit {0}
+CutIsOrdered (Some mult) = AreOrdered mult
+
+-- those of the proof of a closed node, if there is one
+abbrev pub ClosingIsOrdered : Option (ℕ × Proof) → Type 0
+ClosingIsOrdered None = Unit {0}
+ClosingIsOrdered (Some c) = ProofIsOrdered c.1
+
 -- those of an event
 abbrev pub EventIsOrdered : Event → Type 0
-EventIsOrdered (Claim i) = Unit {0}
-EventIsOrdered (Release i) = Unit {0}
-EventIsOrdered (Cut mult) = AreOrdered mult
-EventIsOrdered (Offer x) = Unit {0}
-EventIsOrdered (Split i j b reason) = Unit {0}
-EventIsOrdered (Close i proof) = ProofIsOrdered proof
+EventIsOrdered e = CutIsOrdered (cut_by e) × ClosingIsOrdered (closed_by e)
 
 -- the multipliers of each line are in order, where those of the events are
 abbrev pub MergedIsOrdered : Problem → Type 0

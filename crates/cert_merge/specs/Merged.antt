@@ -40,6 +40,7 @@ use Rattle.cert_merge.specs.Numbers.{assumption_line, node_line, line_of_bound, 
 abbrev pub label_of : List ℕ → ℕ → List ℕ
 label_of letter i = letter ++ decimal i
 
+-- a row with its label
 abbrev pub labelled : List ℕ → Row → CertRow
 labelled label r = record { label = label; sense = r.sense; rhs = r.rhs; terms = r.terms }
 
@@ -54,6 +55,7 @@ abbrev pub bound_lines : ℕ → List Span → List CertRow
 bound_lines j [] = []
 bound_lines j (s ∷ ss) = labelled (label_of (codes "L") j) (lower_row j s) ∷ labelled (label_of (codes "U") j) (upper_row j s) ∷ bound_lines (j + 1) ss
 
+-- the problem as certificates list it: its names, its objective, its rows, and behind them the bounds as rows
 abbrev pub part_of : Problem → Part
 part_of p = record { names = p.names; objective = p.objective; rows = row_lines 0 p.rows ++ bound_lines 0 p.spans }
 
@@ -63,6 +65,7 @@ abbrev pub claim_of : Option ℚ → Goal
 claim_of (Some v) = Range v v
 claim_of None = Infeas
 
+-- the best point, where there is one
 abbrev pub points_of : Option Point → List Point
 points_of (Some x) = x ∷ []
 points_of None = []
@@ -77,9 +80,11 @@ goal_row p (Some v) = objective_row p v
 goal_row p None = absurd_row
 
 -- ---- cuts, numbered from i on
+-- the line of cut i: the rounded combination of its multipliers
 abbrev pub cut_line : ℕ → Cut → CertRow × Why
 cut_line i c = (labelled (label_of (codes "K") i) c.row, Rnd c.mult)
 
+-- the lines of cuts, the first of which has number i
 abbrev pub cut_lines : ℕ → List Cut → List (CertRow × Why)
 cut_lines i [] = []
 cut_lines i (c ∷ cs) = cut_line i c ∷ cut_lines (i + 1) cs
@@ -94,6 +99,7 @@ sense_for High = L
 abbrev pub branch_row : Branch → Row
 branch_row b = record { sense = sense_for b.side; rhs = whole b.bound; terms = (b.column, whole (pos 1)) ∷ [] }
 
+-- the assumption of the branch that leads to node i; none for node 0
 abbrev pub assumption_of : ℕ → Option Branch → List (CertRow × Why)
 assumption_of i None = []
 assumption_of i (Some b) = (labelled (label_of (codes "A") i) (branch_row b), Asm) ∷ []
@@ -133,9 +139,11 @@ line_by s i (Some c) proof = split_line s c
 line_by s i None (Some proof) = closed_line s i proof
 line_by s i None None = (goal_row s.problem (cutoff s), Asm)
 
+-- a row with its reason, as the line of node i
 abbrev pub for_node : ℕ → Row × Why → CertRow × Why
 for_node i l = (labelled (label_of (codes "N") i) l.0, l.1)
 
+-- the line of node i, by how it was closed or split
 abbrev pub node_of : State → List Entry → ℕ → CertRow × Why
 node_of s es i = for_node i (line_by s i (children_at (tree_of s) i) (proof_of es i))
 

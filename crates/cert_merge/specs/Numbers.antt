@@ -36,6 +36,7 @@ abbrev pub sources_from : State → ℕ → ℕ → List Span → List BoundSour
 sources_from s i j [] = []
 sources_from s i j (b ∷ bs) = record { lower = line_of_bound s i j Low; upper = line_of_bound s i j High } ∷ sources_from s i (j + 1) bs
 
+-- the lines that state the bounds of node i's box, for each column
 abbrev pub sources_of : State → ℕ → List BoundSource
 sources_of s i = sources_from s i 0 s.problem.spans
 

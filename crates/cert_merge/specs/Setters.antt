@@ -12,6 +12,7 @@ use Rattle.cert_merge.specs.Closing.{BoundSource}
 use Rattle.cert_merge.specs.Numbers.{set_line}
 
 -- ---- the table
+-- no node has set a bound of the column
 abbrev pub no_setter : Setter
 no_setter = record { low = None; high = None }
 
@@ -20,6 +21,7 @@ abbrev pub set_by : Side → Setter → Option ℕ
 set_by Low t = t.low
 set_by High t = t.high
 
+-- the node that set this bound of column j
 abbrev pub set_at : List Setter → ℕ → Side → Option ℕ
 set_at ts j side = set_by side (slice_index_or ts j no_setter)
 
@@ -28,6 +30,7 @@ abbrev pub with_setter : Side → ℕ → Setter → Setter
 with_setter Low k t = record t { low = option_or t.low (Some k) }
 with_setter High k t = record t { high = option_or t.high (Some k) }
 
+-- the table, where node k set the bound of its branch unless a deeper node did
 abbrev pub noted : List Setter → ℕ → Branch → List Setter
 noted ts k b = slice_set ts b.column (with_setter b.side k (slice_index_or ts b.column no_setter))
 

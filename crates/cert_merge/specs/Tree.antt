@@ -16,6 +16,7 @@ pub record NodeLine : Type 0 where
   pub why : Why
   pub path : List ℕ
 
+-- the rows of the lines with their reasons
 abbrev pub derived_of : List NodeLine → List (CertRow × Why)
 derived_of [] = []
 derived_of (n ∷ ns) = (n.row, n.why) ∷ derived_of ns
@@ -41,6 +42,7 @@ pub record IsParent (ls : List CertLine) (goal row : Row) (paths : List (List �
   pub second : IsChild ls paths path i2 l2
   pub split : IsSplit (row_at ls l1) (row_at ls l2)
 
+-- the line of a node: it closes the node, or joins the lines of its two children
 abbrev pub IsNodeLine : List CertLine → Row → List (List ℕ) → Row → List ℕ → Why → Type 0
 IsNodeLine ls goal paths row path Asm = ⊥
 IsNodeLine ls goal paths row path (Lin mult) = IsClosedBy ls goal row path (IsLinear ls row mult) (assumed_by_all ls mult)

@@ -3,6 +3,7 @@ ghost use Rattle.std.specs.Prelude.{◌≡◌, ◌<◌, ◌≤◌, ◌++◌, ◌
 ghost use Rattle.fraction.specs.Rational.{whole};
 ghost use Rattle.cert_rows.specs.Validity.{lower_row, upper_row};
 ghost use Rattle.cert_merge.specs.Merged.{label_of, labelled, row_lines, bound_lines, part_of};
+ghost use Rattle.problem.specs.Limits.{most_columns};
 
 use cert_rows::{CertRow, CertRows, Label, Part};
 use fraction::Frac;
@@ -72,7 +73,7 @@ fn push_rows(alloc: Global, lines: &mut Vec<CertRow>, problem: &Problem) -> Resu
 }
 
 fn push_bounds(alloc: Global, lines: &mut Vec<CertRow>, root: &IntBox) -> Result<(), AllocError>
-    requires { length root.now ≤ 1000 }
+    requires { length root.now ≤ most_columns }
     ensures { OnOk result (lines.new.items ≡ lines.old.items ++ bound_lines 0 root.now) }
 {
     for j in 0..root.len() {

@@ -16,13 +16,16 @@ HasRightSign L G m = m ≤ℚ whole (pos 0)
 HasRightSign s E m = Unit {0}
 HasRightSign E s m = ⊥
 
+-- each multiplier has the right sign in a combination of this sense (VIPR 1.0)
 abbrev pub AllSigned : Sense → List CertLine → Multipliers → Type 0
 AllSigned s ls mult = All (λ m. HasRightSign s (row_at ls m.0).sense m.1) mult
 
+-- the sum of the lines, each times its multiplier, term by term
 abbrev pub combined_terms : List CertLine → Multipliers → Terms
 combined_terms ls [] = []
 combined_terms ls (m ∷ ms) = scaled m.1 (row_at ls m.0).terms ++ combined_terms ls ms
 
+-- the sum of the right sides, each times its multiplier
 abbrev pub combined_rhs : List CertLine → Multipliers → ℚ
 combined_rhs ls [] = whole (pos 0)
 combined_rhs ls (m ∷ ms) = m.1 *ℚ (row_at ls m.0).rhs +ℚ combined_rhs ls ms

@@ -27,6 +27,7 @@ pub record IsCombination (ls : List CertLine) (s : Sense) (mult : Multipliers) :
   pub earlier : All (λ m. m.0 < length ls) mult
   pub signs : AllSigned s ls mult
 
+-- each column's coefficient is a whole number
 abbrev pub HasWholeCoefficients : Row → Type 0
 HasWholeCoefficients r = (j : ℕ) → IsWhole (coefficient r.terms j)
 
@@ -36,6 +37,7 @@ rounded_rhs G rhs = whole (ceil rhs)
 rounded_rhs L rhs = whole (floor rhs)
 rounded_rhs E rhs = rhs
 
+-- the row with its right side rounded: up for G, down for L (VIPR 1.0, `rnd`)
 abbrev pub rounded : Row → Row
 rounded r = record r { rhs = rounded_rhs r.sense r.rhs }
 
@@ -53,10 +55,12 @@ pub record IsSplit (low high : Row) : Type 0 where
   pub whole_rhs : IsWhole low.rhs
   pub next_rhs : high.rhs ≡ low.rhs +ℚ whole (pos 1)
 
+-- a combination of the lines dominates the row (VIPR 1.0, `lin`)
 pub record IsLinear (ls : List CertLine) (r : Row) (mult : Multipliers) : Type 0 where
   pub combined : IsCombination ls r.sense mult
   pub dominates : Dominates (combination r.sense ls mult) r
 
+-- a combination of the lines with whole coefficients, rounded, dominates the row (VIPR 1.0, `rnd`)
 pub record IsRounded (ls : List CertLine) (r : Row) (mult : Multipliers) : Type 0 where
   pub combined : IsCombination ls r.sense mult
   pub whole_terms : HasWholeCoefficients (combination r.sense ls mult)
@@ -68,6 +72,7 @@ IsInequality G = Unit {0}
 IsInequality L = Unit {0}
 IsInequality E = ⊥
 
+-- two lines dominate the row, each under one side of a split, of which it gives up the assumption (VIPR 1.0, `uns`)
 pub record IsUnsplit (ls : List CertLine) (r : Row) (i1 l1 i2 l2 : ℕ) : Type 0 where
   pub inequality : IsInequality r.sense
   pub first_earlier : i1 < length ls
@@ -86,6 +91,7 @@ Follows ls r (Rnd mult) = IsRounded ls r mult
 Follows ls r (Uns i1 l1 i2 l2) = IsUnsplit ls r i1 l1 i2 l2
 
 -- ---- all lines
+-- a derived row with what it assumes
 abbrev pub derived_line_of : List CertLine → CertRow × Why → CertLine
 derived_line_of ls d = record { row = row_of d.0; assumes = assumes ls d.1 }
 
@@ -118,12 +124,15 @@ abbrev pub given_lines : List CertRow → List CertLine
 given_lines [] = []
 given_lines (r ∷ rs) = record { row = row_of r; assumes = [] } ∷ given_lines rs
 
+-- the given lines and behind them the derived ones
 abbrev pub all_lines : Cert → List CertLine
 all_lines c = with_derived (given_lines c.part.rows) c.lines
 
+-- the row of the last line
 abbrev pub last_row : Cert → Row
 last_row c = row_at (all_lines c) (length (all_lines c) - 1)
 
+-- what the last line assumes
 abbrev pub last_assumed : Cert → List ℕ
 last_assumed c = assumed_by (all_lines c) (length (all_lines c) - 1)
 
@@ -136,6 +145,7 @@ abbrev pub ShowsClaim : Problem → Cert → Goal → Type 0
 ShowsClaim p c Infeas = IsAbsurd (last_row c)
 ShowsClaim p c (Range lb ub) = Dominates (last_row c) (objective_row p lb) × Any (λ x. objective_at p x ≤ℚ ub) c.points
 
+-- the certificate is of this problem, each derived line follows from those before it, and its claim stands at the end (VIPR 1.0)
 pub record IsValid (p : Problem) (c : Cert) : Type 0 where
   pub names : c.part.names ≡ p.names
   pub objective : c.part.objective ≡ p.objective

@@ -1,2 +1,3 @@
+pub mod Limits
 pub mod Table
 pub mod Commands

@@ -27,7 +27,7 @@ pub enum Command {
         cert: String,
         /// The limits of the search.
         limits: Limits,
-        /// The bound for each column that has none, 0 to 1,000,000,000.
+        /// The bound for each column that has none, 0 to `LARGEST_BOUND`.
         upper: Option<u32>,
     },
     /// Go on from a journal, which holds the model.
@@ -46,7 +46,7 @@ pub enum Command {
     },
     /// Solve a model that is made from a seed.
     Drill {
-        /// The seed, 0 to 1,000,000,000.
+        /// The seed, 0 to `LARGEST_SEED`.
         seed: u32,
         /// Where the certificate is written.
         cert: String,

@@ -11,7 +11,7 @@ use clap::ArgMatches;
 use std::alloc::{AllocError, Global};
 
 // The largest seed.
-pub(crate) const MOST_SEED: u32 = 1_000_000_000;
+pub(crate) const LARGEST_SEED: u32 = 1_000_000_000;
 
 /// What the matches of `drill` ask for.
 ///
@@ -21,7 +21,7 @@ pub fn drill_asked(alloc: Global, matches: &ArgMatches<'_>) -> Result<Command, W
     ensures range { IfOk result HasRanges }
     ensures usage { IsErrOf result WordsFault.Usage → drill_of (rows_of (found_of matches.now)) ≡ None }
 {
-    let Some(seed) = number_in(matches, "SEED", 0, MOST_SEED)? else {
+    let Some(seed) = number_in(matches, "SEED", 0, LARGEST_SEED)? else {
         return Err(WordsFault::Usage);
     };
     let cert = path_in(matches, "CERT")?;

@@ -6,18 +6,14 @@ ghost use Rattle.command_words.specs.Commands.{AreInRange, limits_of as limits_o
 use crate::arguments::number_in;
 use crate::fault::WordsFault;
 use clap::ArgMatches;
+use node_tree::MOST_NODES;
+use problem::MOST_CUTS;
 
 /// The most nodes where the words don't say.
-const DEFAULT_NODES: u32 = 1_000_000;
-
-/// The largest number of nodes that may be asked for.
-pub(crate) const MOST_NODES: u32 = 1_000_000_000;
-
-/// The largest number of cuts that may be asked for, and that where the words don't say.
-pub(crate) const MOST_CUTS: u32 = 256;
+pub const DEFAULT_NODES: u32 = 1_000_000;
 
 /// How many workers there are where the words don't say.
-const DEFAULT_WORKERS: u32 = 1;
+pub const DEFAULT_WORKERS: u32 = 1;
 
 /// The largest number of workers that may be asked for.
 pub(crate) const MOST_WORKERS: u32 = 16;
@@ -25,11 +21,11 @@ pub(crate) const MOST_WORKERS: u32 = 16;
 /// The limits of a search, and its workers.
 #[derive(Clone, Copy, Debug, PartialEq, Eq)]
 pub struct Limits {
-    /// The most nodes of the search, 1 to 1,000,000,000; 1,000,000 where the words don't say.
+    /// The most nodes of the search, 1 to `MOST_NODES`; `DEFAULT_NODES` where the words don't say.
     pub nodes: u32,
-    /// The most cuts of the search, 0 to 256; 256 where the words don't say.
+    /// The most cuts of the search, 0 to `MOST_CUTS`, and that where the words don't say.
     pub cuts: u32,
-    /// How many workers search, 1 to 16; 1 where the words don't say.
+    /// How many workers search, 1 to `MOST_WORKERS`; `DEFAULT_WORKERS` where the words don't say.
     pub workers: u32,
 }
 

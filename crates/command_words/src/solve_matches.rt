@@ -2,16 +2,15 @@
 ghost use Rattle.std.specs.Prelude.{◌≡◌, ◌≤◌, Some, None, IfOk, IfSome, IsErrOf};
 ghost use Rattle.clap.specs.Words.{found_of, rows_of};
 ghost use Rattle.command_words.specs.Commands.{AreInRange, HasRanges, are_different as are_different_texts, asked, solve as solve_texts, solve_of};
+ghost use Rattle.problem.specs.Limits.{largest_bound};
 
 use crate::arguments::{number_in, path_in};
 use crate::command::Command;
 use crate::fault::WordsFault;
 use crate::limits::{Limits, limits_of};
 use clap::ArgMatches;
+use problem::LARGEST_BOUND;
 use std::alloc::{AllocError, Global};
-
-// The largest bound.
-pub(crate) const MOST_UPPER: u32 = 1_000_000_000;
 
 // Whether no two of the paths are the same.
 fn are_different(model: &str, journal: &str, cert: &str) -> bool
@@ -30,7 +29,7 @@ fn with_copies(
     upper: Option<u32>,
 ) -> Result<Command, AllocError>
     requires limits { AreInRange limits }
-    requires upper { IfSome upper (λ u. u ≤ 1000000000) }
+    requires upper { IfSome upper (λ u. u ≤ largest_bound) }
     ensures asked { IfOk result (λ c. asked c ≡ solve_texts model.now journal.now cert.now limits upper) }
     ensures range { IfOk result HasRanges }
 {
@@ -55,7 +54,7 @@ pub fn solve_asked(alloc: Global, matches: &ArgMatches<'_>) -> Result<Command, W
     let journal = path_in(matches, "JOURNAL")?;
     let cert = path_in(matches, "CERT")?;
     let limits = limits_of(matches)?;
-    let upper = number_in(matches, "upper", 0, MOST_UPPER)?;
+    let upper = number_in(matches, "upper", 0, LARGEST_BOUND)?;
     if !are_different(model, journal, cert) {
         return Err(WordsFault::Usage);
     }

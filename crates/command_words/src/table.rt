@@ -7,13 +7,14 @@ ghost use Rattle.command_words.specs.Table.{drill_command, resume_command, show_
 ghost use Rattle.command_words.specs.Table.{with_journal_cert, with_limits};
 ghost use Rattle.command_words.specs.Table.{path as path_rule, number as number_rule, seed as seed_rule};
 
-use crate::drill_matches::MOST_SEED;
+use crate::drill_matches::LARGEST_SEED;
 use crate::fault::WordsFault;
-use crate::limits::{MOST_CUTS, MOST_NODES, MOST_WORKERS};
-use crate::solve_matches::MOST_UPPER;
+use crate::limits::MOST_WORKERS;
 use clap::builder::ValueParser;
 use clap::error::ErrorKind;
 use clap::{Arg, ArgMatches, Command};
+use node_tree::MOST_NODES;
+use problem::{LARGEST_BOUND, MOST_CUTS};
 use std::alloc::{AllocError, Global};
 
 // A path, which the command has to have.
@@ -31,7 +32,7 @@ fn seed<'a>(alloc: Global) -> Arg<'a>
 {
     Arg::new(alloc, "SEED")
         .required(true)
-        .value_parser(ValueParser::Unsigned(0, u64::from(MOST_SEED)))
+        .value_parser(ValueParser::Unsigned(0, u64::from(LARGEST_SEED)))
 }
 
 // An option with one whole number in a range.
@@ -85,7 +86,7 @@ fn solve<'a>(alloc: Global) -> Result<Command<'a>, AllocError>
     let command = with_arg(Command::new(alloc, "solve"), path(alloc, "MODEL"))?;
     let command = with_journal_cert(alloc, command)?;
     let command = with_limits(alloc, command)?;
-    with_arg(command, number(alloc, "upper", 0, MOST_UPPER))
+    with_arg(command, number(alloc, "upper", 0, LARGEST_BOUND))
 }
 
 fn resume<'a>(alloc: Global) -> Result<Command<'a>, AllocError>
@@ -131,7 +132,8 @@ fn with_journal_commands<'a>(alloc: Global, command: Command<'a>) -> Result<Comm
     with_command(command, show(alloc)?)
 }
 
-fn table<'a>(alloc: Global) -> Result<Command<'a>, AllocError>
+// The table of all commands.
+pub(crate) fn table<'a>(alloc: Global) -> Result<Command<'a>, AllocError>
     ensures { IfOk result (λ c. app_of c ≡ commands) }
 {
     let command = with_command(program(alloc), solve(alloc)?)?;

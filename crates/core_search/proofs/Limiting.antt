@@ -1,14 +1,12 @@
 -- The limit on cuts is kept.
-use Rattle.std.specs.Prelude.{◌≡◌, ◌≤◌, ◌+◌, ◌-◌, max, ℕ, List, ◌∷◌, length, take, Option, Some, None, refl}
+use Rattle.std.specs.Prelude.{◌≡◌, ◌≤◌, ◌+◌, ◌-◌, max, ℕ, List, ◌∷◌, length, take, Some, refl}
 use Rattle.std.proofs.Common.{sym, subst, arith}
-use Rattle.std.proofs.lemmas.List.{length-take, length_push}
+use Rattle.std.proofs.lemmas.List.{length-take}
 use Rattle.problem_box.specs.declared.span.Span.{Span}
-use Rattle.problem.specs.declared.row.Row.{Row}
 use Rattle.problem.specs.Linear.{Multipliers}
 use Rattle.node_events.specs.declared.event.Event.TheVariants.{Cut}
-use Rattle.derivation_book.specs.Rounded.{rounded_row}
 use Rattle.event_core.specs.States.{State}
-use Rattle.event_core.specs.After.{after, after_cut}
+use Rattle.event_core.specs.After.{after}
 use Rattle.expand.specs.declared.finding.Finding.{Finding}
 use Rattle.expand.specs.declared.finding.Finding.TheVariants.{Cuts, Shut, Whole, Solved, Loose}
 use Rattle.expand.specs.declared.settlement.Settlement.{Settlement}
@@ -16,6 +14,7 @@ use Rattle.expand.specs.declared.settlement.Settlement.TheVariants.{Separated, C
 use Rattle.expand.specs.Settling.{settled}
 use Rattle.expand.specs.Lemmas.Rooms.{IsNotSeparated, without_cuts}
 use Rattle.core_search.specs.Deciding.{KeepsToLimit}
+use Rattle.event_core.specs.Lemmas.Frames.{cuts_after}
 
 -- ---- what is to be made
 no_cuts_fit : (limit : ℕ) (s : State) (g : Settlement) → IsNotSeparated g → KeepsToLimit limit s g
@@ -40,14 +39,10 @@ settled_fits limit s box (Solved k x mult v column) = no_cuts_fit limit s _ (wit
 settled_fits limit s box (Loose reason j b) = no_cuts_fit limit s _ (without_cuts s box limit (Loose reason j b) (λ mults e. cc))
 
 -- ---- what is made
-made_few : (s : State) (mult : Multipliers) (o : Option Row) → length (after_cut s mult o).cuts ≤ length s.cuts + 1
-made_few s mult None = omega arith
-made_few s mult (Some r) = let n = length_push s.cuts (record { row = r; mult = mult }) in omega (arith, n)
-
 pub few_still : (s t : State) (mult : Multipliers) (mults : List Multipliers) (most : ℕ) → t ≡ after s (Some 0) (Cut mult)
     → length s.cuts + length (mult ∷ mults) ≤ most → length t.cuts + length mults ≤ most
 few_still s t mult mults most e h =
-    let n : length t.cuts ≤ length s.cuts + 1 = subst (λ (u : State). length u.cuts ≤ length s.cuts + 1) (sym e) (made_few s mult (rounded_row s.problem s.cuts mult)) in
+    let n : length t.cuts ≤ length s.cuts + 1 = subst (λ (u : State). length u.cuts ≤ length s.cuts + 1) (sym e) (cuts_after s (Some 0) (Cut mult)).1 in
     omega (arith, n, h)
 
 -- one after the other

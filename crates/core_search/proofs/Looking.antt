@@ -4,6 +4,7 @@ use Rattle.std.proofs.Common.{sym, ap, ◌∙◌, subst}
 use Rattle.fraction.specs.Rational.{ℚ}
 use Rattle.problem_box.specs.declared.span.Span.{Span}
 use Rattle.problem.specs.Problem.{Problem}
+use Rattle.problem.specs.Limits.{most_cuts}
 use Rattle.derivation_book.specs.declared.cut.Cut.{Cut}
 use Rattle.dual_simplex.specs.Prepared.{Prepared, IsRelaxationOf}
 use Rattle.event_core.specs.States.{State, cutoff}
@@ -26,5 +27,5 @@ prepared_still s w v h e f k = record {
   all_cuts = ap (λ (r : Prepared). r.cuts) e ∙ h.all_cuts;
   prepared = subst (IsRelaxationOf s.problem s.cuts) (sym e) h.prepared;
   costs = k ∙ h.costs;
-  limit = subst (λ n. n ≤ 256) (sym f) h.limit;
+  limit = subst (λ n. n ≤ most_cuts) (sym f) h.limit;
 }

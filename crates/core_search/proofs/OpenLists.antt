@@ -201,6 +201,14 @@ pub record AreOpenNodesBelow (s : State) (n : ℕ) (os : List OpenNode) : Type 0
 wider_below : (n : ℕ) (os : List OpenNode) → All (Below n) os → All (Below (n + 1)) os
 wider_below n os h = All-weaker (Below n) (Below (n + 1)) (λ o l. omega (arith, l)) os h
 
+pub none_below : (s : State) → AreOpenNodesBelow s 0 []
+none_below s = record {
+  nodes = All-nil (IsOpenNode s);
+  rising = tt;
+  below = All-nil (Below 0);
+  listed = λ k l q. absurd (omega (arith, l));
+}
+
 pub node_more : (s : State) (n : ℕ) (os : List OpenNode) (o : OpenNode) → AreOpenNodesBelow s n os → o.number ≡ n → IsOpenNode s o → AreOpenNodesBelow s (n + 1) (os ++ o ∷ [])
 node_more s n os o h e b = record {
   nodes = All-append (IsOpenNode s) os (o ∷ []) h.nodes (All-cons (IsOpenNode s) o [] b (All-nil (IsOpenNode s)));

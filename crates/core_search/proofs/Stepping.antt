@@ -1,5 +1,5 @@
 -- What a step does to the state and to the list of the open nodes.
-use Rattle.std.specs.Prelude.{◌≡◌, ◌<◌, ◌≤◌, ◌+◌, ◌-◌, ◌^◌, ℕ, ℤ, pos, ◌≤ℤ◌, ◌<ℤ◌, nat_abs, true, List, [], ◌∷◌, ◌++◌, length, max, All, Option, Some, None, slice_get, slice_index_or, Result, Ok, Err, OnOk, refl}
+use Rattle.std.specs.Prelude.{◌≡◌, ◌<◌, ◌≤◌, ◌+◌, ◌-◌, ℕ, ℤ, pos, ◌≤ℤ◌, ◌<ℤ◌, nat_abs, true, List, [], ◌∷◌, ◌++◌, length, max, All, Option, Some, None, slice_get, slice_index_or, Result, Ok, Err, OnOk, refl}
 use Rattle.std.specs.Option.{ForSome}
 use Rattle.std.proofs.Common.{sym, ap, ◌∙◌, subst, arith, to_z, of_z, w64}
 use Rattle.std.proofs.Math.Nat.{le-max_left, max-le}
@@ -10,6 +10,7 @@ use Rattle.fraction.specs.Rational.{ℚ}
 use Rattle.problem_box.specs.declared.span.Span.{Span}
 use Rattle.problem.specs.Problem.{Problem}
 use Rattle.problem.specs.Limited.{IsModestSpan}
+use Rattle.problem.specs.Limits.{largest_bound}
 use Rattle.node_tree.specs.Trees.{IsTree}
 use Rattle.node_tree.specs.Lemmas.Splitting.{length-split, splits_share}
 use Rattle.node_events.specs.declared.event.Event.TheVariants.{Split}
@@ -108,7 +109,7 @@ module _ (ss : List Span) (j : ℕ) (b : ℤ) (h : has_both (slice_get ss j) b �
   pub left_at : ForSome (slice_get ss j) (λ s. (s.lo ≤ℤ b) × (b <ℤ s.hi))
   left_at = both_tells (slice_get ss j) b h
 
-  pub bound_modest : All IsModestSpan ss → nat_abs b ≤ 10 ^ 9
+  pub bound_modest : All IsModestSpan ss → nat_abs b ≤ largest_bound
   bound_modest m =
       let l = both_within ss j b h in
       let there = slice_get-get_or ss j no_span l in

@@ -7,6 +7,7 @@ ghost use Rattle.core_search.specs.Deciding.{IsLastLook, IsFinal, IsSameButCuts,
 ghost use Rattle.core_search.specs.OpenNodes.{IsOpenNode};
 ghost use Rattle.core_search.specs.Pools.{PoolGoesOn, StaysSound, FailsBy};
 ghost use Rattle.core_search.specs.Workers.{IsPrepared};
+ghost use Rattle.problem.specs.Limits.{most_cuts};
 
 use crate::events::apply_event;
 use crate::open_node::{OpenNode, node_conditions_hold};
@@ -73,7 +74,7 @@ fn settle_again(
 ) -> Result<Settlement, AllocError>
     requires node { IsOpenNode state.now.state node.now }
     requires costs { length worker.old.costs ≡ length state.now.state.problem.spans }
-    requires limit { worker.old.limit ≤ 256 }
+    requires limit { worker.old.limit ≤ most_cuts }
     ensures legal { IfOk result (λ g. IsSettlement state.now.state node.now.area g) }
     ensures last { IfOk result (λ g. IsFinal 0 g) }
     ensures prepared { OnOk result (IsPrepared state.now.state worker.new) }

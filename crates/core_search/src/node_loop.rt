@@ -8,6 +8,7 @@ ghost use Rattle.node_pool.specs.Payloads.{model_in};
 ghost use Rattle.core_search.specs.Endings.{IsSpent, HasSplitNext};
 ghost use Rattle.core_search.specs.Entries.{ExtendsHistory};
 ghost use Rattle.core_search.specs.Pools.{IsHaltOf, is_disk};
+ghost use Rattle.problem.specs.Limits.{most_cuts};
 
 use crate::open_node::open_nodes;
 use crate::step::step;
@@ -37,7 +38,7 @@ pub enum Ending {
 /// greatest pseudo-costs. Where the run is cramped or stalled, it is split in the middle of its first free column. However the search ends, nobody
 /// holds a node then.
 pub fn search<D: Disk>(alloc: Global, pool: &mut Pool<D>, cuts: u32) -> Ending
-    requires few_cuts { cuts ≤ 256 }
+    requires few_cuts { cuts ≤ most_cuts }
     requires unheld { pool.old.state.state.holds ≡ [] }
     requires sound { pool.old.halt ≡ None }
 

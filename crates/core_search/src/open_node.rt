@@ -2,6 +2,7 @@
 ghost use Rattle.std.specs.Prelude.{◌≡◌, ◌<◌, ◌≤◌, ◌+◌, ◌^◌, pos, nat_abs, ◌+ℤ◌, ◌≤ℤ◌, ◌<ℤ◌, ◌++◌, IfOk, OnOk, All, length, slice_get};
 ghost use Rattle.std.specs.Option.{ForSome};
 ghost use Rattle.problem.specs.Limited.{IsModestSpan};
+ghost use Rattle.problem.specs.Limits.{most_columns, largest_bound};
 ghost use Rattle.node_tree.specs.Trees.{IsTree};
 ghost use Rattle.event_core.specs.States.{tree_of};
 ghost use Rattle.event_core.specs.Sound.{IsSound};
@@ -15,7 +16,7 @@ use problem_box::IntBox;
 use pseudo_cost::Side;
 use std::alloc::{AllocError, Global};
 
-/// An open node with its box. The box is kept, since it would take a walk to node 0 to make it again.
+/// An open node with its box. The box is kept, since it would take a walk along the tree to make it again.
 #[derive(Drop)]
 pub struct OpenNode {
     /// The node's number.
@@ -35,9 +36,13 @@ pub fn open_nodes(alloc: Global, state: &State) -> Result<Vec<OpenNode>, AllocEr
     state.conditions_hold();
     let count = tree.len() as u32;
     let mut nodes = Vec::new(alloc);
+    let mut place = 0;
+    let mut walked = tree.root().copy(alloc)?;
     for number in 0..count {
         if state.is_open(number) {
-            let area = tree.box_of(alloc, number)?;
+            tree.walk(&mut walked, place, number);
+            place = number;
+            let area = walked.copy(alloc)?;
             nodes.push(OpenNode {
                 number,
                 area,
@@ -76,7 +81,7 @@ pub fn push_children(
     requires column { place.column < length area }
     requires left { ForSome (slice_get area place.column) (λ s. (s.lo ≤ℤ place.bound) × (place.bound <ℤ s.hi)) }
     requires right { ForSome (slice_get area place.column) (λ s. (s.lo <ℤ (place.bound +ℤ pos 1)) × ((place.bound +ℤ pos 1) ≤ℤ s.hi)) }
-    requires bound { nat_abs place.bound ≤ 10 ^ 9 }
+    requires bound { nat_abs place.bound ≤ largest_bound }
     ensures { OnOk result (nodes.new.items ≡ nodes.old.items ++ children number area place.column place.bound value) }
 {
     let column = place.column as usize;
@@ -105,7 +110,7 @@ pub fn node_conditions_hold(state: &State, node: &OpenNode)
     ensures sound { IsSound state.now.state }
     ensures tree { IsTree (tree_of state.now.state) }
     ensures columns { length node.now.area ≡ length state.now.state.problem.spans }
-    ensures few { length node.now.area ≤ 1000 }
+    ensures few { length node.now.area ≤ most_columns }
     ensures modest { All IsModestSpan node.now.area }
     ensures part { IsPart state.now.state.problem node.now.area }
 {

@@ -2,6 +2,7 @@
 ghost use Rattle.std.specs.Prelude.{◌≡◌, ◌≤◌, IfOk, OnOk, length};
 ghost use Rattle.dual_simplex.specs.Prepared.{IsRelaxationOf};
 ghost use Rattle.core_search.specs.Workers.{IsPrepared};
+ghost use Rattle.problem.specs.Limits.{most_cuts};
 
 use dual_simplex::Relaxation;
 use event_core::State;
@@ -32,7 +33,7 @@ fn relaxation_of(alloc: Global, state: &State) -> Result<Relaxation, AllocError>
 impl Worker {
     /// A worker that has noted nothing yet. The one error is want of memory.
     pub fn new(alloc: Global, state: &State, limit: u32) -> Result<Worker, AllocError>
-        requires { limit ≤ 256 }
+        requires { limit ≤ most_cuts }
         ensures prepared { IfOk result (λ w. IsPrepared state.now.state w) }
         ensures limit { IfOk result (λ w. w.limit ≡ limit) }
     {
@@ -48,7 +49,7 @@ impl Worker {
     /// Prepares the relaxation anew, where cuts were made. The one error is want of memory.
     pub fn prepare(&mut self, alloc: Global, state: &State) -> Result<(), AllocError>
         requires costs { length self.old.costs ≡ length state.now.state.problem.spans }
-        requires limit { self.old.limit ≤ 256 }
+        requires limit { self.old.limit ≤ most_cuts }
         ensures prepared { OnOk result (IsPrepared state.now.state self.new) }
         ensures limit { self.new.limit ≡ self.old.limit }
     {

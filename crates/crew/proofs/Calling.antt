@@ -7,12 +7,12 @@ use Rattle.std.proofs.lemmas.List.{append-nil}
 use Rattle.node_events.specs.declared.event.Event.TheVariants as event
 use Rattle.event_core.specs.declared.entry.Entry.{Entry}
 use Rattle.event_core.specs.declared.entry.Holder.{Holder}
-use Rattle.event_core.specs.States.{State, box_of, open_count}
+use Rattle.event_core.specs.States.{State, box_of, is_open, open_count}
 use Rattle.event_core.specs.Holds.{is_holding, holds_node}
 use Rattle.event_core.specs.Histories.{state_from}
 use Rattle.event_core.specs.Lemmas.Sounding.{IsKept}
 use Rattle.node_pool.specs.declared.halt.Halt.{Halt}
-use Rattle.node_pool.specs.Answers.{IsClaim}
+use Rattle.node_pool.specs.Answers.{IsClaim, IsIdle}
 use Rattle.node_pool.specs.declared.answers.Claim.TheVariants as claim
 use Rattle.node_pool.specs.declared.answers.Receipt.{Receipt}
 use Rattle.node_pool.specs.declared.answers.CommitFault.{CommitFault}
@@ -30,14 +30,15 @@ use Rattle.worker_gate.specs.Conditions.{HoldsNone, HoldsNode}
 use Rattle.worker_gate.specs.Entries.{happened, is_opened, opening_in, events_in, halt_in, state_in}
 use Rattle.worker_gate.specs.Gates.{Stepped}
 use Rattle.worker_gate.specs.Laws.{Stays}
+use Rattle.worker_gate.specs.Lemmas.Holding.{held_open}
 use Rattle.worker_gate.specs.Lemmas.Lists.{events-append, events-happened, halt-first, halt-none, state-append}
 use Rattle.worker_gate.specs.Lemmas.Staying.{kept_in, conditions_stay}
 use Rattle.crew.specs.declared.node_work.Step.{Step}
 use Rattle.crew.specs.declared.node_work.Step.TheVariants.{Ended, Separated, Refused}
 use Rattle.crew.specs.Lists.{IsFront, Worked, IsHolding, IsOver}
-use Rattle.crew.specs.Steps.{Leaves, step_of}
+use Rattle.crew.specs.Steps.{Leaves, AreAllHeld, step_of}
 use Rattle.crew.proofs.Fronts.{front_on}
-use Rattle.crew.proofs.Holding.{IsJournaled, all_first, all_quiet, settled_journaled, separated_holds, ended_none, claimed_held, lone}
+use Rattle.crew.proofs.Holding.{IsJournaled, all_first, all_quiet, settled_journaled, separated_holds, ended_none, ended_closed, claimed_held, lone}
 
 module _ (w : ℕ) (old new : List PoolEntry) (Made : List PoolEntry → List PoolEntry → Type 0) (step : Stepped w old new Made) where
   abbrev pub found : List PoolEntry
@@ -109,6 +110,16 @@ is_halted : (h : Option Halt) (s : State) → IsClaim h s claim.Halted → IsSom
 is_halted None s is = absurd is
 is_halted (Some h) s is = inl refl
 
+open_held : (h : Option Halt) (s : State) → IsClaim h s claim.Idle → (h ≡ None) × IsIdle s
+open_held None s is = (refl, is)
+open_held (Some h) s is = let bad : claim.Idle ≡ claim.Halted = is in cc
+
+all_held : (list : List PoolEntry) → IsClaim (halt_in list) (state_in list) claim.Idle → AreAllHeld list
+all_held list is = let h = open_held (halt_in list) (state_in list) is in record { unhalted = h.0; idle = h.1 }
+
+pub idle_held : (w : ℕ) (old new : List PoolEntry) → Stepped w old new (Claims w (Ok claim.Idle)) → AreAllHeld new
+idle_held w old new step = subst AreAllHeld (sym (same_if w old new (Claims w (Ok claim.Idle)) step step.makes.does.1)) (all_held step.at step.makes.does.0)
+
 pub done_over : (w : ℕ) (old new : List PoolEntry) → Stepped w old new (Claims w (Ok claim.Done)) → IsOver new
 done_over w old new step = subst IsOver (sym (same_if w old new (Claims w (Ok claim.Done)) step step.makes.does.1)) (no_open (halt_in step.at) (state_in step.at) step.makes.does.0)
 
@@ -158,11 +169,17 @@ module _ (w node : ℕ) (f : Finding) (old new : List PoolEntry) (opened : is_op
     events_are : events_in step.makes.own ≡ settling w node f step.at
     events_are = ap events_in step.makes.does.made ∙ events-happened (settling w node f step.at)
 
-    ended : IsNoCuts f → Worked w old new
+    ended : IsNoCuts f → Worked w old new × (is_open (state_in new) node ≡ false)
     ended n =
         let s = state_in step.at in
-        none_now w old new Made step (settling w node f step.at) events_are
-        (ended_none s w node (settled s (box_of s node) (opening_in step.at).cuts f) (without_cuts s (box_of s node) (opening_in step.at).cuts f n) (kept_at w old new Made step).apart ((stays_at w old new Made step opened).node node holds))
+        let g = settled s (box_of s node) (opening_in step.at).cuts f in
+        let kept = kept_at w old new Made step in
+        let here = (stays_at w old new Made step opened).node node holds in
+        let not_separated = without_cuts s (box_of s node) (opening_in step.at).cuts f n in (
+          none_now w old new Made step (settling w node f step.at) events_are (ended_none s w node g not_separated kept.apart here),
+          ap (λ (t : State). is_open t node) (state_new w old new Made step (settling w node f step.at) events_are)
+              ∙ ended_closed s w node g not_separated (held_open w node s.ended s.holds kept.holds_open here),
+        )
 
   pub committed : (r : Receipt) → Stepped w old new (Commits w node f (Ok r)) → Leaves w node old new (step_of f)
   committed r step = by_step (step_of f) refl
@@ -220,12 +237,12 @@ pub holding_on : (w node : ℕ) (a b c : List PoolEntry) → IsFront a b → IsH
 holding_on w node a b c ab bc = record { front = front_on a b c ab bc.front; legal = bc.legal; holds = bc.holds }
 
 pub leaves_front : (w node : ℕ) (a b : List PoolEntry) (t : Step) → Leaves w node a b t → IsFront a b
-leaves_front w node a b Ended l = l.front
+leaves_front w node a b Ended l = l.0.front
 leaves_front w node a b Separated l = l.front
 leaves_front w node a b Refused l = l.front
 
 pub leaves_on : (w node : ℕ) (a b c : List PoolEntry) (t : Step) → IsFront a b → Leaves w node b c t → Leaves w node a c t
-leaves_on w node a b c Ended ab l = worked_on w a b c ab l
+leaves_on w node a b c Ended ab l = (worked_on w a b c ab l.0, l.1)
 leaves_on w node a b c Separated ab l = holding_on w node a b c ab l
 leaves_on w node a b c Refused ab l = holding_on w node a b c ab l
 

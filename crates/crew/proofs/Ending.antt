@@ -1,46 +1,26 @@
 -- A pool whose workers have ended.
-use Rattle.std.specs.Prelude.{◌≡◌, ◌<◌, ℕ, Bool, true, false, not, nat_eq, ◌||◌, cond, List, [], ◌∷◌, All, Option, Some, None, refl}
+use Rattle.std.specs.Prelude.{◌≡◌, ◌<◌, ℕ, Bool, false, nat_eq, ◌||◌, List, [], ◌∷◌, All, Option, Some, None, refl}
 use Rattle.std.specs.List.{list_any}
 use Rattle.std.proofs.Common.{sym, ap, ◌∙◌, subst}
 use Rattle.std.proofs.lemmas.Bool.{eq-eqb}
-use Rattle.std.proofs.lemmas.List.Elements.{All-nil, All-cons, All-head, All-tail, All-append}
-use Rattle.problem.specs.declared.row.Row.{Row}
-use Rattle.problem.specs.Linear.{Multipliers}
+use Rattle.std.proofs.lemmas.List.Elements.{All-nil, All-cons, All-head, All-tail}
 use Rattle.node_events.specs.declared.event.Event.{Event}
-use Rattle.node_events.specs.declared.event.Event.TheVariants.{Claim, Release, Cut, Offer, Split, Close}
-use Rattle.derivation_book.specs.Rounded.{rounded_row}
 use Rattle.event_core.specs.declared.entry.Entry.{Entry}
 use Rattle.event_core.specs.declared.entry.Holder.{Holder}
 use Rattle.event_core.specs.States.{State}
-use Rattle.event_core.specs.Holds.{is_holding, without_hold}
-use Rattle.event_core.specs.After.{after, after_cut}
+use Rattle.event_core.specs.Holds.{is_holding}
+use Rattle.event_core.specs.After.{after}
 use Rattle.event_core.specs.Histories.{state_from}
 use Rattle.worker_gate.specs.Legal.{IsOneOf, IsByOneOf}
+use Rattle.event_core.specs.Lemmas.Frames.{all_holds}
 
 abbrev pub IsHeldBelow : ℕ → Holder → Type 0
 IsHeldBelow n h = h.worker < n
 
 -- ---- who holds a node is one of the workers
-below_without : (n i : ℕ) (hs : List Holder) → All (IsHeldBelow n) hs → All (IsHeldBelow n) (without_hold i hs)
-below_without n i [] a = All-nil (IsHeldBelow n)
-below_without n i (h ∷ hs) a = step (nat_eq h.node i) (below_without n i hs (All-tail (IsHeldBelow n) h hs a))
-  where
-    step : (b : Bool) → All (IsHeldBelow n) (without_hold i hs) → All (IsHeldBelow n) (cond (not b) (h ∷ without_hold i hs) (without_hold i hs))
-    step true r = r
-    step false r = All-cons (IsHeldBelow n) h (without_hold i hs) (All-head (IsHeldBelow n) h hs a) r
-
-below_cut : (n : ℕ) (s : State) (mult : Multipliers) (o : Option Row) → All (IsHeldBelow n) s.holds → All (IsHeldBelow n) (after_cut s mult o).holds
-below_cut n s mult None a = a
-below_cut n s mult (Some r) a = a
-
 below_after : (n : ℕ) (s : State) (w : Option ℕ) (e : Event) → IsOneOf n w → All (IsHeldBelow n) s.holds → All (IsHeldBelow n) (after s w e).holds
 below_after n s None e m a = absurd m
-below_after n s (Some w) (Claim i) m a = All-append (IsHeldBelow n) s.holds (record { worker = w; node = i } ∷ []) a (All-cons (IsHeldBelow n) (record { worker = w; node = i }) [] m (All-nil (IsHeldBelow n)))
-below_after n s (Some w) (Release i) m a = below_without n i s.holds a
-below_after n s (Some w) (Cut mult) m a = below_cut n s mult (rounded_row s.problem s.cuts mult) a
-below_after n s (Some w) (Offer x) m a = a
-below_after n s (Some w) (Split i j b r) m a = below_without n i s.holds a
-below_after n s (Some w) (Close i proof) m a = below_without n i s.holds a
+below_after n s (Some w) e m a = all_holds (IsHeldBelow n) s (Some w) e (λ i. All-cons (IsHeldBelow n) (record { worker = w; node = i }) [] m (All-nil (IsHeldBelow n))) a
 
 below_from : (n : ℕ) (s : State) (es : List Entry) → All (IsByOneOf n) es → All (IsHeldBelow n) s.holds → All (IsHeldBelow n) (state_from s es).holds
 below_from n s [] m a = a

@@ -1,17 +1,10 @@
 -- Lists that begin with an older one: what they have of its state.
-use Rattle.std.specs.Prelude.{◌≡◌, ℕ, true, List, [], ◌∷◌, ◌++◌, Option, Some, None, refl}
+use Rattle.std.specs.Prelude.{◌≡◌, true, List, [], ◌++◌}
 use Rattle.std.proofs.Common.{sym, ap, ◌∙◌, subst, append_assoc}
 use Rattle.std.proofs.lemmas.List.{append-nil}
-use Rattle.problem.specs.declared.row.Row.{Row}
-use Rattle.problem.specs.Linear.{Multipliers}
 use Rattle.problem.specs.Problem.{Problem}
-use Rattle.node_events.specs.declared.event.Event.{Event}
-use Rattle.node_events.specs.declared.event.Event.TheVariants.{Claim, Release, Cut, Offer, Split, Close}
 use Rattle.derivation_book.specs.declared.cut.Cut.{Cut as MadeCut}
-use Rattle.derivation_book.specs.Rounded.{rounded_row}
-use Rattle.event_core.specs.declared.entry.Entry.{Entry}
 use Rattle.event_core.specs.States.{State}
-use Rattle.event_core.specs.After.{after, after_cut}
 use Rattle.event_core.specs.Histories.{state_from, AreLegalFrom}
 use Rattle.event_core.specs.Lemmas.Running.{from-problem}
 use Rattle.worker_gate.specs.declared.entry.PoolEntry.{PoolEntry}
@@ -22,6 +15,7 @@ use Rattle.worker_gate.specs.Lemmas.Staying.{legal_behind}
 use Rattle.crew.specs.Lists.{IsFront}
 use Rattle.crew.specs.declared.worker.Worker.{Worker}
 use Rattle.crew.specs.Workers.{HasFirst, Knows}
+use Rattle.event_core.specs.Lemmas.Frames.{cuts_from}
 
 pub front_here : (a : List PoolEntry) → IsFront a a
 front_here a = ([], sym (append-nil a))
@@ -30,28 +24,9 @@ pub front_on : (a b c : List PoolEntry) → IsFront a b → IsFront b c → IsFr
 front_on a b c ab bc = (ab.0 ++ bc.0, bc.1 ∙ (ap (λ (l : List PoolEntry). l ++ bc.0) ab.1 ∙ append_assoc a ab.0 bc.0))
 
 -- ---- more cuts
-cut_more : (s : State) (mult : Multipliers) (o : Option Row) → HasFirst s.cuts (after_cut s mult o)
-cut_more s mult None = ([], sym (append-nil s.cuts))
-cut_more s mult (Some r) = (record { row = r; mult = mult } ∷ [], refl)
-
-same_cuts : (s t : State) → t.cuts ≡ s.cuts → HasFirst s.cuts t
-same_cuts s t e = ([], e ∙ sym (append-nil s.cuts))
-
-after_more : (s : State) (w : Option ℕ) (e : Event) → HasFirst s.cuts (after s w e)
-after_more s w (Claim i) = same_cuts s (after s w (Claim i)) refl
-after_more s w (Release i) = same_cuts s (after s w (Release i)) refl
-after_more s w (Cut mult) = cut_more s mult (rounded_row s.problem s.cuts mult)
-after_more s w (Offer x) = same_cuts s (after s w (Offer x)) refl
-after_more s w (Split i j b r) = same_cuts s (after s w (Split i j b r)) refl
-after_more s w (Close i proof) = same_cuts s (after s w (Close i proof)) refl
-
 -- cuts that stand first in a state whose cuts stand first in another
 first_on : (cs : List MadeCut) (s t : State) → HasFirst cs s → HasFirst s.cuts t → HasFirst cs t
 first_on cs s t h k = (h.0 ++ k.0, k.1 ∙ (ap (λ (l : List MadeCut). l ++ k.0) h.1 ∙ append_assoc cs h.0 k.0))
-
-from_more : (s : State) (es : List Entry) → HasFirst s.cuts (state_from s es)
-from_more s [] = same_cuts s s refl
-from_more s (e ∷ es) = let t = after s e.worker e.event in first_on s.cuts t (state_from t es) (after_more s e.worker e.event) (from_more t es)
 
 -- ---- what a longer list has of the first one
 module _ (a b : List PoolEntry) (front : IsFront a b) (opened : is_opened a ≡ true) where
@@ -71,7 +46,7 @@ module _ (a b : List PoolEntry) (front : IsFront a b) (opened : is_opened a ≡ 
   front_problem = ap (λ (s : State). s.problem) front_state ∙ from-problem (state_in a) (events_in front.0)
 
   pub front_first : (cs : List MadeCut) → HasFirst cs (state_in a) → HasFirst cs (state_in b)
-  front_first cs h = first_on cs (state_in a) (state_in b) h (subst (λ (s : State). HasFirst (state_in a).cuts s) (sym front_state) (from_more (state_in a) (events_in front.0)))
+  front_first cs h = first_on cs (state_in a) (state_in b) h (subst (λ (s : State). HasFirst (state_in a).cuts s) (sym front_state) (cuts_from (state_in a) (events_in front.0)))
 
   pub front_knows : (p : Problem) (w : Worker) → Knows p w (state_in a) → Knows p w (state_in b)
   front_knows p w k = record { problem = front_problem ∙ k.problem; first = front_first w.book.cuts k.first; prepared = k.prepared }

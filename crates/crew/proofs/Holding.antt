@@ -1,21 +1,20 @@
 -- Who holds a node after events of a worker who holds one.
-use Rattle.std.specs.Prelude.{◌≡◌, ℕ, Bool, true, false, not, nat_eq, ◌&&◌, ◌||◌, cond, List, [], ◌∷◌, ◌++◌, map, All, Option, Some, None, refl}
+use Rattle.std.specs.Prelude.{◌≡◌, ℕ, zero, suc, Bool, true, false, not, nat_eq, ◌&&◌, ◌||◌, cond, List, [], ◌∷◌, ◌++◌, map, slice_set, All, Option, Some, None, refl, is_some}
 use Rattle.std.specs.List.{list_any}
 use Rattle.std.proofs.Common.{sym, ap, ◌∙◌, subst}
 use Rattle.std.proofs.lemmas.Bool.{eq-eqb, eqb-true}
 use Rattle.std.proofs.lemmas.List.Elements.{All-nil, All-cons, All-head, All-tail}
 use Rattle.std.proofs.lemmas.List.Folds.{list_any-append}
-use Rattle.problem.specs.declared.row.Row.{Row}
 use Rattle.problem.specs.Linear.{Multipliers}
 use Rattle.node_events.specs.declared.event.Event.{Event}
-use Rattle.node_events.specs.declared.event.Event.TheVariants.{Claim, Release, Cut, Offer, Split, Close}
-use Rattle.derivation_book.specs.Rounded.{rounded_row}
+use Rattle.node_events.specs.declared.event.Event.TheVariants.{Claim, Cut, Offer, Close}
 use Rattle.event_core.specs.declared.entry.Entry.{Entry}
 use Rattle.event_core.specs.declared.entry.Holder.{Holder}
-use Rattle.event_core.specs.States.{State}
+use Rattle.event_core.specs.States.{State, is_open}
 use Rattle.event_core.specs.Holds.{is_holding, holds_node, without_hold}
-use Rattle.event_core.specs.After.{after, after_cut}
+use Rattle.event_core.specs.After.{after}
 use Rattle.event_core.specs.Histories.{state_from, is_journaled}
+use Rattle.event_core.specs.Lemmas.Ended.{is_left}
 use Rattle.event_core.specs.Sound.{AreApart}
 use Rattle.expand.specs.declared.settlement.Settlement.{Settlement}
 use Rattle.expand.specs.declared.settlement.Settlement.TheVariants.{Separated, Closed, Improved, Branched}
@@ -23,6 +22,8 @@ use Rattle.expand.specs.Laws.{entries_of}
 use Rattle.expand.specs.Settlements.{events_of}
 use Rattle.expand.specs.Lemmas.Rooms.{IsNotSeparated}
 use Rattle.worker_gate.specs.Calls.{ends_node}
+use Rattle.event_core.specs.Frames.{ended_by}
+use Rattle.event_core.specs.Lemmas.Frames.{journaled_claims, journaled_frees, quiet_holds}
 
 abbrev is_of : ℕ → ℕ → Holder → Bool
 is_of w i h = nat_eq h.worker w && nat_eq h.node i
@@ -80,17 +81,12 @@ lone w i (h ∷ hs) a e = step (nat_eq h.worker w) (nat_eq h.node i) refl e (λ 
     step false false q k f = ap (λ c. c || list_any (is_by w) (without_hold i hs)) q ∙ f k
 
 -- ---- events that end no node
-cut_holds : (s : State) (mult : Multipliers) (o : Option Row) → (after_cut s mult o).holds ≡ s.holds
-cut_holds s mult None = refl
-cut_holds s mult (Some r) = refl
-
-quiet_holds : (s : State) (w : Option ℕ) (e : Event) → is_journaled e ≡ true → ends_node e ≡ false → (after s w e).holds ≡ s.holds
-quiet_holds s w (Claim i) j n = cc
-quiet_holds s w (Release i) j n = cc
-quiet_holds s w (Cut mult) j n = cut_holds s mult (rounded_row s.problem s.cuts mult)
-quiet_holds s w (Offer x) j n = refl
-quiet_holds s w (Split i j b r) k n = cc
-quiet_holds s w (Close i proof) j n = cc
+unending_holds : (s : State) (w : Option ℕ) (e : Event) → is_journaled e ≡ true → ends_node e ≡ false → (after s w e).holds ≡ s.holds
+unending_holds s w e j n = quiet_holds s w e (journaled_frees e j ∙ none (ended_by e) n) (journaled_claims e j)
+  where
+    none : (o : Option ℕ) → is_some o ≡ false → o ≡ None
+    none None n = refl
+    none (Some i) n = cc
 
 abbrev pub IsJournaled : Entry → Type 0
 IsJournaled e = is_journaled e.event ≡ true
@@ -102,7 +98,7 @@ pub all_quiet : (s : State) (es : List Entry) → All IsJournaled es → All IsU
 all_quiet s [] j n = refl
 all_quiet s (e ∷ es) j n =
     all_quiet (after s e.worker e.event) es (All-tail IsJournaled e es j) (All-tail IsUnending e es n)
-    ∙ quiet_holds s e.worker e.event (All-head IsJournaled e es j) (All-head IsUnending e es n)
+    ∙ unending_holds s e.worker e.event (All-head IsJournaled e es j) (All-head IsUnending e es n)
 
 -- ---- the events of a settlement
 cuts_journaled : (w : ℕ) (mults : List Multipliers) → All IsJournaled (entries_of w (map Cut mults))
@@ -136,3 +132,21 @@ ended_none s w i (Separated mults) n a h = absurd (n mults refl)
 ended_none s w i (Closed proof) n a h = lone w i s.holds a h
 ended_none s w i (Improved x proof) n a h = lone w i s.holds a h
 ended_none s w i (Branched b) n a h = lone w i s.holds a h
+
+-- ---- the node itself
+set_closed : (es : List Bool) (i : ℕ) → is_left (slice_set es i true) i ≡ false
+set_closed [] i = refl
+set_closed (e ∷ es) zero = refl
+set_closed (e ∷ es) (suc i) = set_closed es i
+
+parted_closed : (es : List Bool) (i : ℕ) → is_left es i ≡ true → is_left (slice_set es i true ++ false ∷ false ∷ []) i ≡ false
+parted_closed [] i h = cc
+parted_closed (e ∷ es) zero h = refl
+parted_closed (e ∷ es) (suc i) h = parted_closed es i h
+
+-- all but cuts end it
+pub ended_closed : (s : State) (w i : ℕ) (g : Settlement) → IsNotSeparated g → is_open s i ≡ true → is_open (state_from s (entries_of w (events_of i g))) i ≡ false
+ended_closed s w i (Separated mults) n o = absurd (n mults refl)
+ended_closed s w i (Closed proof) n o = set_closed s.ended i
+ended_closed s w i (Improved x proof) n o = set_closed s.ended i
+ended_closed s w i (Branched b) n o = parted_closed s.ended i o

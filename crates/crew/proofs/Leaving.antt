@@ -16,7 +16,7 @@ use Rattle.crew.proofs.Calling.{committed, refused}
 
 pub takes_front : (w : ℕ) (old new : List PoolEntry) (t : Taken) → Takes w old new t → IsFront old new
 takes_front w old new (Node n) takes = takes.front
-takes_front w old new Idle takes = takes.front
+takes_front w old new Idle takes = takes.0.front
 takes_front w old new Over takes = takes.0.front
 
 module _ (w node : ℕ) (f : Finding) (old new : List PoolEntry) (opened : is_opened old ≡ true) (holds : HoldsNode w node old) where

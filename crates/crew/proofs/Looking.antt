@@ -10,6 +10,7 @@ use Rattle.std.proofs.lemmas.Option.{MatchOption-from_none}
 use Rattle.fraction.specs.Rational.{ℚ}
 use Rattle.problem.specs.Limited.{IsModestSpan, IsLimited}
 use Rattle.problem.specs.Problem.{Problem}
+use Rattle.problem.specs.Limits.{most_cuts}
 use Rattle.node_tree.specs.declared.branch.Branch.{Branch}
 use Rattle.node_tree.specs.Nodes.{Tree, branch_at}
 use Rattle.node_tree.specs.Trees.{IsTree}
@@ -41,7 +42,7 @@ module _ (cs : List Cut) (s : State) (first : HasFirst cs s) where
   pub rest_after : AreCutsOf s.problem s.cuts → AreCutsAfter s.problem cs first.0
   rest_after h = cuts_after s.problem [] cs first.0 (subst (AreCutsOf s.problem) first.1 h)
 
-  pub rest_few : length s.cuts ≤ 256 → length cs + length first.0 ≤ 256
+  pub rest_few : length s.cuts ≤ most_cuts → length cs + length first.0 ≤ most_cuts
   rest_few h = omega (arith, h, ap (λ (l : List Cut). length l) first.1, length-append cs first.0)
 
 -- ---- nodes

@@ -1,9 +1,9 @@
 -- A pool that was halted by its budget.
-use Rattle.std.specs.Prelude.{◌≡◌, ◌⊎◌, ◌<◌, ◌≤◌, ◌+◌, ℕ, true, false, [], length, Option, Some, None, IsSome}
+use Rattle.std.specs.Prelude.{◌≡◌, ◌⊎◌, ◌<◌, ◌≤◌, ◌+◌, ℕ, true, false, [], length, Option, Some, None, IsSome, nat_lt, Bool, ◌&&◌, refl}
 use Rattle.std.proofs.Common.{⊎_elim, sym, ap, subst}
 use borrow.Author.Tests.{ltb-true}
 use Rattle.node_events.specs.declared.event.Event.{Event}
-use Rattle.node_events.specs.declared.event.Event.TheVariants.{Claim, Release, Cut, Offer, Split, Close}
+use Rattle.node_events.specs.declared.event.Event.TheVariants.{Split}
 use Rattle.event_core.specs.declared.admit.Admit.TheVariants.{Yes}
 use Rattle.event_core.specs.States.{State, open_count}
 use Rattle.event_core.specs.Judging.{judged}
@@ -14,23 +14,25 @@ use Rattle.node_pool.specs.declared.halt.Halt.TheVariants as halt
 use Rattle.outside.specs.Faults.{Rose}
 use Rattle.node_pool.specs.Halting.{IsHalt, IsBudgetHalt, IsDiskHalt}
 use Rattle.core_search.specs.Endings.{IsSpent}
-use Rattle.crew.proofs.Halting.{some_open}
+use Rattle.event_core.specs.Frames.{is_split}
+use Rattle.event_core.specs.Lemmas.Frames.{some_open, split_is}
 
 module _ (faults budget count : ℕ) (fault : Option ℕ) (s : State) (nobody : s.holds ≡ []) where
   still : unheld s ≡ s
   still = ap (λ hs. record s { holds = hs }) (sym nobody)
 
   spent_by : (e : Event) → IsBudgetHalt faults budget count fault s e → IsSpent budget s × (0 < open_count s)
-  spent_by (Claim i) h = let bad : false ≡ true = h.over in cc
-  spent_by (Release i) h = let bad : false ≡ true = h.over in cc
-  spent_by (Cut mult) h = let bad : false ≡ true = h.over in cc
-  spent_by (Offer x) h = let bad : false ≡ true = h.over in cc
-  spent_by (Split i j b r) h =
-      let admitted : judged s None (Split i j b r) ≡ Yes = subst (λ t. judged t None (Split i j b r) ≡ Yes) still h.next.admitted in (
-        record { splits = record { node = i; column = j; bound = b; reason = r; admitted = admitted }; full = ltb-true budget (length s.nodes + 2) h.over },
-        some_open s i (split_passed s None i j b r admitted).opened,
+  spent_by e h =
+      let over = both (is_split e) (nat_lt budget (length s.nodes + 2)) h.over in
+      let split = split_is e over.0 in
+      let admitted : judged s None (Split split.0 split.1 split.2 split.3) ≡ Yes = subst (λ t. judged t None (Split split.0 split.1 split.2 split.3) ≡ Yes) still (subst (λ d. judged (unheld s) None d ≡ Yes) split.4 h.next.admitted) in (
+        record { splits = record { node = split.0; column = split.1; bound = split.2; reason = split.3; admitted = admitted }; full = ltb-true budget (length s.nodes + 2) over.1 },
+        some_open s split.0 (split_passed s None split.0 split.1 split.2 split.3 admitted).opened,
       )
-  spent_by (Close i proof) h = let bad : false ≡ true = h.over in cc
+    where
+      both : (a b : Bool) → (a && b) ≡ true → (a ≡ true) × (b ≡ true)
+      both true b e = (refl, e)
+      both false b e = cc
 
   pub budget_spent : (h : Option Halt) (e : Event) → h ≡ Some (halt.Budget e) → IsHalt faults budget count fault s h → IsSpent budget s × (0 < open_count s)
   budget_spent h e is held = spent_by e (subst (IsHalt faults budget count fault s) is held)

@@ -5,6 +5,7 @@ use Rattle.std.proofs.Common.{sym, ap, ◌∙◌, subst}
 use Rattle.std.proofs.lemmas.List.{append-nil}
 use Rattle.problem.specs.Limited.{IsLimited}
 use Rattle.problem.specs.Problem.{Problem}
+use Rattle.problem.specs.Limits.{most_cuts}
 use Rattle.derivation_book.specs.declared.cut.Cut.{Cut}
 use Rattle.derivation_book.specs.Cuts.{AreCutsAfter}
 use Rattle.event_core.specs.States.{State}
@@ -58,8 +59,8 @@ module _ (p : Problem) (k : Worker) (w node known : ℕ) (e : known ≡ length k
       subst (λ (cs : List Cut). AreCutsAfter p k.book.cuts cs) (sym cuts_are)
       (subst (λ (q : Problem). AreCutsAfter q k.book.cuts known_now.first.0) known_now.problem (rest_after k.book.cuts now known_now.first sound.cuts))
 
-  pub seen_few : length k.book.cuts + length g.cuts.items ≤ 256
-  seen_few = subst (λ (cs : List Cut). length k.book.cuts + length cs ≤ 256) (sym cuts_are) (rest_few k.book.cuts now known_now.first sound.few_cuts)
+  pub seen_few : length k.book.cuts + length g.cuts.items ≤ most_cuts
+  seen_few = subst (λ (cs : List Cut). length k.book.cuts + length cs ≤ most_cuts) (sym cuts_are) (rest_few k.book.cuts now known_now.first sound.few_cuts)
 
   abbrev view : NodeView
   view = record { area = g.area; cutoff = g.cutoff; branch = g.branch }

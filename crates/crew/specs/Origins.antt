@@ -1,8 +1,8 @@
 -- The splits that made nodes, as far as one worker knows them.
-use Rattle.std.specs.Prelude.{◌≡◌, ℕ, Option, Some, None}
+use Rattle.std.specs.Prelude.{◌≡◌, ◌⊎◌, ℕ, Option, Some, None}
 use Rattle.std.specs.Option.{option_map}
 use Rattle.std.specs.Ordering.{nat_cmp}
-use Rattle.std.specs.BTreeMap.{get, Updates}
+use Rattle.std.specs.BTreeMap.{get, Updates, IsUnchanged}
 use Rattle.node_tree.specs.declared.branch.Branch.{Branch}
 use Rattle.node_tree.specs.declared.branch.Side.{Side as BoundSide}
 use Rattle.node_tree.specs.declared.branch.Side.TheVariants.{Low, High}
@@ -31,3 +31,7 @@ Notes old new node (Cuts mults) = new ≡ old
 Notes old new node (Shut proof) = new ≡ old
 Notes old new node (Whole x) = new ≡ old
 Notes old new node (Loose reason j b) = new ≡ old
+
+-- without memory nothing is noted
+abbrev pub MayNote : SplitValues → SplitValues → ℕ → Finding → Type 0
+MayNote old new node f = Notes old new node f ⊎ IsUnchanged old.values new.values

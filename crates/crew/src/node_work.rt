@@ -1,9 +1,12 @@
 //! What a worker does with the node that it holds.
-ghost use Rattle.std.specs.Prelude.{◌≡◌, true, false, IfOk, OnOk};
+ghost use Rattle.std.specs.Prelude.{◌≡◌, ◌-◌, true, false, IfOk, OnOk, length};
+ghost use Rattle.event_core.specs.States.{is_open, box_of, cutoff};
+ghost use Rattle.expand.specs.Expansion.{IsExpansion};
 ghost use Rattle.worker_gate.specs.Conditions.{HoldsNode, IsFound};
 ghost use Rattle.worker_gate.specs.Entries.{is_opened, state_in};
 ghost use Rattle.core_search.specs.Deciding.{IsLastLook};
 ghost use Rattle.crew.specs.Lists.{IsHolding, Worked, IsOver};
+ghost use Rattle.crew.specs.Origins.{MayNote};
 ghost use Rattle.crew.specs.Steps.{Leaves, step_of};
 ghost use Rattle.crew.specs.Workers.{IsViewOf, IsNodeOf, Knows};
 
@@ -46,6 +49,7 @@ fn view<R: Wait, G: PoolGate>(
     ensures node { IfOk result (λ v. IsNodeOf problem.now v) }
     ensures all { OnOk result (worker.new.book.cuts ≡ (state_in (G.seen gate.new)).cuts) }
     ensures knows { OnOk result (Knows problem.now worker.new (state_in (G.seen gate.new))) }
+    ensures splits { worker.new.splits ≡ worker.old.splits }
 {
     problem.limits_hold();
     let Glance {
@@ -78,15 +82,16 @@ pub(crate) fn find<R: Wait, G: PoolGate>(
     ensures same { G.worker gate.new ≡ G.worker gate.old }
     ensures stays { G.home gate.new ≡ G.home gate.old }
     ensures holding { IsHolding (G.worker gate.old) node (G.seen gate.old) (G.seen gate.new) }
+    ensures expanded { IfOk result (λ f. IsExpansion problem.now (state_in (G.seen gate.new)).cuts (box_of (state_in (G.seen gate.new)) node) (cutoff (state_in (G.seen gate.new))) worker.new.costs (limit - length (state_in (G.seen gate.new)).cuts) f) }
     ensures found { IfOk result (λ f. IsFound node f (G.seen gate.new)) }
     ensures last { IfOk result (λ f. IsLastLook limit f) }
     ensures knows { OnOk result (Knows problem.now worker.new (state_in (G.seen gate.new))) }
+    ensures noted { IfOk result (λ f. MayNote worker.old.splits worker.new.splits node f) }
 {
     let view = view(rt, alloc, gate, problem, worker, node)?;
     let room = (limit as usize).saturating_sub(worker.book.len());
     let finding = worker.look(alloc, problem, &view, room)?;
-    // Without memory only a hint for later columns is lost.
-    let _ = worker.splits.note(node, &finding);
+    worker.splits.note(node, &finding);
     Ok(finding)
 }
 
@@ -203,6 +208,7 @@ pub(crate) fn work_on<R: Wait, G: PoolGate>(
     ensures same { G.worker gate.new ≡ G.worker gate.old }
     ensures stays { G.home gate.new ≡ G.home gate.old }
     ensures worked { Worked (G.worker gate.old) (G.seen gate.old) (G.seen gate.new) }
+    ensures ended { result ≡ true → is_open (state_in (G.seen gate.new)) node ≡ false }
     ensures knows { result ≡ true → Knows problem.now worker.new (state_in (G.seen gate.new)) }
     ensures over { result ≡ false → IsOver (G.seen gate.new) }
 {

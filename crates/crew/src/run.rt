@@ -8,6 +8,7 @@ ghost use Rattle.node_pool.specs.Payloads.{model_in};
 ghost use Rattle.core_search.specs.Endings.{IsSpent};
 ghost use Rattle.core_search.specs.Pools.{IsHaltOf, is_disk};
 ghost use Rattle.crew.specs.Runs.{CrewExtends, IsSearched};
+ghost use Rattle.problem.specs.Limits.{most_cuts};
 
 use crate::settings::Settings;
 use crate::threads::work_under_lock;
@@ -60,7 +61,7 @@ fn search_in<D: Disk + Send, R: Threads + Wait + Sync, H: Hold + Sync>(
     hold: &H,
 ) -> Pool<D>
     requires some_workers { 1 ≤ settings.now.workers }
-    requires few_cuts { settings.now.cuts ≤ 256 }
+    requires few_cuts { settings.now.cuts ≤ most_cuts }
     requires unheld { pool.state.state.holds ≡ [] }
     requires sound { pool.halt ≡ None }
     requires problem { problem.now ≡ pool.state.state.problem }
@@ -80,7 +81,7 @@ fn search_on<D: Disk + Send, R: Threads + Wait + Sync, H: Hold + Sync>(
     hold: &H,
 ) -> Pool<D>
     requires some_workers { 1 ≤ settings.now.workers }
-    requires few_cuts { settings.now.cuts ≤ 256 }
+    requires few_cuts { settings.now.cuts ≤ most_cuts }
     requires unheld { pool.state.state.holds ≡ [] }
     requires sound { pool.halt ≡ None }
     ensures { IsSearched settings.now.workers settings.now.cuts pool result }
@@ -105,7 +106,7 @@ pub fn run_crew<D: Disk + Send, R: Threads + Wait + Sync, H: Hold + Sync>(
     hold: &H,
 ) -> (Ending, Pool<D>)
     requires some_workers { 1 ≤ settings.now.workers }
-    requires few_cuts { settings.now.cuts ≤ 256 }
+    requires few_cuts { settings.now.cuts ≤ most_cuts }
     requires unheld { pool.state.state.holds ≡ [] }
     requires sound { pool.halt ≡ None }
 

@@ -4,6 +4,7 @@ ghost use Rattle.crew.specs.Gates.{worker_at, IsReady, EachAt, EachChange};
 ghost use Rattle.crew.specs.Lists.{Worked, IsOver};
 
 use crate::settings::Settings;
+use crate::thread_count::threads_for;
 use crate::worker_loop::work;
 use outside::Hold;
 use problem::Problem;
@@ -50,7 +51,7 @@ pub(crate) fn work_each<G: PoolGate + Send, R: Threads + Wait + Sync, H: Hold + 
     ensures worked { EachChange (λ g h. Worked (G.worker g) (G.seen g) (G.seen h)) gates.old gates.new }
     ensures over { EachChange (λ g h. IsOver (G.seen h)) gates.old gates.new }
 {
-    let threads = gates.len();
+    let threads = threads_for(alloc, gates.len());
     for_each_mut(
         rt,
         gates,

@@ -1,14 +1,14 @@
 //! The optimal values of the nodes that a worker split.
-ghost use Rattle.std.specs.Prelude.{◌≡◌, Some, OnOk};
+ghost use Rattle.std.specs.Prelude.{◌≡◌, ◌⊎◌, Some};
 ghost use Rattle.std.specs.Ordering.{nat_cmp};
-ghost use Rattle.std.specs.BTreeMap.{Updates};
-ghost use Rattle.crew.specs.Origins.{side_of, origin_in, Notes};
+ghost use Rattle.std.specs.BTreeMap.{Updates, IsUnchanged};
+ghost use Rattle.crew.specs.Origins.{side_of, origin_in, MayNote};
 
 use expand::{Finding, Origin};
 use fraction::Frac;
 use node_tree::Branch;
 use pseudo_cost::Side;
-use std::alloc::{AllocError, Global};
+use std::alloc::Global;
 use std::collections::BTreeMap;
 
 /// The optimal values of the nodes that one worker found to have a fractional optimum, by node number.
@@ -35,20 +35,16 @@ impl SplitValues {
         }
     }
 
-    /// Notes the optimal value of a node. The one error is want of memory.
-    fn put(&mut self, node: u32, value: Frac) -> Result<(), AllocError>
-        ensures { OnOk result (Updates nat_cmp self.old.values self.new.values node (Some value)) }
+    /// Notes the optimal value of a node. Without memory a hint for later columns is lost, and nothing else.
+    fn put(&mut self, node: u32, value: Frac)
+        ensures { Updates nat_cmp self.old.values self.new.values node (Some value) ⊎ IsUnchanged self.old.values self.new.values }
     {
-        match self.values.insert(node, value) {
-            Ok(_) => Ok(()),
-            Err(_) => Err(AllocError),
-        }
+        let _ = self.values.insert(node, value);
     }
 
-    /// Notes the optimal value of a node, where what is found of it is a fractional optimum, so that it may be split there. The one error is want of
-    /// memory.
-    pub(crate) fn note(&mut self, node: u32, finding: &Finding) -> Result<(), AllocError>
-        ensures { OnOk result (Notes self.old self.new node finding.now) }
+    /// Notes the optimal value of a node, where what is found of it is a fractional optimum, so that it may be split there.
+    pub(crate) fn note(&mut self, node: u32, finding: &Finding)
+        ensures { MayNote self.old self.new node finding.now }
     {
         match finding {
             Finding::Solved {
@@ -56,7 +52,7 @@ impl SplitValues {
                 column: Some(_),
                 ..
             } => self.put(node, *value),
-            _ => Ok(()),
+            _ => {}
         }
     }
 

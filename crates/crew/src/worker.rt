@@ -2,9 +2,12 @@
 ghost use Rattle.std.specs.Prelude.{◌≡◌, ◌≤◌, ◌+◌, ◌++◌, ◌<◌, [], IfOk, OnOk, length};
 ghost use Rattle.derivation_book.specs.Cuts.{AreCutsAfter};
 ghost use Rattle.dual_simplex.specs.Prepared.{IsRelaxationOf};
+ghost use Rattle.expand.specs.Expansion.{IsExpansion, costs_after};
 ghost use Rattle.expand.specs.Findings.{Holds};
 ghost use Rattle.core_search.specs.Deciding.{IsLastLook};
+ghost use Rattle.crew.specs.Origins.{origin_in};
 ghost use Rattle.crew.specs.Workers.{IsPrepared, IsNodeOf};
+ghost use Rattle.problem.specs.Limits.{most_cuts};
 
 use crate::cuts::add_cuts;
 use crate::node_view::NodeView;
@@ -31,7 +34,7 @@ pub(crate) struct Worker {
 
 /// The relaxation of the problem with all cuts of the book. The one error is want of memory.
 fn relaxation_of(alloc: Global, problem: &Problem, book: &Book) -> Result<Relaxation, AllocError>
-    requires { length book.now.cuts ≤ 256 }
+    requires { length book.now.cuts ≤ most_cuts }
     ensures cuts { IfOk result (λ r. r.cuts ≡ length book.now.cuts) }
     ensures prepared { IfOk result (λ r. IsRelaxationOf problem.now book.now.cuts r) }
 {
@@ -64,9 +67,10 @@ impl Worker {
     ) -> Result<(), AllocError>
         requires prepared { IsPrepared problem.now self.old }
         requires cuts { AreCutsAfter problem.now self.old.book.cuts cuts.items }
-        requires few { length self.old.book.cuts + length cuts.items ≤ 256 }
+        requires few { length self.old.book.cuts + length cuts.items ≤ most_cuts }
         ensures book { OnOk result (self.new.book.cuts ≡ self.old.book.cuts ++ cuts.items) }
         ensures prepared { OnOk result (IsPrepared problem.now self.new) }
+        ensures splits { self.new.splits ≡ self.old.splits }
     {
         if cuts.is_empty() {
             return Ok(());
@@ -85,12 +89,15 @@ impl Worker {
         room: usize,
     ) -> Result<Finding, AllocError>
         requires prepared { IsPrepared problem.now self.old }
-        requires few { length self.old.book.cuts ≤ 256 }
+        requires few { length self.old.book.cuts ≤ most_cuts }
         requires node { IsNodeOf problem.now node.now }
+        ensures found { IfOk result (λ f. IsExpansion problem.now self.old.book.cuts node.now.area node.now.cutoff self.new.costs room f) }
+        ensures noted { OnOk result (self.new.costs ≡ costs_after problem.now self.old.book.cuts node.now.area node.now.cutoff (origin_in self.old.splits node.now.branch) self.old.costs) }
         ensures holds { IfOk result (λ f. Holds problem.now self.old.book.cuts node.now.area node.now.cutoff f) }
         ensures last { IfOk result (λ f. IsLastLook room f) }
         ensures prepared { IsPrepared problem.now self.new }
         ensures book { self.new.book ≡ self.old.book }
+        ensures splits { self.new.splits ≡ self.old.splits }
     {
         let origin = self.splits.origin_of(&node.branch);
         let glance = Glance {

@@ -3,7 +3,7 @@ ghost use Rattle.std.specs.Prelude.{◌≡◌, true};
 ghost use Rattle.worker_gate.specs.Conditions.{HoldsNone};
 ghost use Rattle.worker_gate.specs.Entries.{is_opened, state_in};
 ghost use Rattle.crew.specs.Lists.{Worked, IsOver};
-ghost use Rattle.crew.specs.Steps.{Takes};
+ghost use Rattle.crew.specs.Steps.{Takes, AreAllHeld};
 ghost use Rattle.crew.specs.Workers.{Knows};
 
 use crate::node_work::work_on;
@@ -75,6 +75,7 @@ fn round<R: Wait, G: PoolGate>(
     ensures stays { G.home gate.new ≡ G.home gate.old }
     ensures worked { Worked (G.worker gate.old) (G.seen gate.old) (G.seen gate.new) }
     ensures knows { (result ≡ Progress.Over → ⊥) → Knows problem.now worker.new (state_in (G.seen gate.new)) }
+    ensures idle { result ≡ Progress.Idle → AreAllHeld (G.seen gate.new) }
     ensures over { result ≡ Progress.Over → IsOver (G.seen gate.new) }
 {
     match take(rt, alloc, gate) {
@@ -97,10 +98,11 @@ fn go_on<R: Wait, G: PoolGate, H: Hold>(
     gate: &mut G,
     problem: &Problem,
     worker: &mut Worker,
-    limit: u32,
+    settings: &Settings,
     number: u32,
     hold: &H,
 )
+    requires number { G.worker gate.old ≡ number }
     requires opened { is_opened (G.seen gate.old) ≡ true }
     requires none { HoldsNone (G.worker gate.old) (G.seen gate.old) }
     requires knows { Knows problem.now worker.old (state_in (G.seen gate.old)) }
@@ -109,12 +111,12 @@ fn go_on<R: Wait, G: PoolGate, H: Hold>(
     ensures worked { Worked (G.worker gate.old) (G.seen gate.old) (G.seen gate.new) }
     ensures over { IsOver (G.seen gate.new) }
 {
-    let pauses = Pauses::new();
+    let mut pauses = Pauses::new(settings.workers.saturating_sub(number));
     for _ in rt.forever() {
         hold.asks(number);
-        match round(rt, alloc, gate, problem, worker, limit) {
-            Progress::Settled => pauses.reset(),
-            Progress::Idle => pauses.wait(rt),
+        match round(rt, alloc, gate, problem, worker, settings.cuts) {
+            Progress::Settled => pauses.settled(rt, gate.traffic()),
+            Progress::Idle => pauses.idle(rt),
             Progress::Over => return,
         }
     }
@@ -154,7 +156,7 @@ pub fn work<R: Wait, G: PoolGate, H: Hold>(
         gate,
         problem,
         &mut worker,
-        settings.cuts,
+        settings,
         number,
         hold,
     );

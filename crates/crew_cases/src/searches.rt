@@ -1,6 +1,7 @@
 //! Searches by one, two and four workers: one without a point, and one with an optimum.
 
 ghost use Rattle.std.specs.Prelude.{◌≤◌};
+ghost use Rattle.problem.specs.Limits.{most_cuts};
 
 use anyhow::Result;
 use case_pools::{into_state, memory_pool};
@@ -38,7 +39,7 @@ fn searched<R: Print + Alloc<A = Global> + Threads + Wait + Sync, H: Hold + Sync
 ) -> Result<State>
     requires some_workers { 1 ≤ settings.now.workers }
     requires few_workers { settings.now.workers ≤ 16 }
-    requires few_cuts { settings.now.cuts ≤ 256 }
+    requires few_cuts { settings.now.cuts ≤ most_cuts }
 {
     let problem = problem_of(rt.alloc(), model)?;
     let pool = memory_pool(rt.alloc(), problem, 1000)?;

@@ -1,6 +1,6 @@
 -- Prices over one denominator: the fractions that the whole numbers stand for, and that no step on the way to them is cramped.
 use Rattle.std.specs.Prelude.{ℤ, pos, negsuc, neg_ℤ, ◌+ℤ◌, ◌-ℤ◌, ◌*ℤ◌, ◌≤ℤ◌, nat_abs, int_lt, if◌then◌else◌}
-use Rattle.std.proofs.Common.{◌≡◌, ℕ, ◌*◌, ◌^◌, ◌<◌, ◌≤◌, arith, refl, ap, sym, ◌∙◌, subst, Bool, true, false, Some}
+use Rattle.std.proofs.Common.{◌≡◌, ℕ, ◌+◌, ◌*◌, ◌^◌, ◌<◌, ◌≤◌, arith, refl, ap, sym, ◌∙◌, subst, Bool, true, false, Some}
 use Rattle.std.specs.Int.{w128}
 use Rattle.std.specs.Option.{option_and_then}
 use Rattle.std.proofs.lemmas.Int.{ints, unsigned_abs-mul}
@@ -17,12 +17,14 @@ use Rattle.derivation_book.specs.Sums.{with_product}
 use Rattle.derivation_book.specs.Rounded.{is_zero}
 use Rattle.derivation_book.specs.Price.{bound_for, with_bound}
 use Rattle.derivation_book.specs.Lemmas.OneDenominator.{add_over, mul_over, zero_over}
+use Rattle.derivation_book.specs.Sizes.{denominator_limit, largest_left, largest_taken, largest_addend}
+use Rattle.problem.specs.Limits.{most_columns}
 
 -- ---- sizes
-pub bound_product_small : (z b : ℤ) → nat_abs z ≤ 2 ^ 85 → nat_abs b ≤ 2 ^ 31 → nat_abs (z *ℤ b) ≤ 2 ^ 116
+pub bound_product_small : (z b : ℤ) → nat_abs z ≤ largest_left → nat_abs b ≤ largest_taken → nat_abs (z *ℤ b) ≤ largest_addend
 bound_product_small z b h k = rw (unsigned_abs-mul z b) (omega (arith, mul-le-mul h k))
 
-pub bound_product_fits : (z : ℤ) → nat_abs z ≤ 2 ^ 116 → SFits w128 z
+pub bound_product_fits : (z : ℤ) → nat_abs z ≤ largest_addend → SFits w128 z
 bound_product_fits (pos n) h = record { sfits = omega arith }
 bound_product_fits (negsuc n) h = record { sfits = omega arith }
 
@@ -67,7 +69,7 @@ is_zero_not z d o n = at (is_zero (frac z d)) refl
 
 -- ---- a column
 -- what a numerator over d leaves of a whole number
-pub left_over : (d : ℕ) (a : ℚ) (n z : ℤ) → 0 < d → d < 2 ^ 62 → a.den ≡ 1 → nat_abs (a.num *ℤ pos d) < 2 ^ 126 → nat_abs n ≤ 2 ^ 85 → z ≡ a.num *ℤ pos d -ℤ n → nat_abs z ≤ 2 ^ 85
+pub left_over : (d : ℕ) (a : ℚ) (n z : ℤ) → 0 < d → d < denominator_limit → a.den ≡ 1 → nat_abs (a.num *ℤ pos d) < 2 ^ 126 → nat_abs n ≤ largest_left → z ≡ a.num *ℤ pos d -ℤ n → nat_abs z ≤ largest_left
     → sub_checked a (frac n d) ≡ Some (frac z d)
 left_over d a n z o s w ha hn e hz =
     let k = a.num *ℤ pos d in
@@ -86,7 +88,7 @@ nothing_left d t z s o e =
     ap (λ b. if b then Some (frac t d) else with_product (frac t d) (frac z d) (whole (bound_for (frac z d) s))) f
 
 -- where something is left
-pub times_bound : (d : ℕ) (t z u b : ℤ) (s : Span) → 0 < d → d < 2 ^ 62 → (z ≡ pos 0 → ⊥) → nat_abs t ≤ 1001 * 2 ^ 116 → nat_abs (z *ℤ b) ≤ 2 ^ 116 → b ≡ (if int_lt (pos 0) z then s.lo else s.hi) → u ≡ t +ℤ z *ℤ b
+pub times_bound : (d : ℕ) (t z u b : ℤ) (s : Span) → 0 < d → d < denominator_limit → (z ≡ pos 0 → ⊥) → nat_abs t ≤ (most_columns + 1) * largest_addend → nat_abs (z *ℤ b) ≤ largest_addend → b ≡ (if int_lt (pos 0) z then s.lo else s.hi) → u ≡ t +ℤ z *ℤ b
     → with_bound (frac t d) (frac z d) s ≡ Some (frac u d)
 times_bound d t z u b s o small n ht hb e f =
     let bound : bound_for (frac z d) s ≡ b = ap (λ (c : Bool). if c then s.lo else s.hi) (above_zero z d o) ∙ sym e in

@@ -11,7 +11,7 @@ use Rattle.fraction.specs.Rational.{ℚ, whole, frac, inv_ℚ, ◌+ℚ◌, ◌*�
 use Rattle.fraction.specs.Checked.{add_checked, mul_checked}
 use Rattle.fraction.specs.Lemmas.Integers.{is_diff, diff-pos, diff-mul, diff-same}
 use Rattle.fraction.specs.Lemmas.Rational.{lit_one, frac_den, frac_same, frac-*ℚ, *ℚ_assoc, *ℚ_comm, one-*ℚ, mul-inv_ℚ}
-use Rattle.fraction.specs.Lemmas.Bounds.{was_some, value_from_add, value_from_mul, whole_parts}
+use Rattle.fraction.specs.Lemmas.Bounds.{was_some, value_from_add, value_from_mul, whole_parts, frac-num_le}
 use Rattle.fraction.specs.Lemmas.Checked.{sum_has_fraction, product_has_fraction}
 use Rattle.fraction.specs.Lemmas.Whole.{IsAnInteger, integer_from_whole, integer-+, whole-+, whole-*}
 use Rattle.fraction.specs.Whole.{IsWhole}
@@ -26,7 +26,7 @@ use Rattle.derivation_book.specs.declared.place.Place.TheVariants.{Lower, Upper}
 use Rattle.derivation_book.specs.Places.{row_in, no_span}
 use Rattle.derivation_book.specs.Sums.{with_product, sum_from, coefficient_at, side_at, combined_at, combined_side, combined_columns, Sums, sums_of, combined}
 use Rattle.derivation_book.specs.Lemmas.Steps.{was_mapped}
-use Rattle.derivation_book.specs.Lemmas.OneDenominator.{add_over, mul_over, num_le, zero_over}
+use Rattle.derivation_book.specs.Lemmas.OneDenominator.{add_over, mul_over, zero_over}
 use Rattle.derivation_book.specs.OverOne.{IsTimes, IsScaled, AreScaled, IsWholeRow, NamesWholeRow, over, sums_over}
 
 -- ---- whole coefficients
@@ -177,7 +177,7 @@ upper_is_whole p cs s j r e f =
 
 -- ---- the results
 over_fits : (d : ℕ) (c : ℚ) → 0 < d → d < 2 ^ 127 → FitsFraction c → FitsFraction (over d c)
-over_fits d c o h k = (omega (arith, num_le c.num d o, k.0), omega (arith, le_of_dvd o (frac_den c.num d o), h))
+over_fits d c o h k = (omega (arith, frac-num_le c.num d o, k.0), omega (arith, le_of_dvd o (frac_den c.num d o), h))
 
 pub all_over_fit : (d : ℕ) (cs : List ℚ) → 0 < d → d < 2 ^ 127 → All FitsFraction cs → All FitsFraction (map (over d) cs)
 all_over_fit d [] o h k = All-nil FitsFraction

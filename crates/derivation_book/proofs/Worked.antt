@@ -1,5 +1,5 @@
 -- Cuts, prices and proofs that were worked out by hand.
-use Rattle.std.specs.Prelude.{◌≡◌, ◌^◌, ℕ, ℤ, pos, negsuc, true, false, List, [], ◌∷◌, map, Some, None, option_map, refl}
+use Rattle.std.specs.Prelude.{◌≡◌, ℕ, ℤ, pos, negsuc, true, false, List, [], ◌∷◌, map, Some, None, option_map, refl}
 use Rattle.fraction.specs.Gcd.{gcd, gcd_within}
 use Rattle.fraction.specs.Rational.{ℚ, whole, frac, ◌+ℚ◌, ◌*ℚ◌, neg_ℚ, floor, ceil}
 use Rattle.fraction.specs.Checked.{add_fits, add_checked, mul_fits, mul_checked, compare}
@@ -8,6 +8,7 @@ use Rattle.problem.specs.declared.row.Sense.{Sense}
 use Rattle.problem.specs.declared.row.Sense.TheVariants.{G, E}
 use Rattle.problem.specs.declared.row.Row.{Row}
 use Rattle.problem.specs.Problem.{Problem}
+use Rattle.problem.specs.Limits.{largest_cut_coefficient}
 use Rattle.node_events.specs.declared.proof.Proof.TheVariants.{Empty, Refute, Bound}
 use Rattle.derivation_book.specs.declared.cut.Cut.{Cut}
 use Rattle.derivation_book.specs.Rounded.{is_cut_coefficient, rounded_row}
@@ -167,10 +168,10 @@ unfolding frac gcd gcd_within ◌+ℚ◌ ◌*ℚ◌ neg_ℚ floor ceil add_fits 
 half_rounded = refl
 
 -- ---- how large a coefficient may be
-largest : is_cut_coefficient (n (2 ^ 40)) ≡ true
+largest : is_cut_coefficient (n largest_cut_coefficient) ≡ true
 unfolding frac gcd gcd_within
 largest = refl
 
-too_large : is_cut_coefficient (whole (negsuc (2 ^ 40))) ≡ false
+too_large : is_cut_coefficient (whole (negsuc largest_cut_coefficient)) ≡ false
 unfolding frac gcd gcd_within
 too_large = refl

@@ -11,5 +11,6 @@ abbrev pub columns_added : List ℚ → ℕ → ℚ → Terms → Option (List �
 columns_added [] j m ts = Some []
 columns_added (s ∷ ss) j m ts = option_and_then (λ t. option_map (λ us. t ∷ us) (columns_added ss (j + 1) m ts)) (with_product s m (coefficient ts j))
 
+-- the sums with m times a row more; none where a step is cramped
 abbrev pub row_added : Sums → ℚ → Row → Option Sums
 row_added q m r = option_and_then (λ cs. option_map (sums_of cs) (with_product q.side m r.rhs)) (columns_added q.coefficients 0 m r.terms)

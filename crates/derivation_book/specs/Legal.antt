@@ -56,6 +56,7 @@ pub record IsCrossed (box : List Span) (j : ℕ) : Type 0 where
   pub there : slice_get box j ≡ Some span
   pub crossed : span.hi <ℤ span.lo
 
+-- the proof closes a node of this box, while points have to be better than the cutoff
 abbrev pub IsLegalProof : Problem → List Cut → List Span → Option ℚ → Proof → Type 0
 IsLegalProof p cs box cutoff (Empty column) = IsCrossed box column
 IsLegalProof p cs box cutoff (Refute mult) = IsRefuting p cs box mult
@@ -68,19 +69,24 @@ IsAtMost None (Some z) = ⊥
 IsAtMost (Some y) (Some z) = y ≤ℚ z
 
 -- ---- the test
+-- the number of a row or of a cut, and of no bound
 abbrev pub names_row_or_cut : Problem → ℕ → Bool
 names_row_or_cut p i = nat_lt i (length p.rows) || nat_le (first_cut p) i
 
+-- the multiplier of a row or a cut that is there, with the right sign for a G row
 abbrev pub is_proof_multiplier : Problem → List Cut → ℕ × ℚ → Bool
 is_proof_multiplier p cs m = names_row_or_cut p m.0 && is_usable (known_lines p cs) m
 
+-- there is a value, and it is above 0
 abbrev pub is_above_zero : Option ℚ → Bool
 is_above_zero None = false
 is_above_zero (Some v) = int_lt (pos 0) v.num
 
+-- a combination without columns whose price over the box is above 0: no point of the box satisfies the rows
 abbrev pub is_refuting : Problem → List Cut → List Span → Multipliers → Bool
 is_refuting p cs box mult = list_all (is_proof_multiplier p cs) mult && is_above_zero (price p cs box [] mult)
 
+-- each coefficient of the objective is a whole number
 abbrev pub has_whole_objective : Problem → Bool
 has_whole_objective p = list_all (λ t. nat_eq t.1.den 1) p.objective
 
@@ -88,19 +94,23 @@ has_whole_objective p = list_all (λ t. nat_eq t.1.den 1) p.objective
 abbrev pub may_round : Problem → Bool → Bool
 may_round p rounded = not rounded || has_whole_objective p
 
+-- the price, rounded up where that is allowed, is there and reaches the cutoff
 abbrev pub reaches : Option ℚ → Bool → Option ℚ → Bool
 reaches None rounded v = false
 reaches (Some z) rounded None = false
 reaches (Some z) rounded (Some v) = is_le (compare z (rounded_if rounded v))
 
+-- a combination for the objective whose price over the box reaches the cutoff
 abbrev pub is_bounding : Problem → List Cut → List Span → Option ℚ → Multipliers → Bool → Bool
 is_bounding p cs box cutoff mult rounded =
     list_all (is_proof_multiplier p cs) mult && may_round p rounded && reaches cutoff rounded (price p cs box p.objective mult)
 
+-- the span is there and has no number
 abbrev pub has_crossed : Option Span → Bool
 has_crossed None = false
 has_crossed (Some s) = int_lt s.hi s.lo
 
+-- the proof closes a node of this box, as a test
 abbrev pub is_legal_proof : Problem → List Cut → List Span → Option ℚ → Proof → Bool
 is_legal_proof p cs box cutoff (Empty column) = has_crossed (slice_get box column)
 is_legal_proof p cs box cutoff (Refute mult) = is_refuting p cs box mult

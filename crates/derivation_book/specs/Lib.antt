@@ -1,6 +1,7 @@
 pub mod Contents
 pub mod Known
 pub mod Sums
+pub mod Sizes
 pub mod OverOne
 pub mod Adding
 pub mod Rounded

@@ -26,6 +26,7 @@ AreScaled d (m ∷ ms) (w ∷ ws) = IsScaled d m w × AreScaled d ms ws
 abbrev pub IsWholeRow : Row → Type 0
 IsWholeRow r = All (λ t. IsWhole t.1) r.terms × IsWhole r.rhs
 
+-- the row that the multiplier names has whole numbers alone
 abbrev pub NamesWholeRow : List CertLine → ℕ × ℚ → Type 0
 NamesWholeRow ls m = IsWholeRow (row_at ls m.0)
 
@@ -33,5 +34,6 @@ NamesWholeRow ls m = IsWholeRow (row_at ls m.0)
 abbrev pub over : ℕ → ℚ → ℚ
 over d c = frac c.num d
 
+-- the sums, each divided by d
 abbrev pub sums_over : ℕ → Sums → Sums
 sums_over d s = sums_of (map (over d) s.coefficients) (over d s.side)

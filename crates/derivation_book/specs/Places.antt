@@ -17,6 +17,7 @@ no_span = record { lo = pos 0; hi = pos 0 }
 abbrev pub lower_row_at : ℕ → ℤ → Row
 lower_row_at j b = lower_row j (record { lo = b; hi = b })
 
+-- the row that says that column j is at most b
 abbrev pub upper_row_at : ℕ → ℤ → Row
 upper_row_at j b = upper_row j (record { lo = b; hi = b })
 
@@ -27,6 +28,7 @@ row_in p cs (Lower j) = lower_row j (slice_index_or p.spans j no_span)
 row_in p cs (Upper j) = upper_row j (slice_index_or p.spans j no_span)
 row_in p cs (OfCut i) = slice_index_or (map (λ (c : Cut). c.row) cs) i no_cert_line.row
 
+-- the problem has this row or bound, or there is this cut
 abbrev pub IsThere : Problem → List Cut → Place → Type 0
 IsThere p cs (Given i) = i < length p.rows
 IsThere p cs (Lower j) = j < length p.spans

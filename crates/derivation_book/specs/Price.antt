@@ -54,5 +54,6 @@ abbrev pub bounds_price : (ℕ → ℚ) → ℕ → List Span → ℚ
 bounds_price r j [] = whole (pos 0)
 bounds_price r j (s ∷ ss) = r j *ℚ whole (bound_for (r j) s) +ℚ bounds_price r (j + 1) ss
 
+-- the price of a combination for a target over a box, computed without rounding: its right side, and what is left of each column times its bound
 abbrev pub exact_price : List CertLine → Terms → Multipliers → List Span → ℚ
 exact_price ls target mult ss = combined_rhs ls mult +ℚ bounds_price (reduced_cost target (combined_terms ls mult)) 0 ss

@@ -41,6 +41,7 @@ pub record Sums : Type 0 where
   pub coefficients : List ℚ
   pub side : ℚ
 
+-- the sums of these coefficients and this right side
 abbrev pub sums_of : List ℚ → ℚ → Sums
 sums_of cs s = record { coefficients = cs; side = s }
 

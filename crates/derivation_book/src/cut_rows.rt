@@ -9,7 +9,7 @@ use crate::book::Book;
 use crate::combination::Combination;
 use fraction::Frac;
 use node_events::Mult;
-use problem::{Problem, Row, Sense, Term, Terms};
+use problem::{LARGEST_CUT_COEFFICIENT, Problem, Row, Sense, Term, Terms};
 use std::alloc::{AllocError, Global};
 
 /// Whether the multiplier of a row of this sense has the right sign in a combination for a G row.
@@ -23,11 +23,11 @@ fn has_right_sign(sense: Sense, factor: Frac) -> bool
     }
 }
 
-/// Whether this is a whole number of size at most 2^40.
+/// Whether this is a whole number of size at most `LARGEST_CUT_COEFFICIENT`.
 fn is_cut_coefficient(coefficient: Frac) -> bool
     ensures { result ≡ is_cut_coefficient coefficient }
 {
-    coefficient.denom() == 1 && coefficient.numer().unsigned_abs() <= 1 << 40
+    coefficient.denom() == 1 && coefficient.numer().unsigned_abs() <= LARGEST_CUT_COEFFICIENT
 }
 
 /// Whether each coefficient is one that a cut may have.
@@ -94,7 +94,7 @@ impl Book {
     /// The row of the cut that these multipliers give: the combination of rows, bound rows and cuts, its right side rounded up.
     ///
     /// There is none exactly where a number isn't known, a sign is wrong, a product or a sum is cramped, or a coefficient isn't whole or is above
-    /// 2^40 in size. The one error is want of memory.
+    /// `LARGEST_CUT_COEFFICIENT` in size. The one error is want of memory.
     pub fn cg_row(
         &self,
         alloc: Global,

@@ -4,13 +4,15 @@ ghost use Rattle.std.specs.Prelude.{◌≡◌, ℕ, ◌<◌, ◌≤◌, ◌+◌,
 ghost use Rattle.fraction.specs.Rational.{frac};
 ghost use Rattle.fraction.specs.Checked.{sub_checked};
 ghost use Rattle.problem.specs.Rising.{AreRising};
+ghost use Rattle.problem.specs.Limits.{most_columns};
 ghost use Rattle.derivation_book.specs.OverOne.{over};
 ghost use Rattle.derivation_book.specs.Price.{with_bound, with_reduced_cost, with_columns};
+ghost use Rattle.derivation_book.specs.Sizes.{denominator_limit, largest_left, largest_taken, largest_addend};
 
 use crate::combination::Combination;
 use crate::price::wanted_at;
 use fraction::Frac;
-use problem::Term;
+use problem::{MOST_COLUMNS, Term};
 use problem_box::{IntBox, Span};
 
 /// The greatest size of a numerator that is left of a column.
@@ -19,16 +21,13 @@ const MOST_LEFT: u128 = 1 << 85;
 /// The greatest size of a bound.
 const MOST_BOUND: u64 = 1 << 31;
 
-/// How many columns there are at most. So no sum has more than 126 bits.
-const MOST_COLUMNS: usize = 1000;
-
 /// The greatest size of the right side's numerator.
 const MOST_SIDE: u128 = 1 << 116;
 
 /// The product of a number of 64 bits with a natural one of 62.
 #[inline(always)]
 fn scaled(number: i64, denominator: u64) -> i128
-    requires { denominator < 2 ^ 62 }
+    requires { denominator < denominator_limit }
     ensures value { result ≡ number *ℤ pos denominator }
     ensures small { nat_abs result < 2 ^ 126 }
 {
@@ -38,8 +37,8 @@ fn scaled(number: i64, denominator: u64) -> i128
 /// The numerator of a whole number over the denominator, less another numerator.
 #[inline(always)]
 fn difference(number: i64, denominator: u64, numerator: i128) -> i128
-    requires denominator { denominator < 2 ^ 62 }
-    requires numerator { nat_abs numerator ≤ 2 ^ 85 }
+    requires denominator { denominator < denominator_limit }
+    requires numerator { nat_abs numerator ≤ largest_left }
     ensures value { result ≡ number *ℤ pos denominator -ℤ numerator }
     ensures small { nat_abs (number *ℤ pos denominator) < 2 ^ 126 }
 {
@@ -50,9 +49,9 @@ fn difference(number: i64, denominator: u64, numerator: i128) -> i128
 #[inline(always)]
 fn left_numerator(wanted: Frac, numerator: i128, denominator: u64) -> Option<i128>
     requires positive { 0 < denominator }
-    requires small { denominator < 2 ^ 62 }
+    requires small { denominator < denominator_limit }
     ensures value { IfSome result (λ z. sub_checked wanted (frac numerator denominator) ≡ Some (frac z denominator)) }
-    ensures small { IfSome result (λ z. nat_abs z ≤ 2 ^ 85) }
+    ensures small { IfSome result (λ z. nat_abs z ≤ largest_left) }
 {
     if !wanted.is_whole() || numerator.unsigned_abs() > MOST_LEFT {
         return None;
@@ -71,10 +70,10 @@ fn left_numerator(wanted: Frac, numerator: i128, denominator: u64) -> Option<i12
 /// The product of what is left of a column and the bound that it takes.
 #[inline(always)]
 fn bound_product(left: i128, bound: i64) -> i128
-    requires left { nat_abs left ≤ 2 ^ 85 }
-    requires bound { nat_abs bound ≤ 2 ^ 31 }
+    requires left { nat_abs left ≤ largest_left }
+    requires bound { nat_abs bound ≤ largest_taken }
     ensures value { result ≡ left *ℤ bound }
-    ensures small { nat_abs result ≤ 2 ^ 116 }
+    ensures small { nat_abs result ≤ largest_addend }
 {
     left * i128::from(bound)
 }
@@ -82,11 +81,11 @@ fn bound_product(left: i128, bound: i64) -> i128
 /// The sum with such a product more.
 #[inline(always)]
 fn with_product(total: i128, left: i128, bound: i64) -> i128
-    requires total { nat_abs total ≤ 1001 * 2 ^ 116 }
-    requires left { nat_abs left ≤ 2 ^ 85 }
-    requires bound { nat_abs bound ≤ 2 ^ 31 }
+    requires total { nat_abs total ≤ (most_columns + 1) * largest_addend }
+    requires left { nat_abs left ≤ largest_left }
+    requires bound { nat_abs bound ≤ largest_taken }
     ensures value { result ≡ total +ℤ left *ℤ bound }
-    ensures small { nat_abs result ≤ nat_abs total + 2 ^ 116 }
+    ensures small { nat_abs result ≤ nat_abs total + largest_addend }
 {
     total + bound_product(left, bound)
 }
@@ -102,10 +101,10 @@ fn bound_taken(left: i128, span: Span) -> i64
 /// The numerator of a sum with what is left of a column times the bound that it takes; none where that bound is too large.
 #[inline(always)]
 fn with_left(total: i128, left: i128, span: Span) -> Option<i128>
-    requires total { nat_abs total ≤ 1001 * 2 ^ 116 }
-    requires left { nat_abs left ≤ 2 ^ 85 }
-    ensures value { IfSome result (λ t. (d : ℕ) → 0 < d → d < 2 ^ 62 → with_bound (frac total d) (frac left d) span ≡ Some (frac t d)) }
-    ensures small { IfSome result (λ t. nat_abs t ≤ nat_abs total + 2 ^ 116) }
+    requires total { nat_abs total ≤ (most_columns + 1) * largest_addend }
+    requires left { nat_abs left ≤ largest_left }
+    ensures value { IfSome result (λ t. (d : ℕ) → 0 < d → d < denominator_limit → with_bound (frac total d) (frac left d) span ≡ Some (frac t d)) }
+    ensures small { IfSome result (λ t. nat_abs t ≤ nat_abs total + largest_addend) }
 {
     if left == 0 {
         return Some(total);
@@ -127,11 +126,11 @@ fn with_column(
     span: Span,
     denominator: u64,
 ) -> Option<i128>
-    requires total { nat_abs total ≤ 1001 * 2 ^ 116 }
+    requires total { nat_abs total ≤ (most_columns + 1) * largest_addend }
     requires positive { 0 < denominator }
-    requires denominator_small { denominator < 2 ^ 62 }
+    requires denominator_small { denominator < denominator_limit }
     ensures value { IfSome result (λ t. with_reduced_cost (frac total denominator) wanted (over denominator combined) span ≡ Some (frac t denominator)) }
-    ensures small { IfSome result (λ t. nat_abs t ≤ nat_abs total + 2 ^ 116) }
+    ensures small { IfSome result (λ t. nat_abs t ≤ nat_abs total + largest_addend) }
 {
     let left = left_numerator(wanted, combined.numer(), denominator)?;
     with_left(total, left, span)
@@ -145,9 +144,9 @@ fn price_numerator(
     area: &IntBox,
     denominator: u64,
 ) -> Option<i128>
-    requires side { nat_abs side ≤ 2 ^ 116 }
+    requires side { nat_abs side ≤ largest_addend }
     requires positive { 0 < denominator }
-    requires denominator_small { denominator < 2 ^ 62 }
+    requires denominator_small { denominator < denominator_limit }
     requires columns { length area.now ≡ length coefficients.now }
     requires rising { AreRising target.now }
     ensures value { IfSome result (λ t. with_columns (frac side denominator) target.now 0 (map (over denominator) coefficients.now) area.now ≡ Some (frac t denominator)) }
@@ -176,7 +175,7 @@ impl Combination {
         target: &[Term],
     ) -> Option<Frac>
         requires positive { 0 < denominator }
-        requires small { denominator < 2 ^ 62 }
+        requires small { denominator < denominator_limit }
         requires columns { length area.now ≡ length self.now.coefficients }
         requires rising { AreRising target.now }
         ensures { IfSome result (λ v. with_columns (over denominator self.now.side) target.now 0 (map (over denominator) self.now.coefficients) area.now ≡ Some v) }

@@ -1,6 +1,6 @@
 //! The price of a combination.
 
-ghost use Rattle.std.specs.Prelude.{◌≡◌, ◌<◌, ◌≤◌, ◌+◌, ◌^◌, ℕ, pos, IfOk, IsSome, All, length, map, drop, slice_index_or};
+ghost use Rattle.std.specs.Prelude.{◌≡◌, ◌<◌, ◌≤◌, ◌+◌, ℕ, pos, IfOk, IsSome, All, length, map, drop, slice_index_or};
 ghost use Rattle.fraction.specs.Rational.{whole, ◌+ℚ◌, neg_ℚ};
 ghost use Rattle.fraction.specs.Checked.{sub_checked};
 ghost use Rattle.problem.specs.Linear.{coefficient};
@@ -9,6 +9,7 @@ ghost use Rattle.cert_rows.specs.Combination.{combined_terms};
 ghost use Rattle.derivation_book.specs.Known.{known_lines};
 ghost use Rattle.derivation_book.specs.OverOne.{over};
 ghost use Rattle.derivation_book.specs.Price.{with_bound, with_reduced_cost, with_columns, price, reduced_cost, HasPrice};
+ghost use Rattle.derivation_book.specs.Sizes.{denominator_limit};
 
 use crate::book::Book;
 use crate::combination::{Combination, with_product};
@@ -104,7 +105,7 @@ impl Combination {
     /// The price over a box, where the combination has the numerators of its numbers over the denominator; none exactly where that is cramped.
     fn price_over(mut self, denominator: u64, area: &IntBox, target: &[Term]) -> Option<Frac>
         requires positive { 0 < denominator }
-        requires small { denominator < 2 ^ 62 }
+        requires small { denominator < denominator_limit }
         requires columns { length area.now ≡ length self.coefficients }
         requires rising { AreRising target.now }
         ensures { result ≡ with_columns (over denominator self.side) target.now 0 (map (over denominator) self.coefficients) area.now }

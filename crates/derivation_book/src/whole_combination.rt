@@ -1,10 +1,11 @@
 //! Combinations by whole numbers, where all multipliers are taken over one denominator and all rows are whole.
 
-ghost use Rattle.std.specs.Prelude.{◌≡◌, ◌<◌, ◌^◌, IsTrue, IfOk, IfSome, IfNone, All, length, Some, None};
+ghost use Rattle.std.specs.Prelude.{◌≡◌, ◌<◌, IsTrue, IfOk, IfSome, IfNone, All, length, Some, None};
 ghost use Rattle.cert_rows.specs.Lines.{row_at};
 ghost use Rattle.derivation_book.specs.Known.{known_lines};
 ghost use Rattle.derivation_book.specs.Sums.{combined, combined_columns};
 ghost use Rattle.derivation_book.specs.OverOne.{IsWholeRow, NamesWholeRow, sums_over};
+ghost use Rattle.derivation_book.specs.Sizes.{denominator_limit};
 
 use crate::book::Book;
 use crate::combination::Combination;
@@ -63,7 +64,7 @@ impl Book {
     ) -> Result<Option<(u64, Combination)>, AllocError>
         requires { All (λ m. m.0 < length (known_lines problem.now self.now.cuts)) mult.now }
         ensures positive { IfOk result (λ o. IfSome o (λ s. 0 < s.0)) }
-        ensures small { IfOk result (λ o. IfSome o (λ s. s.0 < 2 ^ 62)) }
+        ensures small { IfOk result (λ o. IfSome o (λ s. s.0 < denominator_limit)) }
         ensures sums { IfOk result (λ o. IfSome o (λ s. combined (known_lines problem.now self.now.cuts) mult.now (length problem.now.spans) ≡ Some (sums_over s.0 s.1))) }
     {
         let Some(denominator) = common_denominator(mult) else {

@@ -1,7 +1,8 @@
 //! Sums by whole numbers: each multiplier is taken over one denominator.
 
-ghost use Rattle.std.specs.Prelude.{◌≡◌, ◌<◌, ◌^◌, map, IsTrue, IfOk, IfSome};
+ghost use Rattle.std.specs.Prelude.{◌≡◌, ◌<◌, map, IsTrue, IfOk, IfSome};
 ghost use Rattle.derivation_book.specs.OverOne.{IsTimes, AreScaled, IsWholeRow, over};
+ghost use Rattle.derivation_book.specs.Sizes.{denominator_limit};
 
 use fraction::Frac;
 use problem::{Row, Term, Terms};
@@ -13,9 +14,9 @@ const LIMIT: u128 = 1 << 62;
 /// A multiple of a number that is a multiple of a fraction's denominator too, the least one; none where it is too large.
 fn common_multiple(number: u64, factor: Frac) -> Option<u64>
     requires positive { 0 < number }
-    requires small { number < 2 ^ 62 }
+    requires small { number < denominator_limit }
     ensures positive { IfSome result (λ n. 0 < n) }
-    ensures small { IfSome result (λ n. n < 2 ^ 62) }
+    ensures small { IfSome result (λ n. n < denominator_limit) }
 {
     factor.limits_hold();
     // In lowest terms, the number over the denominator has that part of the denominator which the number lacks.
@@ -34,7 +35,7 @@ fn common_multiple(number: u64, factor: Frac) -> Option<u64>
 /// A number that each multiplier's denominator divides; none where it is 1, since sums of fractions are then as fast, or too large.
 pub(crate) fn common_denominator(mult: &[Term]) -> Option<u64>
     ensures positive { IfSome result (λ n. 0 < n) }
-    ensures small { IfSome result (λ n. n < 2 ^ 62) }
+    ensures small { IfSome result (λ n. n < denominator_limit) }
 {
     let mut denominator = 1;
     for multiplier in mult {
@@ -51,7 +52,7 @@ pub(crate) fn common_denominator(mult: &[Term]) -> Option<u64>
 /// A multiplier times the denominator; none where that isn't whole.
 fn times(factor: Frac, denominator: u64) -> Option<Frac>
     requires positive { 0 < denominator }
-    requires small { denominator < 2 ^ 62 }
+    requires small { denominator < denominator_limit }
     ensures { IfSome result (λ w. IsTimes denominator factor w) }
 {
     let product = factor.mul(Frac::of(denominator as i128))?;
@@ -69,7 +70,7 @@ pub(crate) fn all_times(
     denominator: u64,
 ) -> Result<Option<Terms>, AllocError>
     requires positive { 0 < denominator }
-    requires small { denominator < 2 ^ 62 }
+    requires small { denominator < denominator_limit }
     ensures { IfOk result (λ o. IfSome o (λ t. AreScaled denominator mult.now t)) }
 {
     let mut scaled = Terms::new(alloc);

@@ -14,6 +14,7 @@ use Rattle.problem.specs.Limited.{IsModestSpan}
 use Rattle.problem.specs.declared.row.Row.{Row}
 use Rattle.problem.specs.Linear.{Terms, Multipliers, coefficient}
 use Rattle.problem.specs.Problem.{Problem}
+use Rattle.problem.specs.Limits.{most_columns, most_rows}
 use Rattle.cert_rows.specs.Lines.{CertLine, row_at}
 use Rattle.cert_rows.specs.Combination.{combined_terms}
 use Rattle.derivation_book.specs.declared.cut.Cut.{Cut}
@@ -34,17 +35,18 @@ use Rattle.tableau.specs.Lemmas.Started.{no_row, length-coefficients}
 use Rattle.tableau.specs.Lemmas.Places.{IsNoColumn, no_column_is}
 use Rattle.tableau.specs.Lemmas.Balanced.{IsBalanced}
 use Rattle.tableau.specs.Lemmas.Refuting.{refuting_bounds}
+use Rattle.tableau.specs.Lemmas.StartFits.{zero_within}
 use Rattle.dual_simplex.specs.Relaxation.{rational_value}
 use Rattle.dual_simplex.specs.PointSums.{checked_sum, sums_fit}
 use Rattle.dual_simplex.specs.Answers.{linear_program}
 use Rattle.dual_simplex.specs.Ends.{IsEnd, IsAnswerThere, IsSmallEnd}
-use Rattle.dual_simplex.specs.Sizes.{IsIntegerTo, HasIntegers, IsIntegerRow, IsIntegerRelaxation}
+use Rattle.dual_simplex.specs.Sizes.{IsIntegerTo, HasIntegers, IsIntegerRow, IsIntegerRelaxation, most_small_cuts, largest_integer}
 use Rattle.dual_simplex.specs.Lemmas.RationalValues.{rational_value-dot}
 use Rattle.dual_simplex.specs.Lemmas.Numbers.{length-numbers, row_there, all_numbered, relaxation_rows}
 use Rattle.dual_simplex.specs.Lemmas.Prices.{mult_from, reduced_is_factor}
 use Rattle.dual_simplex.specs.Lemmas.Optimum.{point_cost}
 use Rattle.dual_simplex.specs.Lemmas.Holds.{rows_and_cuts, numbers, size, variables_are, balanced_value, cost_multipliers, point_is, costs_balanced, row_multipliers_are, row_balanced}
-use Rattle.dual_simplex.proofs.CommonDenominator.{IsThereWithin, Multiplies, zero_within, whole_within, neg_within, integer_within, integer_coefficient, integer_coefficients, sum_there, columns_there, dot_there, with_columns_there}
+use Rattle.dual_simplex.proofs.CommonDenominator.{IsThereWithin, Multiplies, whole_within, neg_within, integer_within, integer_coefficient, integer_coefficients, sum_there, columns_there, dot_there, with_columns_there}
 
 abbrev row_of_cut : Cut → Row
 row_of_cut c = c.row
@@ -59,12 +61,12 @@ length-numbered (i ∷ is) (m ∷ ms) = at (int_eq m.num (pos 0)) (length-number
     at true l = omega arith
     at false l = omega arith
 
--- the sizes over the denominator of a product and of a sum of 2,000 products
+-- the sizes over the denominator of a product, and of a sum of a product for each row and cut
 abbrev product : ℕ
-product = 2 ^ 62 * 2 ^ 50
+product = 2 ^ 62 * largest_integer
 
 abbrev sum : ℕ
-sum = 2000 * (2 ^ 62 * 2 ^ 50)
+sum = (most_rows + most_small_cuts) * (2 ^ 62 * largest_integer)
 
 module _ (p : Problem) (cs : List Cut) (box : List Span) (columns : length box ≡ length p.spans) (integers : IsIntegerRelaxation p cs) (d : ℕ) (positive : 0 < d) (bounded : d < 2 ^ 62) where
   abbrev rows : List Row
@@ -91,21 +93,21 @@ module _ (p : Problem) (cs : List Cut) (box : List Span) (columns : length box �
     mult = mult_from (length box) (numbers p cs box) g
 
     -- each multiplier is small, and so are the numbers of its line
-    multiplied : (f : Row → ℚ) → ((r : Row) → IsIntegerRow r → IsIntegerTo (2 ^ 50) (f r)) → All (Multiplies d (2 ^ 62) (2 ^ 50) product positive below refl (λ i. f (row_at ls i))) mult
-    multiplied f h = all_numbered (Multiplies d (2 ^ 62) (2 ^ 50) product positive below refl (λ i. f (row_at ls i))) (numbers p cs box) (drop (length box) g) (λ k l.
+    multiplied : (f : Row → ℚ) → ((r : Row) → IsIntegerRow r → IsIntegerTo largest_integer (f r)) → All (Multiplies d (2 ^ 62) largest_integer product positive below refl (λ i. f (row_at ls i))) mult
+    multiplied f h = all_numbered (Multiplies d (2 ^ 62) largest_integer product positive below refl (λ i. f (row_at ls i))) (numbers p cs box) (drop (length box) g) (λ k l.
         let i : k < length rows = omega (arith, number_count) in (
           All-get_or (Within d (2 ^ 62)) (drop (length box) g) k zero_ℚ (omega (arith, length-drop (length box) g, b.factors)) (All-drop (Within d (2 ^ 62)) (length box) g within),
           h _ (subst IsIntegerRow (sym (row_there ls (numbers p cs box) rows k (relaxation_rows p cs) l).1) (All-get_or IsIntegerRow rows k no_row i all_rows)),
         ))
 
-    few : length mult ≤ 2000
+    few : length mult ≤ most_rows + most_small_cuts
     few = omega (arith, length-numbered (numbers p cs box) (drop (length box) g), number_count, row_count, integers.few_rows)
 
     side : IsThereWithin d (0 + length mult * product) (combined_side ls mult)
-    side = sum_there d (2 ^ 62) (2 ^ 50) product positive below refl (side_at ls) 0 zero_ℚ mult (omega (arith, few)) (zero_within d 0) (multiplied (λ r. r.rhs) (λ r h. h.rhs))
+    side = sum_there d (2 ^ 62) largest_integer product positive below refl (side_at ls) 0 zero_ℚ mult (omega (arith, few)) (zero_within d 0) (multiplied (λ r. r.rhs) (λ r h. h.rhs))
 
     coefficients : (xs : List ℚ) × (combined_columns ls mult 0 (length p.spans) ≡ Some xs) × All (Within d sum) xs × (length xs ≡ length p.spans)
-    coefficients = columns_there d (2 ^ 62) (2 ^ 50) product positive below refl ls sum mult 0 (length p.spans) (omega (arith, few)) (omega arith)
+    coefficients = columns_there d (2 ^ 62) largest_integer product positive below refl ls sum mult 0 (length p.spans) (omega (arith, few)) (omega arith)
         (λ j. multiplied (λ r. coefficient r.terms j) (λ r h. integer_coefficient r.terms j h.terms))
 
     -- what is left of a column is its own multiplier
@@ -120,8 +122,8 @@ module _ (p : Problem) (cs : List Cut) (box : List Span) (columns : length box �
 
     pub price_there : (v : ℚ) × (price p cs box target mult ≡ Some v)
     price_there =
-        let total = with_columns_there d (2 ^ 62) (2 ^ 50) product positive below refl (2 ^ 50 * d) sum target (omega arith) (omega arith)
-        (λ j. integer_within d (2 ^ 50) (coefficient target j) (integer_coefficient target j integer_target))
+        let total = with_columns_there d (2 ^ 62) largest_integer product positive below refl (largest_integer * d) sum target (omega arith) (omega arith)
+        (λ j. integer_within d largest_integer (coefficient target j) (integer_coefficient target j integer_target))
         (0 + length mult * product) side.it 0 coefficients.0 box
         (omega (arith, few, coefficients.3, integers.few_columns)) side.within coefficients.2 left modest in (
           total.it,
@@ -150,7 +152,7 @@ module _ (p : Problem) (cs : List Cut) (box : List Span) (columns : length box �
 
     pub row_price : All IsModestSpan box → (r : ℕ) → (k : IsNoColumn (size p cs box) t r) → All (Within d (2 ^ 62)) (row_of t r) → (v : ℚ) × (price p cs box [] (mult_of_row t r) ≡ Some v)
     row_price modest r k within =
-        let w = price_there modest [] (record { rising = tt; coefficients = All-nil (λ (t : ℕ × ℚ). IsIntegerTo (2 ^ 50) t.1) }) (row_multipliers k.direction r (row_of t r)) (refuting_bounds t r k.direction)
+        let w = price_there modest [] (record { rising = tt; coefficients = All-nil (λ (t : ℕ × ℚ). IsIntegerTo largest_integer t.1) }) (row_multipliers k.direction r (row_of t r)) (refuting_bounds t r k.direction)
         (row_balanced p cs box t h r k) (row_within k.direction r (row_of t r) within) in
         (w.0, ap (price p cs box []) (row_multipliers_are p cs box t h r k) ∙ w.1)
 
@@ -159,12 +161,12 @@ module _ (p : Problem) (cs : List Cut) (box : List Span) (columns : length box �
       in_point : All (Within d (2 ^ 62)) (point_of t)
       in_point = All-take (Within d (2 ^ 62)) t.columns t.values within
 
-      few_numbers : length (point_of t) ≤ 1000
+      few_numbers : length (point_of t) ≤ most_columns
       few_numbers = omega (arith, ap length (point_is p cs box t h), length-take-le (length box) t.values (omega (arith, h.size.values)), columns, integers.few_columns)
 
       pub sum_at_point : (ts : Terms) → HasIntegers ts → checked_sum ts (point_of t) ≡ Some (rational_value ts (point_of t))
       sum_at_point ts k =
-          dot_there d (2 ^ 62) (2 ^ 50) product positive below refl 0 zero_ℚ (coefficients_from 0 (length (point_of t)) ts) (point_of t)
+          dot_there d (2 ^ 62) largest_integer product positive below refl 0 zero_ℚ (coefficients_from 0 (length (point_of t)) ts) (point_of t)
           (omega (arith, few_numbers, length-coefficients 0 (length (point_of t)) ts)) (zero_within d 0) (integer_coefficients ts 0 (length (point_of t)) k) in_point
           ∙ ap Some (zero-+ℚ _ ∙ sym (rational_value-dot ts (point_of t)))
 

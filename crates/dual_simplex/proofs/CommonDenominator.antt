@@ -8,7 +8,7 @@ use Rattle.std.proofs.lemmas.List.Elements.{All-nil, All-cons, All-head, All-tai
 use Rattle.fraction.specs.Rational.{ℚ, whole, frac, ◌+ℚ◌, ◌*ℚ◌, neg_ℚ}
 use Rattle.fraction.specs.Bounds.{Within}
 use Rattle.fraction.specs.Checked.{add_checked, mul_checked, dot_from}
-use Rattle.fraction.specs.Lemmas.Bounds.{mul_is, add_is, add_fits_within, Within-+ℚ, mul_fits_small, mul_fits_within, Within-*ℚ, whole_parts, dot_value}
+use Rattle.fraction.specs.Lemmas.Bounds.{mul_is, add_is, add_fits_within, Within-+ℚ, mul_fits_small, mul_fits_within, Within-*ℚ, whole_parts, dot_value, Within-more}
 use Rattle.fraction.specs.Lemmas.Rational.{ℚ_is, *ℚ_comm, +ℚ_assoc}
 use Rattle.fraction.specs.Lemmas.Ring.{+ℚ-zero}
 use Rattle.problem_box.specs.declared.span.Span.{Span}
@@ -17,6 +17,7 @@ use Rattle.problem.specs.Linear.{Terms, Multipliers, coefficient}
 use Rattle.problem.specs.Lemmas.Linear.{past_first}
 use Rattle.problem.specs.Lemmas.Rising.{at_first}
 use Rattle.problem.specs.Rising.{RiseFrom}
+use Rattle.problem.specs.Limits.{largest_bound}
 use Rattle.cert_rows.specs.Lines.{CertLine}
 use Rattle.derivation_book.specs.Sums.{with_product, sum_from, coefficient_at, combined_columns}
 use Rattle.derivation_book.specs.Rounded.{is_zero}
@@ -25,14 +26,10 @@ use Rattle.tableau.specs.Elimination.{zero_ℚ, entry}
 use Rattle.tableau.specs.LinearProgram.{coefficients_from}
 use Rattle.tableau.specs.Lemmas.RowAlgebra.{minus_one}
 use Rattle.tableau.specs.Lemmas.Signs.{neg_is}
-use Rattle.dual_simplex.specs.Sizes.{IsIntegerTo, HasIntegers}
+use Rattle.tableau.specs.Lemmas.StartFits.{zero_within}
+use Rattle.dual_simplex.specs.Sizes.{IsIntegerTo, HasIntegers, largest_integer}
 
 -- ---- sizes
-pub within_more : (n a b : ℕ) (x : ℚ) → a ≤ b → Within n a x → Within n b x
-within_more n a b x l w = record { divides = w.divides; size = omega (arith, mul-le-mul_right x.den l, w.size) }
-
-pub zero_within : (n a : ℕ) → Within n a zero_ℚ
-zero_within n a = record { divides = rw (whole_parts (pos 0)).1 (one-dvd n); size = rw (whole_parts (pos 0)).0 (omega arith) }
 
 pub whole_within : (n a : ℕ) (z : ℤ) → nat_abs z * n ≤ a → Within n a (whole z)
 whole_within n a z l = record { divides = rw (whole_parts z).1 (one-dvd n); size = rw (whole_parts z).0 (rw (whole_parts z).1 (omega arith)) }
@@ -62,12 +59,12 @@ coefficient_holds P k (t ∷ ts) j z r h = elim (cases_eq t.0 j) [
   | inr n ↦ subst P (sym (past_first t ts j n)) (coefficient_holds P (suc t.0) ts j z r.1 (All-tail (λ (t : ℕ × ℚ). P t.1) t ts h))
 ]
 
-pub integer_coefficient : (ts : Terms) (j : ℕ) → HasIntegers ts → IsIntegerTo (2 ^ 50) (coefficient ts j)
-integer_coefficient ts j h = coefficient_holds (IsIntegerTo (2 ^ 50)) 0 ts j (zero_to (2 ^ 50)) h.rising h.coefficients
+pub integer_coefficient : (ts : Terms) (j : ℕ) → HasIntegers ts → IsIntegerTo largest_integer (coefficient ts j)
+integer_coefficient ts j h = coefficient_holds (IsIntegerTo largest_integer) 0 ts j (zero_to largest_integer) h.rising h.coefficients
 
-pub integer_coefficients : (ts : Terms) (j k : ℕ) → HasIntegers ts → All (IsIntegerTo (2 ^ 50)) (coefficients_from j k ts)
-integer_coefficients ts j zero h = All-nil (IsIntegerTo (2 ^ 50))
-integer_coefficients ts j (suc k) h = All-cons (IsIntegerTo (2 ^ 50)) (coefficient ts j) (coefficients_from (j + 1) k ts) (integer_coefficient ts j h) (integer_coefficients ts (j + 1) k h)
+pub integer_coefficients : (ts : Terms) (j k : ℕ) → HasIntegers ts → All (IsIntegerTo largest_integer) (coefficients_from j k ts)
+integer_coefficients ts j zero h = All-nil (IsIntegerTo largest_integer)
+integer_coefficients ts j (suc k) h = All-cons (IsIntegerTo largest_integer) (coefficient ts j) (coefficients_from (j + 1) k ts) (integer_coefficient ts j h) (integer_coefficients ts (j + 1) k h)
 
 -- ---- sums: fractions over n, of size at most a over n, times whole numbers of size at most b, are of size at most c over n
 -- a sum that is there, of size at most m over n
@@ -97,7 +94,7 @@ module _ (n a b c : ℕ) (positive : 0 < n) (small : n < 2 ^ 127) (is_product : 
   Multiplies f q = Within n a q.1 × IsIntegerTo b (f q.0)
 
   pub sum_there : (f : ℕ → ℚ) (m : ℕ) (s : ℚ) (qs : Multipliers) → m + length qs * c < 2 ^ 127 → Within n m s → All (Multiplies f) qs → IsThereWithin n (m + length qs * c) (sum_from f s qs)
-  sum_there f m s [] l w h = record { it = s; is = refl; within = within_more n m (m + 0 * c) s (omega arith) w }
+  sum_there f m s [] l w h = record { it = s; is = refl; within = Within-more n m (m + 0 * c) s (omega arith) w }
   sum_there f m s (q ∷ qs) l w h =
       let k = All-head (Multiplies f) q qs h in
       let one = with_product_there m s q.1 (f q.0) (omega arith) w k.0 k.1 in
@@ -105,7 +102,7 @@ module _ (n a b c : ℕ) (positive : 0 < n) (small : n < 2 ^ 127) (is_product : 
       record {
         it = more.it;
         is = ap (option_and_then (λ t. sum_from f t qs)) one.is ∙ more.is;
-        within = within_more n (m + c + length qs * c) (m + length (q ∷ qs) * c) more.it (omega arith) more.within;
+        within = Within-more n (m + c + length qs * c) (m + length (q ∷ qs) * c) more.it (omega arith) more.within;
       }
 
   -- the coefficients of a combination
@@ -117,7 +114,7 @@ module _ (n a b c : ℕ) (positive : 0 < n) (small : n < 2 ^ 127) (is_product : 
       let more = columns_there ls m mult (j + 1) k l o h in (
         one.it ∷ more.0,
         ap (option_and_then (λ c. option_map (λ cs. c ∷ cs) (combined_columns ls mult (j + 1) k))) one.is ∙ ap (option_map (λ cs. one.it ∷ cs)) more.1,
-        All-cons (Within n m) one.it more.0 (within_more n (0 + length mult * c) m one.it (omega arith) one.within) more.2,
+        All-cons (Within n m) one.it more.0 (Within-more n (0 + length mult * c) m one.it (omega arith) one.within) more.2,
         ap suc more.3,
       )
 
@@ -144,7 +141,7 @@ module _ (n a b c : ℕ) (positive : 0 < n) (small : n < 2 ^ 127) (is_product : 
       ∙ ap Some (+ℚ_assoc s (x *ℚ y) (dot_value xs ys))
 
   -- ---- what is left of columns, times bounds
-  with_bound_there : (m : ℕ) (total left : ℚ) (s : Span) → 10 ^ 9 ≤ b → IsModestSpan s → m + c < 2 ^ 127 → Within n m total → Within n a left → IsThereWithin n (m + c) (with_bound total left s)
+  with_bound_there : (m : ℕ) (total left : ℚ) (s : Span) → largest_bound ≤ b → IsModestSpan s → m + c < 2 ^ 127 → Within n m total → Within n a left → IsThereWithin n (m + c) (with_bound total left s)
   with_bound_there m total left s e modest l w wl = at (is_zero left)
     where
       bound_small : (k : Bool) → nat_abs (cond k s.lo s.hi) ≤ b
@@ -155,15 +152,15 @@ module _ (n a b c : ℕ) (positive : 0 < n) (small : n < 2 ^ 127) (is_product : 
       bound_integer z h = record { is_whole = (whole_parts z).1; is_small = rw (whole_parts z).0 h }
 
       at : (k : Bool) → IsThereWithin n (m + c) (cond k (Some total) (with_product total left (whole (bound_for left s))))
-      at true = record { it = total; is = refl; within = within_more n m (m + c) total (omega arith) w }
+      at true = record { it = total; is = refl; within = Within-more n m (m + c) total (omega arith) w }
       at false = with_product_there m total left (whole (bound_for left s)) l w wl (bound_integer (bound_for left s) (bound_small _))
 
   -- the target's coefficients are of size at most t over n, and those of the combination of size at most u over n
-  pub with_columns_there : (t u : ℕ) (target : Terms) → 10 ^ 9 ≤ b → t + u < 2 ^ 127 → ((j : ℕ) → Within n t (coefficient target j)) → (m : ℕ) (total : ℚ) (j : ℕ) (cs : List ℚ) (ss : List Span)
+  pub with_columns_there : (t u : ℕ) (target : Terms) → largest_bound ≤ b → t + u < 2 ^ 127 → ((j : ℕ) → Within n t (coefficient target j)) → (m : ℕ) (total : ℚ) (j : ℕ) (cs : List ℚ) (ss : List Span)
       → m + length cs * c < 2 ^ 127 → Within n m total → All (Within n u) cs → ((i : ℕ) → i < length cs → Within n a (coefficient target (j + i) +ℚ neg_ℚ (entry cs i))) → All IsModestSpan ss
       → IsThereWithin n (m + length cs * c) (with_columns total target j cs ss)
-  with_columns_there t u target e o wt m total j [] ss l w h left k = record { it = total; is = refl; within = within_more n m (m + 0 * c) total (omega arith) w }
-  with_columns_there t u target e o wt m total j (x ∷ cs) [] l w h left k = record { it = total; is = refl; within = within_more n m (m + length (x ∷ cs) * c) total (omega arith) w }
+  with_columns_there t u target e o wt m total j [] ss l w h left k = record { it = total; is = refl; within = Within-more n m (m + 0 * c) total (omega arith) w }
+  with_columns_there t u target e o wt m total j (x ∷ cs) [] l w h left k = record { it = total; is = refl; within = Within-more n m (m + length (x ∷ cs) * c) total (omega arith) w }
   with_columns_there t u target e o wt m total j (x ∷ cs) (s ∷ ss) l w h left k =
       let here : Within n a (coefficient target j +ℚ neg_ℚ x) = subst (λ i. Within n a (coefficient target i +ℚ neg_ℚ x)) (let f : j + 0 ≡ j = omega arith in f) (left 0 (omega arith)) in
       let difference = add_is (coefficient target j) (neg_ℚ x) (add_fits_within (coefficient target j) (neg_ℚ x) n t u positive small o (wt j) (neg_within n u x positive (All-head (Within n u) x cs h))) in
@@ -174,5 +171,5 @@ module _ (n a b c : ℕ) (positive : 0 < n) (small : n < 2 ^ 127) (is_product : 
       record {
         it = more.it;
         is = ap (option_and_then (λ v. with_columns v target (j + 1) cs ss)) step ∙ more.is;
-        within = within_more n (m + c + length cs * c) (m + length (x ∷ cs) * c) more.it (omega arith) more.within;
+        within = Within-more n (m + c + length cs * c) (m + length (x ∷ cs) * c) more.it (omega arith) more.within;
       }

@@ -21,13 +21,14 @@ use Rattle.fraction.specs.Checked.{compare, add_checked}
 use Rattle.fraction.specs.Lemmas.Integers.{diff-mul, diff-pos, diff-same, is_diff}
 use Rattle.fraction.specs.Lemmas.Rational.{frac-≤ℚ, ≤ℚ_frac, frac_same, lit_one, ℚ_is}
 use Rattle.problem.specs.Linear.{Terms}
+use Rattle.problem.specs.Limits.{most_columns}
 use Rattle.derivation_book.specs.Sums.{with_product}
 use Rattle.derivation_book.specs.Lemmas.OneDenominator.{add_over, times_over}
 use Rattle.derivation_book.specs.Lemmas.Steps.{next_item}
 use Rattle.dual_simplex.specs.Relaxation.{RationalPoint, rational_at}
 use Rattle.dual_simplex.specs.PointSums.{checked_sum}
-use Rattle.dual_simplex.specs.Sizes.{IsIntegerTo}
-use Rattle.dual_simplex.specs.Scaled.{point_over, numerator_at, IsDenominator, AreNumerators, IsSumOver}
+use Rattle.dual_simplex.specs.Sizes.{IsIntegerTo, largest_integer}
+use Rattle.dual_simplex.specs.Scaled.{point_over, numerator_at, IsDenominator, AreNumerators, IsSumOver, largest_numerator, largest_factor, largest_product}
 use Rattle.dual_simplex.proofs.CommonDenominator.{integer_is}
 use Rattle.dual_simplex.proofs.Sparse.{sum_of_terms}
 
@@ -44,9 +45,9 @@ pub numbers_more : (d : ℕ) (zs ys : List ℤ) (x : RationalPoint) (i : ℕ) (z
 numbers_more d zs ys x i z q e g l f h =
     ap (point_over d) e ∙ map-append (λ z. frac z d) zs (z ∷ []) ∙ (λ j. h j ++ (f ∙ sym (get_or_from_slice_get x i q q g)) j ∷ []) ∙ sym (take_more x i q l)
 
-numerator_small : (zs : List ℤ) (j : ℕ) → AreNumerators zs → nat_abs (numerator_at zs j) ≤ 2 ^ 76
+numerator_small : (zs : List ℤ) (j : ℕ) → AreNumerators zs → nat_abs (numerator_at zs j) ≤ largest_numerator
 numerator_small zs j h = elim (before_or_past j (length zs)) [
-  | inl l ↦ All-get_or (λ z. nat_abs z ≤ 2 ^ 76) zs j (pos 0) l h
+  | inl l ↦ All-get_or (λ z. nat_abs z ≤ largest_numerator) zs j (pos 0) l h
   | inr l ↦ rw (get_or_past zs j (pos 0) l) (omega arith)
 ]
   where
@@ -54,10 +55,10 @@ numerator_small zs j h = elim (before_or_past j (length zs)) [
     before_or_past j n = grind arith
 
 -- ---- a term
-pub product_small : (k z : ℤ) → nat_abs k ≤ 2 ^ 40 → nat_abs z ≤ 2 ^ 76 → nat_abs (k *ℤ z) ≤ 2 ^ 116
+pub product_small : (k z : ℤ) → nat_abs k ≤ largest_factor → nat_abs z ≤ largest_numerator → nat_abs (k *ℤ z) ≤ largest_product
 product_small k z h l = rw (unsigned_abs-mul k z) (omega (arith, mul-le-mul h l))
 
-pub product_fits : (z : ℤ) → nat_abs z ≤ 2 ^ 116 → SFits w128 z
+pub product_fits : (z : ℤ) → nat_abs z ≤ largest_product → SFits w128 z
 product_fits (pos n) h = record { sfits = omega arith }
 product_fits (negsuc n) h = record { sfits = omega arith }
 
@@ -65,16 +66,16 @@ zero-product : (k : ℤ) → k *ℤ pos 0 ≡ pos 0
 zero-product k = rw (is_diff k) (simp (diff-pos, diff-mul) (diff-same _ _ _ _ (omega arith)))
 
 module _ (d : ℕ) (o : IsDenominator d) where
-  term_over : (t z : ℤ) (c : ℚ) → nat_abs t ≤ 1000 * 2 ^ 116 → nat_abs z ≤ 2 ^ 76 → IsIntegerTo (2 ^ 40) c → with_product (frac t d) c (frac z d) ≡ Some (frac (t +ℤ c.num *ℤ z) d)
+  term_over : (t z : ℤ) (c : ℚ) → nat_abs t ≤ most_columns * largest_product → nat_abs z ≤ largest_numerator → IsIntegerTo largest_factor c → with_product (frac t d) c (frac z d) ≡ Some (frac (t +ℤ c.num *ℤ z) d)
   term_over t z c ht hz hc =
       let small : d < 2 ^ 127 = omega (arith, o.small) in
       let size = product_small c.num z hc.is_small hz in
-      ap (λ v. with_product (frac t d) v (frac z d)) (integer_is (2 ^ 40) c hc)
+      ap (λ v. with_product (frac t d) v (frac z d)) (integer_is largest_factor c hc)
       ∙ ap (option_and_then (λ v. add_checked (frac t d) v)) (times_over c.num z d o.positive small (omega (arith, size)))
       ∙ add_over t (c.num *ℤ z) d o.positive small (omega (arith, ht)) (omega (arith, size)) (omega (arith, ints, ht, size))
 
   -- a sum with a term more, of a column of the point or of another one
-  pub more_over : (s : ℤ) (t : ℕ × ℚ) (ts : Terms) (zs : List ℤ) → nat_abs s ≤ 1000 * 2 ^ 116 → nat_abs (numerator_at zs t.0) ≤ 2 ^ 76 → IsIntegerTo (2 ^ 40) t.1
+  pub more_over : (s : ℤ) (t : ℕ × ℚ) (ts : Terms) (zs : List ℤ) → nat_abs s ≤ most_columns * largest_product → nat_abs (numerator_at zs t.0) ≤ largest_numerator → IsIntegerTo largest_factor t.1
       → sum_of_terms (frac s d) (t ∷ ts) (point_over d zs) ≡ sum_of_terms (frac (s +ℤ t.1.num *ℤ numerator_at zs t.0) d) ts (point_over d zs)
   more_over s t ts zs hs hz ht = at (nat_lt t.0 (length (point_over d zs))) refl
     where
@@ -93,7 +94,7 @@ module _ (d : ℕ) (o : IsDenominator d) where
           ap (λ z. sum_of_terms (frac z d) ts (point_over d zs)) (unchanged s t.1.num (numerator_at zs t.0) (get_or_past zs t.0 (pos 0) past))
 
 -- the sum is the same after one term more
-pub next_over : (zs : List ℤ) (ts : Terms) (i : ℕ) (t : ℕ × ℚ) (s u : ℤ) → i < length ts → i ≤ 1000 → t ≡ get_or ts i t → nat_abs s ≤ i * 2 ^ 116 → AreNumerators zs → IsIntegerTo (2 ^ 40) t.1
+pub next_over : (zs : List ℤ) (ts : Terms) (i : ℕ) (t : ℕ × ℚ) (s u : ℤ) → i < length ts → i ≤ most_columns → t ≡ get_or ts i t → nat_abs s ≤ i * largest_product → AreNumerators zs → IsIntegerTo largest_factor t.1
     → u ≡ s +ℤ t.1.num *ℤ numerator_at zs t.0 → (d : ℕ) → IsDenominator d
     → sum_of_terms (frac u d) (drop (i + 1) ts) (point_over d zs) ≡ sum_of_terms (frac s d) (drop i ts) (point_over d zs)
 next_over zs ts i t s u l few e hs hz ht f d o =
@@ -121,7 +122,7 @@ pub compare_over : (t : ℤ) (d : ℕ) (q : ℚ) → 0 < d → IsWhole q → com
 compare_over t d q o w =
     ap (compare (frac t d)) (ℚ_is q ∙ ap (frac q.num) w) ∙ compare_fractions t q.num d 1 o lit_one ∙ ap (λ z. int_cmp z (q.num *ℤ pos d)) (let e : t *ℤ pos 1 ≡ t = omega (arith, ints) in e)
 
-pub compared : (ts : Terms) (zs : List ℤ) (x : RationalPoint) (d : ℕ) (t side : ℤ) (q : ℚ) (r : Ordering) → point_over d zs ≡ x → IsDenominator d → IsSumOver ts zs t → IsIntegerTo (2 ^ 50) q
+pub compared : (ts : Terms) (zs : List ℤ) (x : RationalPoint) (d : ℕ) (t side : ℤ) (q : ℚ) (r : Ordering) → point_over d zs ≡ x → IsDenominator d → IsSumOver ts zs t → IsIntegerTo largest_integer q
     → side ≡ q.num *ℤ pos d → r ≡ int_cmp t side → option_map (λ v. compare v q) (checked_sum ts x) ≡ Some r
 compared ts zs x d t side q r e o h w f g =
     ap (λ y. option_map (λ v. compare v q) (checked_sum ts y)) (sym e) ∙ ap (option_map (λ v. compare v q)) (h d o)

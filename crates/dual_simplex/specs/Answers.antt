@@ -1,5 +1,5 @@
 -- What the dual simplex answers of a problem and some cuts over a box.
-use Rattle.std.specs.Prelude.{ℕ, ◌+◌, ◌*◌, List, [], map, Option, Some, None, if◌then◌else◌}
+use Rattle.std.specs.Prelude.{◌≡◌, ℕ, ◌+◌, ◌*◌, List, [], map, Option, Some, None, if◌then◌else◌, IfSome, IsSomeAnd}
 use Rattle.std.specs.Option.{option_map}
 use Rattle.problem_box.specs.declared.span.Span.{Span}
 use Rattle.problem.specs.Linear.{Multipliers}
@@ -34,6 +34,10 @@ run_of_start lp (Some t) = run_from (pivot_limit lp) t
 
 abbrev pub run : LinearProgram → RunEnd
 run lp = run_of_start lp (started lp)
+
+-- what is handed out of a run whose start is there: a tableau that tells the run's pivots, also after a cramped one
+abbrev pub HasPivots : LinearProgram → Option Tableau → Type 0
+HasPivots lp left = IfSome (started lp) (λ s. IsSomeAnd left (λ t. t.pivots ≡ (run lp).pivots))
 
 -- ---- its end
 -- by the multipliers of a row that no column can help; none where their price is cramped

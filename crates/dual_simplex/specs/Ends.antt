@@ -38,7 +38,7 @@ pub record IsAnswerThere (p : Problem) (cuts : List Cut) (box : List Span) (q : 
   pub optimum : q ≡ Done → IsOptimumThere p cuts box t
   pub refuted : (r : ℕ) → q ≡ NoColumn r → IsSome (price p cuts box [] (mult_of_row t r))
 
--- the bounds of the box have size at most 10^9, and the tableau's numbers are small over one denominator
+-- the bounds of the box are modest, and the tableau's numbers are small over one denominator
 pub record IsSmallEnd (box : List Span) (t : Tableau) : Type 0 where
   pub modest : All IsModestSpan box
   pub denominator : ℕ

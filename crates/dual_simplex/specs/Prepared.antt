@@ -1,10 +1,10 @@
 -- A relaxation that was prepared, to be solved over many boxes.
-use Rattle.std.specs.Prelude.{◌≡◌, ℕ, ◌<◌, ◌^◌, List, Option, IfSome}
+use Rattle.std.specs.Prelude.{◌≡◌, ℕ, ◌<◌, List, Option, IfSome}
 use Rattle.problem.specs.Problem.{Problem}
 use Rattle.derivation_book.specs.declared.cut.Cut.{Cut}
 use Rattle.tableau.specs.LinearProgram.{LinearProgram}
 use Rattle.dual_simplex.specs.Answers.{linear_program}
-use Rattle.dual_simplex.specs.Sizes.{IsIntegerRelaxation}
+use Rattle.dual_simplex.specs.Sizes.{IsIntegerRelaxation, most_numbered_cuts}
 
 -- how many cuts it has, and its linear program over the problem's own box, where that has the form of small whole numbers
 pub record Prepared : Type 0 where
@@ -18,5 +18,5 @@ pub record IsIntegerProgramOf (p : Problem) (cs : List Cut) (lp : LinearProgram)
 
 -- prepared for a problem and these cuts
 pub record IsRelaxationOf (p : Problem) (cs : List Cut) (r : Prepared) : Type 0 where
-  pub numbered : r.cuts < 2 ^ 27
+  pub numbered : r.cuts < most_numbered_cuts
   pub program : IfSome r.program (IsIntegerProgramOf p cs)

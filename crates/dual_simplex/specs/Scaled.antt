@@ -1,5 +1,5 @@
 -- Points over one common denominator, whose sums are sums of whole numbers.
-use Rattle.std.specs.Prelude.{◌≡◌, ℕ, ◌<◌, ◌≤◌, ◌^◌, ℤ, pos, nat_abs, List, map, All, Some, slice_index_or}
+use Rattle.std.specs.Prelude.{◌≡◌, ℕ, ◌<◌, ◌≤◌, ◌*◌, ◌^◌, ℤ, pos, nat_abs, List, map, All, Some, slice_index_or}
 use Rattle.fraction.specs.Rational.{frac}
 use Rattle.problem.specs.Linear.{Terms}
 use Rattle.dual_simplex.specs.Relaxation.{RationalPoint}
@@ -13,14 +13,26 @@ point_over d zs = map (λ z. frac z d) zs
 abbrev pub numerator_at : List ℤ → ℕ → ℤ
 numerator_at zs j = slice_index_or zs j (pos 0)
 
--- a denominator of at most 2^76
+-- the largest denominator, and the largest numerator
+abbrev pub largest_numerator : ℕ
+largest_numerator = 2 ^ 76
+
+-- the largest coefficient that such a numerator is multiplied with
+abbrev pub largest_factor : ℕ
+largest_factor = 2 ^ 40
+
+-- the largest product of the two: the sum of one for each column has at most 127 bits
+abbrev pub largest_product : ℕ
+largest_product = largest_factor * largest_numerator
+
+-- a denominator of at most that size
 pub record IsDenominator (d : ℕ) : Type 0 where
   pub positive : 0 < d
-  pub small : d ≤ 2 ^ 76
+  pub small : d ≤ largest_numerator
 
--- numerators of size at most 2^76
+-- numerators of at most that size
 abbrev pub AreNumerators : List ℤ → Type 0
-AreNumerators zs = All (λ z. nat_abs z ≤ 2 ^ 76) zs
+AreNumerators zs = All (λ z. nat_abs z ≤ largest_numerator) zs
 
 -- whatever the denominator is, the sum at the point over it is this numerator over it
 abbrev pub IsSumOver : Terms → List ℤ → ℤ → Type 0

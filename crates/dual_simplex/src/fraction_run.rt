@@ -2,7 +2,8 @@
 
 ghost use Rattle.std.specs.Prelude.{◌≡◌, ◌+◌, ◌<◌, ◌≤◌, ◌^◌, IfOk, IfSome, Some, length, take};
 ghost use Rattle.tableau.specs.Run.{run_from};
-ghost use Rattle.dual_simplex.specs.Answers.{linear_program, run, answer};
+ghost use Rattle.dual_simplex.specs.Answers.{linear_program, run, HasPivots, answer};
+ghost use Rattle.dual_simplex.specs.Sizes.{most_numbered_cuts};
 
 use crate::answer::Answer;
 use crate::final_tableau::FinalTableau;
@@ -30,6 +31,7 @@ pub(crate) fn run_on(
     requires rest { run (linear_program problem.now (take cuts book.now.cuts) area.now) ≡ run_from cap tableau }
     ensures answer { IfOk result (λ s. s.answer ≡ answer problem.now (take cuts book.now.cuts) area.now) }
     ensures tableau { IfOk result (λ s. IfSome (run (linear_program problem.now (take cuts book.now.cuts) area.now)).tableau (λ t. s.tableau ≡ Some t)) }
+    ensures pivots { IfOk result (λ s. HasPivots (linear_program problem.now (take cuts book.now.cuts) area.now) s.tableau) }
 {
     let mut tableau = tableau;
     let place = tableau.run(alloc, cap)?;
@@ -46,10 +48,11 @@ pub(crate) fn solve_by_fractions(
     area: &IntBox,
 ) -> Result<Solution, AllocError>
     requires few { cuts ≤ length book.now.cuts }
-    requires numbered { cuts < 2 ^ 27 }
+    requires numbered { cuts < most_numbered_cuts }
     requires columns { length area.now ≡ length problem.now.spans }
     ensures answer { IfOk result (λ s. s.answer ≡ answer problem.now (take cuts book.now.cuts) area.now) }
     ensures tableau { IfOk result (λ s. IfSome (run (linear_program problem.now (take cuts book.now.cuts) area.now)).tableau (λ t. s.tableau ≡ Some t)) }
+    ensures pivots { IfOk result (λ s. HasPivots (linear_program problem.now (take cuts book.now.cuts) area.now) s.tableau) }
 {
     let program = linear_program(alloc, problem, book, cuts, area)?;
     match Tableau::start(alloc, program)? {

@@ -2,10 +2,10 @@
 
 ghost use Rattle.std.specs.Prelude.{◌≡◌, ◌+◌, ◌*◌, ◌<◌, ◌≤◌, ◌^◌, IsTrue, IfOk, IfSome, Some, length, take};
 ghost use Rattle.tableau.specs.Start.{started};
-ghost use Rattle.dual_simplex.specs.Answers.{linear_program, run, answer_at, answer};
+ghost use Rattle.dual_simplex.specs.Answers.{linear_program, run, HasPivots, answer_at, answer};
 ghost use Rattle.dual_simplex.specs.Ends.{IsEnd, IsSmallEnd};
 ghost use Rattle.dual_simplex.specs.Prepared.{IsIntegerProgramOf};
-ghost use Rattle.dual_simplex.specs.Sizes.{IsIntegerRelaxation};
+ghost use Rattle.dual_simplex.specs.Sizes.{IsIntegerRelaxation, most_numbered_cuts};
 
 use crate::final_tableau::FinalTableau;
 use crate::fraction_run::run_on;
@@ -59,13 +59,14 @@ fn solve_from(
     pivots: u64,
 ) -> Result<Option<Solution>, AllocError>
     requires few { cuts ≤ length book.now.cuts }
-    requires numbered { cuts < 2 ^ 27 }
+    requires numbered { cuts < most_numbered_cuts }
     requires columns { length area.now ≡ length problem.now.spans }
     requires fresh { start.pivots ≡ 0 }
     requires start { started (linear_program problem.now (take cuts book.now.cuts) area.now) ≡ Some start }
     requires within { pivots ≤ 20 * (length problem.now.spans + (length problem.now.rows + cuts)) + 100 }
     ensures answer { IfOk result (λ o. IfSome o (λ s. s.answer ≡ answer problem.now (take cuts book.now.cuts) area.now)) }
     ensures tableau { IfOk result (λ o. IfSome o (λ s. IfSome (run (linear_program problem.now (take cuts book.now.cuts) area.now)).tableau (λ t. s.tableau ≡ Some t))) }
+    ensures pivots { IfOk result (λ o. IfSome o (λ s. HasPivots (linear_program problem.now (take cuts book.now.cuts) area.now) s.tableau)) }
 {
     let limit = pivot_limit(problem, cuts);
     match start.after_pivots(pivots) {
@@ -89,12 +90,13 @@ fn go_on(
     pivots: u64,
 ) -> Result<Option<Solution>, AllocError>
     requires few { cuts ≤ length book.now.cuts }
-    requires numbered { cuts < 2 ^ 27 }
+    requires numbered { cuts < most_numbered_cuts }
     requires columns { length area.now ≡ length problem.now.spans }
     requires program { IsIntegerProgramOf problem.now (take cuts book.now.cuts) program.now }
     requires within { pivots ≤ 20 * (length problem.now.spans + (length problem.now.rows + cuts)) + 100 }
     ensures answer { IfOk result (λ o. IfSome o (λ s. s.answer ≡ answer problem.now (take cuts book.now.cuts) area.now)) }
     ensures tableau { IfOk result (λ o. IfSome o (λ s. IfSome (run (linear_program problem.now (take cuts book.now.cuts) area.now)).tableau (λ t. s.tableau ≡ Some t))) }
+    ensures pivots { IfOk result (λ o. IfSome o (λ s. HasPivots (linear_program problem.now (take cuts book.now.cuts) area.now) s.tableau)) }
 {
     match IntegerTableau::start(alloc, program, area)? {
         Some(start) => solve_from(alloc, problem, book, cuts, area, start, pivots),
@@ -114,13 +116,14 @@ fn run(
     start: IntegerTableau,
 ) -> Result<Option<Solution>, AllocError>
     requires few { cuts ≤ length book.now.cuts }
-    requires numbered { cuts < 2 ^ 27 }
+    requires numbered { cuts < most_numbered_cuts }
     requires columns { length area.now ≡ length problem.now.spans }
     requires program { IsIntegerProgramOf problem.now (take cuts book.now.cuts) program.now }
     requires fresh { start.pivots ≡ 0 }
     requires start { started (linear_program problem.now (take cuts book.now.cuts) area.now) ≡ Some start }
     ensures answer { IfOk result (λ o. IfSome o (λ s. s.answer ≡ answer problem.now (take cuts book.now.cuts) area.now)) }
     ensures tableau { IfOk result (λ o. IfSome o (λ s. IfSome (run (linear_program problem.now (take cuts book.now.cuts) area.now)).tableau (λ t. s.tableau ≡ Some t))) }
+    ensures pivots { IfOk result (λ o. IfSome o (λ s. HasPivots (linear_program problem.now (take cuts book.now.cuts) area.now) s.tableau)) }
 {
     match start.run(pivot_limit(problem, cuts)) {
         Ok(end) => Ok(Some(solution_of(alloc, problem, book, cuts, area, end)?)),
@@ -139,11 +142,12 @@ pub(crate) fn solve_by_integers(
     program: &IntegerProgram,
 ) -> Result<Option<Solution>, AllocError>
     requires few { cuts ≤ length book.now.cuts }
-    requires numbered { cuts < 2 ^ 27 }
+    requires numbered { cuts < most_numbered_cuts }
     requires columns { length area.now ≡ length problem.now.spans }
     requires program { IsIntegerProgramOf problem.now (take cuts book.now.cuts) program.now }
     ensures answer { IfOk result (λ o. IfSome o (λ s. s.answer ≡ answer problem.now (take cuts book.now.cuts) area.now)) }
     ensures tableau { IfOk result (λ o. IfSome o (λ s. IfSome (run (linear_program problem.now (take cuts book.now.cuts) area.now)).tableau (λ t. s.tableau ≡ Some t))) }
+    ensures pivots { IfOk result (λ o. IfSome o (λ s. HasPivots (linear_program problem.now (take cuts book.now.cuts) area.now) s.tableau)) }
 {
     match IntegerTableau::start(alloc, program, area)? {
         Some(start) => run(alloc, problem, book, cuts, area, program, start),

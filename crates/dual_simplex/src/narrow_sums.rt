@@ -2,11 +2,12 @@
 
 ghost use Rattle.std.specs.Prelude.{◌≡◌, ◌<◌, ◌≤◌, ◌*◌, ◌+◌, ◌^◌, ◌+ℤ◌, ◌*ℤ◌, nat_abs, IfOk, IfSome};
 ghost use Rattle.problem.specs.Rising.{AreRising};
+ghost use Rattle.problem.specs.Limits.{most_columns};
 ghost use Rattle.dual_simplex.specs.Sizes.{IsIntegerTo};
-ghost use Rattle.dual_simplex.specs.Scaled.{numerator_at, AreNumerators, IsSumOver};
+ghost use Rattle.dual_simplex.specs.Scaled.{numerator_at, AreNumerators, IsSumOver, largest_numerator, largest_factor, largest_product};
 
-use crate::scaled_point::{MOST_TERMS, product};
-use problem::Term;
+use crate::scaled_point::product;
+use problem::{MOST_COLUMNS, Term};
 use std::alloc::{AllocError, Global};
 
 /// The greatest size of a coefficient.
@@ -33,7 +34,7 @@ pub(crate) fn narrow_numerators(
 #[inline(always)]
 pub(crate) fn small_coefficient(term: &Term) -> Option<i128>
     ensures value { IfSome result (λ z. z ≡ term.now.1.num) }
-    ensures integer { IfSome result (λ _. IsIntegerTo (2 ^ 40) term.now.1) }
+    ensures integer { IfSome result (λ _. IsIntegerTo largest_factor term.now.1) }
 {
     let number = term.integer()?;
     // Both sides are compared, since that takes less time than the size.
@@ -48,7 +49,7 @@ pub(crate) fn small_coefficient(term: &Term) -> Option<i128>
 #[inline(always)]
 fn numerator_in(numerators: &[i64], column: u32) -> i128
     ensures value { result ≡ numerator_at numerators.now column }
-    ensures small { nat_abs result ≤ 2 ^ 76 }
+    ensures small { nat_abs result ≤ largest_numerator }
 {
     let column = column as usize;
     if column < numerators.len() {
@@ -61,16 +62,16 @@ fn numerator_in(numerators: &[i64], column: u32) -> i128
 /// The numerator of a sum with one term more; none where the coefficient isn't whole, or its size is above 2^40.
 #[inline(always)]
 fn with_term(numerators: &[i64], total: i128, term: &Term) -> Option<i128>
-    requires { nat_abs total ≤ 1000 * 2 ^ 116 }
+    requires { nat_abs total ≤ most_columns * largest_product }
     ensures value { IfSome result (λ t. t ≡ total +ℤ term.now.1.num *ℤ numerator_at numerators.now term.now.0) }
-    ensures small { IfSome result (λ t. nat_abs t ≤ nat_abs total + 2 ^ 116) }
-    ensures integer { IfSome result (λ _. IsIntegerTo (2 ^ 40) term.now.1) }
+    ensures small { IfSome result (λ t. nat_abs t ≤ nat_abs total + largest_product) }
+    ensures integer { IfSome result (λ _. IsIntegerTo largest_factor term.now.1) }
 {
     let coefficient = small_coefficient(term)?;
     Some(total + product(coefficient, numerator_in(numerators, term.column())))
 }
 
-/// The numerator of the sum of coefficient times number, where the columns of the terms rise; none where there are more than 1,000 terms, or a
+/// The numerator of the sum of coefficient times number, where the columns of the terms rise; none where there are more than `MOST_COLUMNS` terms, or a
 /// coefficient isn't whole, or its size is above 2^40.
 // Inlined, the loop would keep the numerators' place in memory, since its callers leave it too few registers.
 #[inline(never)]
@@ -80,7 +81,7 @@ pub(crate) fn numerator_of_sum(numerators: &[i64], terms: &[Term]) -> Option<i12
     ensures value { IfSome result (IsSumOver terms.now numerators.now) }
     ensures small { IfSome result (λ t. nat_abs t < 2 ^ 126) }
 {
-    if terms.len() > MOST_TERMS {
+    if terms.len() > MOST_COLUMNS {
         return None;
     }
     let mut total = 0;

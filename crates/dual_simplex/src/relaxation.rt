@@ -1,8 +1,9 @@
 //! The relaxation of a problem and cuts, over many boxes.
 
 ghost use Rattle.std.specs.Prelude.{◌≡◌, ◌<◌, ◌≤◌, ◌^◌, IfOk, IfSome, Some, length, take};
-ghost use Rattle.dual_simplex.specs.Answers.{linear_program, run, answer};
+ghost use Rattle.dual_simplex.specs.Answers.{linear_program, run, HasPivots, answer};
 ghost use Rattle.dual_simplex.specs.Prepared.{IsIntegerProgramOf, IsRelaxationOf};
+ghost use Rattle.dual_simplex.specs.Sizes.{most_numbered_cuts};
 
 use crate::fraction_run::solve_by_fractions;
 use crate::integer_run::solve_by_integers;
@@ -42,7 +43,7 @@ fn integer_program(
     cuts: usize,
 ) -> Result<Option<IntegerProgram>, AllocError>
     requires few { cuts ≤ length book.now.cuts }
-    requires numbered { cuts < 2 ^ 27 }
+    requires numbered { cuts < most_numbered_cuts }
     ensures { IfOk result (λ o. IfSome o (IsIntegerProgramOf problem.now (take cuts book.now.cuts))) }
 {
     if !is_integer_relaxation(problem, book, cuts) {
@@ -61,19 +62,12 @@ impl Relaxation {
         cuts: usize,
     ) -> Result<Relaxation, AllocError>
         requires few { cuts ≤ length book.now.cuts }
-        requires numbered { cuts < 2 ^ 27 }
+        requires numbered { cuts < most_numbered_cuts }
         ensures cuts { IfOk result (λ r. r.cuts ≡ cuts) }
         ensures prepared { IfOk result (λ r. IsRelaxationOf problem.now (take cuts book.now.cuts) r) }
     {
         let program = integer_program(alloc, problem, book, cuts)?;
         Ok(Relaxation { cuts, program })
-    }
-
-    /// How many of the book's first cuts it has.
-    pub fn cuts(&self) -> usize
-        ensures { result ≡ self.now.cuts }
-    {
-        self.cuts
     }
 
     /// What the run answers over a box that starts on whole numbers; none where there is no such start. The one error is want of memory.
@@ -89,6 +83,7 @@ impl Relaxation {
         requires columns { length area.now ≡ length problem.now.spans }
         ensures answer { IfOk result (λ o. IfSome o (λ s. s.answer ≡ answer problem.now (take self.now.cuts book.now.cuts) area.now)) }
         ensures tableau { IfOk result (λ o. IfSome o (λ s. IfSome (run (linear_program problem.now (take self.now.cuts book.now.cuts) area.now)).tableau (λ t. s.tableau ≡ Some t))) }
+        ensures pivots { IfOk result (λ o. IfSome o (λ s. HasPivots (linear_program problem.now (take self.now.cuts book.now.cuts) area.now) s.tableau)) }
     {
         match &self.program {
             Some(program) => solve_by_integers(alloc, problem, book, self.cuts, area, program),
@@ -113,6 +108,7 @@ impl Relaxation {
         requires columns { length area.now ≡ length problem.now.spans }
         ensures answer { IfOk result (λ s. s.answer ≡ answer problem.now (take self.now.cuts book.now.cuts) area.now) }
         ensures tableau { IfOk result (λ s. IfSome (run (linear_program problem.now (take self.now.cuts book.now.cuts) area.now)).tableau (λ t. s.tableau ≡ Some t)) }
+        ensures pivots { IfOk result (λ s. HasPivots (linear_program problem.now (take self.now.cuts book.now.cuts) area.now) s.tableau) }
     {
         match self.solution_by_integers(alloc, problem, book, area)? {
             Some(solution) => Ok(solution),
@@ -132,10 +128,11 @@ pub fn solve(
     area: &IntBox,
 ) -> Result<Solution, AllocError>
     requires few { cuts ≤ length book.now.cuts }
-    requires numbered { cuts < 2 ^ 27 }
+    requires numbered { cuts < most_numbered_cuts }
     requires columns { length area.now ≡ length problem.now.spans }
     ensures answer { IfOk result (λ s. s.answer ≡ answer problem.now (take cuts book.now.cuts) area.now) }
     ensures tableau { IfOk result (λ s. IfSome (run (linear_program problem.now (take cuts book.now.cuts) area.now)).tableau (λ t. s.tableau ≡ Some t)) }
+    ensures pivots { IfOk result (λ s. HasPivots (linear_program problem.now (take cuts book.now.cuts) area.now) s.tableau) }
 {
     Relaxation::new(alloc, problem, book, cuts)?.solve(alloc, problem, book, area)
 }

@@ -4,14 +4,15 @@ ghost use Rattle.std.specs.Prelude.{◌≡◌, ◌<◌, ◌≤◌, ◌*◌, ◌+
 ghost use Rattle.fraction.specs.Rational.{frac, whole};
 ghost use Rattle.fraction.specs.Checked.{compare};
 ghost use Rattle.problem.specs.Rising.{AreRising};
+ghost use Rattle.problem.specs.Limits.{most_columns};
 ghost use Rattle.dual_simplex.specs.PointSums.{checked_sum};
-ghost use Rattle.dual_simplex.specs.Sizes.{IsIntegerTo};
-ghost use Rattle.dual_simplex.specs.Scaled.{point_over, numerator_at, IsDenominator, AreNumerators, IsSumOver};
+ghost use Rattle.dual_simplex.specs.Sizes.{IsIntegerTo, largest_integer};
+ghost use Rattle.dual_simplex.specs.Scaled.{point_over, numerator_at, IsDenominator, AreNumerators, IsSumOver, largest_numerator, largest_factor, largest_product};
 
 use crate::narrow_sums::{self, narrow_numerators, small_coefficient};
 use fraction::Frac;
 use node_events::RationalPoint;
-use problem::Term;
+use problem::{MOST_COLUMNS, Term};
 use std::alloc::{AllocError, Global};
 use std::cmp::Ordering;
 use std::marker::Model;
@@ -21,9 +22,6 @@ const MOST: u128 = 1 << 76;
 
 /// The greatest size of a right side.
 const MOST_SIDE: u128 = 1 << 50;
-
-/// How many terms a sum has at most. So no sum has more than 126 bits.
-pub(crate) const MOST_TERMS: usize = 1000;
 
 /// A point over one common denominator, seen as the point itself.
 #[derive(Drop)]
@@ -97,9 +95,9 @@ fn common_denominator(point: &RationalPoint) -> Option<u128>
 
 /// The product, where its size is at most 2^76.
 fn small_multiple(number: i128, factor: u128) -> Option<i128>
-    requires { factor ≤ 2 ^ 76 }
+    requires { factor ≤ largest_numerator }
     ensures value { IfSome result (λ z. z ≡ number *ℤ pos factor) }
-    ensures small { IfSome result (λ z. nat_abs z ≤ 2 ^ 76) }
+    ensures small { IfSome result (λ z. nat_abs z ≤ largest_numerator) }
 {
     let multiple = number.checked_mul(factor as i128)?;
     if multiple.unsigned_abs() <= MOST {
@@ -129,7 +127,7 @@ fn factor_to(denominator: u128, other: u128) -> Option<u128>
 fn numerator_over(number: Frac, denominator: u128) -> Option<i128>
     requires { IsDenominator denominator }
     ensures value { IfSome result (λ z. frac z denominator ≡ number) }
-    ensures small { IfSome result (λ z. nat_abs z ≤ 2 ^ 76) }
+    ensures small { IfSome result (λ z. nat_abs z ≤ largest_numerator) }
 {
     let factor = factor_to(denominator, number.denom())?;
     small_multiple(number.numer(), factor)
@@ -176,7 +174,7 @@ fn integer_to(number: Frac, most: u128) -> Option<i128>
 fn numerator_in(numerators: &[i128], column: u32) -> i128
     requires { AreNumerators numerators.now }
     ensures value { result ≡ numerator_at numerators.now column }
-    ensures small { nat_abs result ≤ 2 ^ 76 }
+    ensures small { nat_abs result ≤ largest_numerator }
 {
     let column = column as usize;
     if column < numerators.len() {
@@ -189,10 +187,10 @@ fn numerator_in(numerators: &[i128], column: u32) -> i128
 /// The product of a coefficient and a numerator.
 #[inline(always)]
 pub(crate) fn product(coefficient: i128, numerator: i128) -> i128
-    requires coefficient { nat_abs coefficient ≤ 2 ^ 40 }
-    requires numerator { nat_abs numerator ≤ 2 ^ 76 }
+    requires coefficient { nat_abs coefficient ≤ largest_factor }
+    requires numerator { nat_abs numerator ≤ largest_numerator }
     ensures value { result ≡ coefficient *ℤ numerator }
-    ensures small { nat_abs result ≤ 2 ^ 116 }
+    ensures small { nat_abs result ≤ largest_product }
 {
     coefficient * numerator
 }
@@ -201,16 +199,16 @@ pub(crate) fn product(coefficient: i128, numerator: i128) -> i128
 #[inline(always)]
 fn with_term(numerators: &[i128], total: i128, term: &Term) -> Option<i128>
     requires numerators { AreNumerators numerators.now }
-    requires total { nat_abs total ≤ 1000 * 2 ^ 116 }
+    requires total { nat_abs total ≤ most_columns * largest_product }
     ensures value { IfSome result (λ t. t ≡ total +ℤ term.now.1.num *ℤ numerator_at numerators.now term.now.0) }
-    ensures small { IfSome result (λ t. nat_abs t ≤ nat_abs total + 2 ^ 116) }
-    ensures integer { IfSome result (λ _. IsIntegerTo (2 ^ 40) term.now.1) }
+    ensures small { IfSome result (λ t. nat_abs t ≤ nat_abs total + largest_product) }
+    ensures integer { IfSome result (λ _. IsIntegerTo largest_factor term.now.1) }
 {
     let coefficient = small_coefficient(term)?;
     Some(total + product(coefficient, numerator_in(numerators, term.column())))
 }
 
-/// The numerator of the sum of coefficient times number, where the columns of the terms rise; none where there are more than 1,000 terms, or a
+/// The numerator of the sum of coefficient times number, where the columns of the terms rise; none where there are more than `MOST_COLUMNS` terms, or a
 /// coefficient isn't whole, or its size is above 2^40.
 #[inline(never)]
 fn numerator_of_sum(numerators: &[i128], terms: &[Term]) -> Option<i128>
@@ -219,7 +217,7 @@ fn numerator_of_sum(numerators: &[i128], terms: &[Term]) -> Option<i128>
     ensures value { IfSome result (IsSumOver terms.now numerators.now) }
     ensures small { IfSome result (λ t. nat_abs t < 2 ^ 126) }
 {
-    if terms.len() > MOST_TERMS {
+    if terms.len() > MOST_COLUMNS {
         return None;
     }
     let mut total = 0;
@@ -250,7 +248,7 @@ fn narrow_or_wide_sum(
 /// The numerator of a whole number over a denominator.
 #[inline(always)]
 fn numerator_of_side(side: i128, denominator: u128) -> i128
-    requires side { nat_abs side ≤ 2 ^ 50 }
+    requires side { nat_abs side ≤ largest_integer }
     requires denominator { IsDenominator denominator }
     ensures { result ≡ side *ℤ pos denominator }
 {
@@ -281,7 +279,7 @@ impl ScaledPoint {
 
     /// How the sum of coefficient times number, where the columns of the terms rise, compares with a right side.
     ///
-    /// None where there are more than 1,000 terms, or a coefficient or the right side isn't whole or is large. Where there is an answer, no step of
+    /// None where there are more than `MOST_COLUMNS` terms, or a coefficient or the right side isn't whole or is large. Where there is an answer, no step of
     /// the sum in fractions is cramped.
     pub(crate) fn compare(&self, terms: &[Term], rhs: Frac) -> Option<Ordering>
         requires { AreRising terms.now }

@@ -1,29 +1,26 @@
 //! Whether the numbers of a relaxation are whole and small.
 
-ghost use Rattle.std.specs.Prelude.{◌≤◌, ◌^◌, IsTrue, All, length, take};
+ghost use Rattle.std.specs.Prelude.{◌≤◌, IsTrue, All, length, take};
 ghost use Rattle.problem.specs.declared.row.Row.{Row as RowValue};
 ghost use Rattle.problem.specs.Limited.{IsModestSpan};
 ghost use Rattle.problem.specs.Rising.{AreRising};
 ghost use Rattle.derivation_book.specs.declared.cut.Cut.{Cut};
-ghost use Rattle.dual_simplex.specs.Sizes.{IsIntegerTo, HasIntegers, IsIntegerRow, IsIntegerRelaxation};
+ghost use Rattle.dual_simplex.specs.Sizes.{IsIntegerTo, HasIntegers, IsIntegerRow, IsIntegerRelaxation, largest_integer};
 
 use derivation_book::Book;
 use fraction::Frac;
-use problem::{Problem, Row, Term};
+use problem::{LARGEST_BOUND, Problem, Row, Term};
 use problem_box::{IntBox, Span};
 
 /// The greatest size of a coefficient or a right side.
 const MOST: u128 = 1 << 50;
 
-/// How many cuts there are at most, beside the problem's rows.
-const MOST_CUTS: usize = 1000;
-
-/// The greatest size of a column's bound.
-const MOST_BOUND: u64 = 1_000_000_000;
+/// The most cuts of a relaxation of small whole numbers, beside the problem's rows.
+const MOST_SMALL_CUTS: usize = 1_000;
 
 /// Whether this is a whole number of size at most 2^50.
 fn is_small(number: Frac) -> bool
-    ensures { IsTrue result → IsIntegerTo (2 ^ 50) number }
+    ensures { IsTrue result → IsIntegerTo largest_integer number }
 {
     number.is_whole() && number.numer().unsigned_abs() <= MOST
 }
@@ -81,20 +78,21 @@ pub(crate) fn is_integer_relaxation(problem: &Problem, book: &Book, cuts: usize)
     ensures { IsTrue result → IsIntegerRelaxation problem.now (take cuts book.now.cuts) }
 {
     problem.limits_hold();
-    cuts <= MOST_CUTS
+    cuts <= MOST_SMALL_CUTS
         && are_small(problem.objective().as_slice())
         && are_small_rows(problem)
         && are_small_cuts(book, cuts)
 }
 
-/// Whether the bounds of a span have size at most 10^9.
+/// Whether the bounds of a span have size at most `LARGEST_BOUND`.
 fn is_modest_span(span: Span) -> bool
     ensures { IsTrue result → IsModestSpan span }
 {
-    span.lo.unsigned_abs() <= MOST_BOUND && span.hi.unsigned_abs() <= MOST_BOUND
+    span.lo.unsigned_abs() <= u64::from(LARGEST_BOUND)
+        && span.hi.unsigned_abs() <= u64::from(LARGEST_BOUND)
 }
 
-/// Whether each bound of a box has size at most 10^9.
+/// Whether each bound of a box has size at most `LARGEST_BOUND`.
 pub(crate) fn is_modest(area: &IntBox) -> bool
     ensures { IsTrue result → All IsModestSpan area.now }
 {

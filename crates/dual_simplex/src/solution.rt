@@ -3,6 +3,7 @@
 ghost use Rattle.std.specs.Prelude.{◌≡◌, ◌<◌, ◌≤◌, ◌+◌, ◌*◌, ◌^◌, IsTrue, IfOk, length, take, Some};
 ghost use Rattle.dual_simplex.specs.Answers.{answer_at};
 ghost use Rattle.dual_simplex.specs.Ends.{IsEnd, IsAnswerThere};
+ghost use Rattle.dual_simplex.specs.Sizes.{most_numbered_cuts};
 
 use crate::answer::Answer;
 use crate::answering::answer_at;
@@ -24,7 +25,7 @@ pub struct Solution {
 
 /// How many pivots a run makes at most.
 pub(crate) fn pivot_limit(problem: &Problem, cuts: usize) -> u64
-    requires { cuts < 2 ^ 27 }
+    requires { cuts < most_numbered_cuts }
     ensures value { result ≡ 20 * (length problem.now.spans + (length problem.now.rows + cuts)) + 100 }
     ensures few { result < 2 ^ 32 }
 {

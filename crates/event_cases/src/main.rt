@@ -8,6 +8,11 @@ mod events;
 mod incumbents;
 
 use anyhow::Result;
+use event_core::Entry;
+use std::mem::size_of;
+
+// An event of a history takes at most 64 bytes beside the numbers that it carries.
+const _: () = prove!(size_of::<Entry>() <= 64);
 
 fn main(rt: HostRuntime) -> Result<()> {
     events::show(&rt)?;

@@ -3,7 +3,7 @@ use Rattle.std.proofs.Common.{◌≡◌, ℕ, ◌^◌, ◌<◌, Bool, true, fals
 use Rattle.std.specs.Prelude.{ℤ, pos, negsuc, ◌<ℤ◌, int_lt, nat_abs, ◌≢◌, not}
 use Rattle.std.specs.Int.{w128}
 use Rattle.std.specs.Int.RustNames.{FitsSigned}
-use Rattle.std.proofs.lemmas.Bool.{ltb-true, eqb-true}
+use Rattle.std.proofs.lemmas.Bool.{ltb-true, eqb-true, and_parts, false_from_ne_true, not-true}
 use Rattle.std.proofs.lemmas.Int.{ints}
 use Rattle.std.specs.Ordering.{int_eq}
 use Rattle.fraction.specs.Rational.{ℚ, frac, whole}
@@ -23,11 +23,6 @@ use Rattle.event_codec.proofs.Binds.{bind_ok, test_ok, ok_is, ok_then}
 use Rattle.event_codec.proofs.Numbers.{IsBytes}
 use Rattle.event_codec.proofs.Fields.{Takes, Takes-then, IsField, at_place, i128_field}
 
-both_true : (a b : Bool) → (a && b) ≡ true → (a ≡ true) × (b ≡ true)
-both_true true true e = (refl, refl)
-both_true true false e = absurd cc
-both_true false b e = absurd cc
-
 -- what the test says
 pub record IsReduced (num den : ℤ) : Type 0 where
   pub den_is : den ≡ pos (nat_abs den)
@@ -35,7 +30,7 @@ pub record IsReduced (num den : ℤ) : Type 0 where
 
 pub reduced : (num den : ℤ) → is_lowest num den ≡ true → IsReduced num den
 reduced num den e =
-    let both = both_true (int_lt (pos 0) den) (eqb (gcd (nat_abs num) (nat_abs den)) 1) e in
+    let both = and_parts (int_lt (pos 0) den) (eqb (gcd (nat_abs num) (nat_abs den)) 1) e in
     let positive : int_lt (pos 0) den ≡ true = both.0 in
     let some : pos 0 <ℤ den = grind (arith, ints) in
     record { den_is = omega (arith, ints); lowest = (omega (arith, ints), eqb-true _ _ both.1) }
@@ -137,22 +132,14 @@ plain_field =
 pub nonzero : (x : ℚ) → int_eq x.num (pos 0) ≡ false → x ≢ whole (pos 0)
 nonzero x e zero_is = let test : true ≡ false = sym (ap (λ (q : ℚ). int_eq q.num (pos 0)) zero_is ∙ zero_test) ∙ e in absurd cc
 
-not_true : (b : Bool) → (b ≡ true → ⊥) → b ≡ false
-not_true true h = absurd (h refl)
-not_true false h = refl
-
 pub nonzero_passes : (x : ℚ) → FitsFraction x → x ≢ whole (pos 0) → IsPassed is_factor x
 nonzero_passes x fits some =
     let small : is_small x.num ≡ true = is_small_from x.num fits.0 in
-    let differs : int_eq x.num (pos 0) ≡ false = not_true (int_eq x.num (pos 0)) (λ e. some (zero_from_test x e)) in
+    let differs : int_eq x.num (pos 0) ≡ false = false_from_ne_true (int_eq x.num (pos 0)) (λ e. some (zero_from_test x e)) in
     record { fits = fits; passed = rw (small, differs) refl }
 
-not_zero : (b : Bool) → not b ≡ true → b ≡ false
-not_zero true e = absurd cc
-not_zero false e = refl
-
 pub factor_passes : (num : ℤ) → is_factor num ≡ true → (is_small num ≡ true) × (int_eq num (pos 0) ≡ false)
-factor_passes num e = let both = both_true (is_small num) (not (int_eq num (pos 0))) e in (both.0, not_zero (int_eq num (pos 0)) both.1)
+factor_passes num e = let both = and_parts (is_small num) (not (int_eq num (pos 0))) e in (both.0, not-true (int_eq num (pos 0)) both.1)
 
 pub nonzero_field : IsField (fraction_at is_factor) fraction_code (IsPassed is_factor)
 nonzero_field = fraction_field is_factor (λ num e. (factor_passes num e).0)

@@ -17,6 +17,7 @@ use Rattle.event_codec.specs.Reading.{byte_at, flag_at, i64_at}
 use Rattle.event_codec.proofs.Binds.{bind_ok, test_ok, ok_then}
 use Rattle.event_codec.proofs.Numbers.{IsBytes}
 use Rattle.event_codec.proofs.Fields.{Takes, Takes-then, IsField, at_place, byte_field, flag_field, i64_field}
+use Rattle.problem.specs.Limits.{largest_bound}
 
 -- the bound that a flag and a number say
 abbrev upper_of : Bool → ℤ → Option ℤ
@@ -67,7 +68,7 @@ upper_again (Some z) place rest is =
     let flag = flag_field.again true place (i64_code z ++ rest) tt in
     let upper = i64_field.again z flag.0 rest (upper_fits z is) in
     let low : int_le (pos 0) z ≡ true = grind (arith, ints) in
-    let high : int_le z (pos 1000000000) ≡ true = grind (arith, ints) in
+    let high : int_le z (pos largest_bound) ≡ true = grind (arith, ints) in
     (upper.0, rw (flag.1, upper.1, low, high) refl)
 
 upper_field : IsField upper_at upper_code (λ x. IfSome x IsUpper)

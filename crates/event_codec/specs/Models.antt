@@ -8,11 +8,13 @@ use Rattle.event_codec.specs.Places.{Place, beginning}
 use Rattle.event_codec.specs.Codes.{i64_code}
 use Rattle.event_codec.specs.Steps.{Read, ◌>>=◌, test}
 use Rattle.event_codec.specs.Reading.{byte_at, flag_at, i64_at}
+use Rattle.problem.specs.Limits.{largest_bound}
 
--- an upper bound from 0 to 10^9
+-- an upper bound from 0 to the largest bound
 abbrev pub IsUpper : ℤ → Type 0
-IsUpper z = (pos 0 ≤ℤ z) × (z ≤ℤ pos 1000000000)
+IsUpper z = (pos 0 ≤ℤ z) × (z ≤ℤ pos largest_bound)
 
+-- a flag whether there is a bound, and the bound or 0
 abbrev pub upper_code : Option ℤ → List ℕ
 upper_code None = 0 ∷ i64_code (pos 0)
 upper_code (Some z) = 1 ∷ i64_code z
@@ -32,8 +34,9 @@ known_at n p = do
 
 -- a bound that may stand behind the flag
 abbrev pub is_upper : Bool → ℤ → Bool
-is_upper flag z = if flag then int_le (pos 0) z && int_le z (pos 1000000000) else int_eq z (pos 0)
+is_upper flag z = if flag then int_le (pos 0) z && int_le z (pos largest_bound) else int_eq z (pos 0)
 
+-- the bound behind its flag
 unfoldable pub upper_at : Place → Read (Option ℤ)
 upper_at p = do
   flag ← flag_at p

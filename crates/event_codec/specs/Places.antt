@@ -7,6 +7,7 @@ pub record Place : Type 0 where
   pub at : ℕ
   pub rest : List ℕ
 
+-- the place at which these bytes begin
 abbrev pub beginning : List ℕ → Place
 beginning bytes = record { at = 0; rest = bytes }
 
@@ -18,8 +19,10 @@ further n p = record { at = p.at + n; rest = drop n p.rest }
 abbrev pub parts : Place → ℕ × List ℕ
 parts p = (p.at, p.rest)
 
+-- the place of an offset and what is left
 abbrev pub of_parts : ℕ × List ℕ → Place
 of_parts x = record { at = x.0; rest = x.1 }
 
+-- places as the pairs of their parts
 abbrev pub code_Place : Coded Place
 code_Place = code_by (ℕ × List ℕ) (coded× coded_ℕ (coded_list coded_ℕ)) parts of_parts (λ p. refl)

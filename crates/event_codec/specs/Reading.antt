@@ -23,21 +23,25 @@ use Rattle.event_codec.specs.Steps.{Read, ◌>>=◌, test}
 unfoldable pub bytes_at : ℕ → Place → Read (List ℕ)
 bytes_at n p = if nat_lt (length p.rest) n then Err (Short p.at) else Ok (take n p.rest, further n p)
 
+-- one byte
 unfoldable pub byte_at : Place → Read ℕ
 byte_at p = do
   b ← bytes_at 1 p
   Ok (from_le_bytes w8 b.0, b.1)
 
+-- a number of 4 bytes, the lowest first
 unfoldable pub u32_at : Place → Read ℕ
 u32_at p = do
   b ← bytes_at 4 p
   Ok (from_le_bytes w32 b.0, b.1)
 
+-- a whole number of 8 bytes in two's complement
 unfoldable pub i64_at : Place → Read ℤ
 i64_at p = do
   b ← bytes_at 8 p
   Ok (cast_signed w64 (from_le_bytes w64 b.0), b.1)
 
+-- a whole number of 16 bytes in two's complement
 unfoldable pub i128_at : Place → Read ℤ
 i128_at p = do
   b ← bytes_at 16 p
@@ -84,11 +88,13 @@ elements_at read (suc n) p = do
   others ← elements_at read n first.1
   Ok (first.0 ∷ others.0, others.1)
 
+-- a list of whole numbers
 unfoldable pub point_at : Place → Read Point
 point_at p = do
   count ← u32_at p
   elements_at i64_at count.0 count.1
 
+-- a list of fractions
 unfoldable pub rational_point_at : Place → Read (List ℚ)
 rational_point_at p = do
   count ← u32_at p
@@ -110,6 +116,7 @@ factors_at least (suc n) p = do
   others ← factors_at (suc first.0.0) n first.1
   Ok (first.0 ∷ others.0, others.1)
 
+-- a list of factors, whose rows' numbers rise
 unfoldable pub mult_at : Place → Read Multipliers
 mult_at p = do
   count ← u32_at p
@@ -117,23 +124,27 @@ mult_at p = do
 
 -- ---- why a node is split
 
+-- the parts of `Fractional`, behind its tag
 unfoldable pub fractional_at : Place → Read Reason
 fractional_at p = do
   cuts ← u32_at p
   point ← rational_point_at cuts.1
   Ok (Fractional cuts.0 point.0, point.1)
 
+-- the parts of `Cramped`, behind its tag
 unfoldable pub cramped_at : Place → Read Reason
 cramped_at p = do
   cuts ← u32_at p
   pivots ← u32_at cuts.1
   Ok (Cramped cuts.0 pivots.0, pivots.1)
 
+-- the parts of `Stalled`, behind its tag
 unfoldable pub stalled_at : Place → Read Reason
 stalled_at p = do
   cuts ← u32_at p
   Ok (Stalled cuts.0, cuts.1)
 
+-- a reason, by its tag
 unfoldable pub reason_at : Place → Read Reason
 reason_at p = do
   tag ← byte_at p
@@ -144,22 +155,26 @@ reason_at p = do
 
 -- ---- why a node is closed
 
+-- the parts of `Refute`, behind its tag
 unfoldable pub refute_at : Place → Read Proof
 refute_at p = do
   mult ← mult_at p
   Ok (Refute mult.0, mult.1)
 
+-- the parts of `Bound`, behind its tag
 unfoldable pub bound_at : Place → Read Proof
 bound_at p = do
   rounded ← flag_at p
   mult ← mult_at rounded.1
   Ok (Bound mult.0 rounded.0, mult.1)
 
+-- the parts of `Empty`, behind its tag
 unfoldable pub empty_at : Place → Read Proof
 empty_at p = do
   column ← u32_at p
   Ok (Empty column.0, column.1)
 
+-- a proof, by its tag
 unfoldable pub proof_at : Place → Read Proof
 proof_at p = do
   tag ← byte_at p
@@ -170,16 +185,19 @@ proof_at p = do
 
 -- ---- events
 
+-- the parts of `Cut`, behind its tag
 unfoldable pub cut_at : Place → Read Event
 cut_at p = do
   mult ← mult_at p
   Ok (Cut mult.0, mult.1)
 
+-- the parts of `Offer`, behind its tag
 unfoldable pub offer_at : Place → Read Event
 offer_at p = do
   point ← point_at p
   Ok (Offer point.0, point.1)
 
+-- the parts of `Split`, behind its tag
 unfoldable pub split_at : Place → Read Event
 split_at p = do
   node ← u32_at p
@@ -188,12 +206,14 @@ split_at p = do
   reason ← reason_at bound.1
   Ok (Split node.0 column.0 bound.0 reason.0, reason.1)
 
+-- the parts of `Close`, behind its tag
 unfoldable pub close_at : Place → Read Event
 close_at p = do
   node ← u32_at p
   proof ← proof_at node.1
   Ok (Close node.0 proof.0, proof.1)
 
+-- an event, by its tag
 unfoldable pub event_at : Place → Read Event
 event_at p = do
   tag ← byte_at p

@@ -10,6 +10,7 @@ use Rattle.event_codec.specs.Places.{Place}
 abbrev pub Read : Type 0 → Type 0
 Read A = Result (A × Place) CodecFault
 
+-- what comes of the first step, or the second step with its value
 infixl 10 ◌>>=◌
 abbrev pub ◌>>=◌ : {A B : Type 0} → Result A CodecFault → (A → Result B CodecFault) → Result B CodecFault
 (Ok x) >>= f = f x
@@ -29,6 +30,7 @@ abbrev pub Fails : {A : Type 0} → CodecError → Result A CodecFault → Type 
 Fails Memory read = Unit {0}
 Fails (Fault f) read = read ≡ Err f
 
+-- what is read, or why nothing is; free where memory ran out
 abbrev pub ReadsUnlessMemory : {A : Type 0} → Result A CodecError → Place → Read A → Type 0
 ReadsUnlessMemory (Ok x) now read = read ≡ Ok (x, now)
 ReadsUnlessMemory (Err e) now read = Fails e read

@@ -13,6 +13,7 @@ use Rattle.node_events.specs.declared.reason.Reason.TheVariants.{Fractional, Cra
 use Rattle.node_events.specs.declared.proof.Proof.{Proof}
 use Rattle.node_events.specs.declared.proof.Proof.TheVariants.{Empty, Refute, Bound}
 
+-- the number fits into 32 bits
 abbrev pub FitsU32 : ℕ → Type 0
 FitsU32 n = n < 2 ^ 32
 
@@ -28,22 +29,27 @@ abbrev pub AreFactors : ℕ → Multipliers → Type 0
 AreFactors least [] = Unit {0}
 AreFactors least (m ∷ ms) = IsFactor least m × AreFactors (suc m.0) ms
 
+-- factors that fit, of rows whose numbers rise
 abbrev pub IsMult : Multipliers → Type 0
 IsMult ms = AreFactors 0 ms
 
+-- each number fits into 64 bits
 abbrev pub IsPoint : Point → Type 0
 IsPoint point = AllByRecursion (λ z. FitsSigned w64 z) point
 
+-- its numbers fit their types
 abbrev pub IsReason : Reason → Type 0
 IsReason (Fractional cuts point) = FitsU32 cuts × AllByRecursion FitsFraction point
 IsReason (Cramped cuts pivots) = FitsU32 cuts × FitsU32 pivots
 IsReason (Stalled cuts) = FitsU32 cuts
 
+-- its numbers fit their types
 abbrev pub IsProof : Proof → Type 0
 IsProof (Refute mult) = IsMult mult
 IsProof (Bound mult rounded) = IsMult mult
 IsProof (Empty column) = FitsU32 column
 
+-- its numbers fit their types
 abbrev pub IsEvent : Event → Type 0
 IsEvent (Claim node) = FitsU32 node
 IsEvent (Release node) = FitsU32 node

@@ -9,24 +9,22 @@ use crate::cursor::Cursor;
 use crate::fault::CodecFault;
 use crate::put::{put_flag, put_i64};
 use crate::tags::MODEL;
+use problem::LARGEST_BOUND;
 use std::alloc::{AllocError, Global};
 
 /// The one format of a model's record.
 const FORMAT: u8 = 1;
-
-/// The largest upper bound.
-const MAX_UPPER: i64 = 1_000_000_000;
 
 /// The record of a model: what a search of it begins with.
 #[derive(Clone, Copy, Debug, Drop, PartialEq, Eq)]
 pub struct ModelRecord<'a> {
     /// The model's text.
     pub text: &'a [u8],
-    /// The bound for columns that lack one, from 0 to 10^9, if one was given.
+    /// The bound for columns that lack one, from 0 to `LARGEST_BOUND`, if one was given.
     pub upper: Option<i64>,
 }
 
-/// The payload of a model's text and the upper bound, from 0 to 10^9, for columns that lack one. The one error is want of memory.
+/// The payload of a model's text and the upper bound, from 0 to `LARGEST_BOUND`, for columns that lack one. The one error is want of memory.
 pub fn encode_model(alloc: Global, text: &[u8], upper: Option<i64>) -> Result<Vec<u8>, AllocError>
     requires { ForSome upper IsUpper }
     ensures { IfOk result (λ v. v.items ≡ model_code text.now upper) }
@@ -53,7 +51,7 @@ fn is_upper(flag: bool, upper: i64) -> bool
     ensures { result ≡ is_upper flag upper }
 {
     if flag {
-        0 <= upper && upper <= MAX_UPPER
+        0 <= upper && upper <= i64::from(LARGEST_BOUND)
     } else {
         upper == 0
     }

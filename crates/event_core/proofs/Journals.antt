@@ -19,6 +19,7 @@ use Rattle.event_core.specs.After.{after, after_cut}
 use Rattle.event_core.specs.Histories.{is_journaled, state_from, AreLegalFrom, AreLegal, journaled}
 use Rattle.event_core.specs.Laws.{unheld, AreJournaled}
 use Rattle.event_core.specs.Lemmas.Passing.{passing, split_passed, close_passed}
+use Rattle.event_core.specs.Lemmas.Frames.{unheld_other}
 
 unheld_split : (s : State) (w : Option ℕ) (i j : ℕ) (b : ℤ) (r : Reason) → judged_split s w i j b r ≡ Yes → judged_split (unheld s) None i j b r ≡ Yes
 unheld_split s w i j b r e =
@@ -52,15 +53,6 @@ unheld_after s w (Cut mult) j = unheld_cut s mult (rounded_row s.problem s.cuts 
 unheld_after s w (Offer x) j = refl
 unheld_after s w (Split i k b r) j = refl
 unheld_after s w (Close i proof) j = refl
-
--- the others change only who holds which node
-pub unheld_other : (s : State) (w : Option ℕ) (e : Event) → is_journaled e ≡ false → unheld (after s w e) ≡ unheld s
-unheld_other s w (Claim i) j = refl
-unheld_other s w (Release i) j = refl
-unheld_other s w (Cut mult) j = cc
-unheld_other s w (Offer x) j = cc
-unheld_other s w (Split i k b r) j = cc
-unheld_other s w (Close i proof) j = cc
 
 -- the entries, with one in front where a journal has it
 abbrev prefix : Bool → Event → List Entry → List Entry

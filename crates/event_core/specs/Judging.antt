@@ -16,6 +16,7 @@ use Rattle.event_core.specs.Holds.{is_held, is_busy, is_yours}
 use Rattle.event_core.specs.Feasibility.{is_feasible}
 use Rattle.event_core.specs.Splits.{has_both, is_reason}
 use Rattle.problem.specs.Linear.{Multipliers, Point}
+use Rattle.problem.specs.Limits.{most_cuts}
 
 -- the refusal where the test fails, else what comes after it
 abbrev pub checked : Bool → Admit → Admit → Admit
@@ -34,7 +35,7 @@ has_row None = false
 has_row (Some r) = true
 
 abbrev pub judged_cut : State → Multipliers → Admit
-judged_cut s mult = checked (nat_lt (length s.cuts) 256) Full (checked (has_row (rounded_row s.problem s.cuts mult)) BadCut Yes)
+judged_cut s mult = checked (nat_lt (length s.cuts) most_cuts) Full (checked (has_row (rounded_row s.problem s.cuts mult)) BadCut Yes)
 
 abbrev pub judged_offer : State → Point → Admit
 judged_offer s x = checked (is_feasible s.problem x) BadPoint (checked (is_better s.incumbent (objective_at s.problem x)) NotBetter Yes)

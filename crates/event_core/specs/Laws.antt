@@ -4,12 +4,14 @@ use Rattle.std.specs.Bool.{Decides}
 use Rattle.fraction.specs.Rational.{ℚ}
 use Rattle.problem_box.specs.declared.span.Span.{Span}
 use Rattle.problem.specs.Problem.{Problem}
+use Rattle.node_events.specs.declared.event.Event.{Event}
 use Rattle.node_events.specs.declared.reason.Reason.{Reason}
 use Rattle.derivation_book.specs.declared.cut.Cut.{Cut}
 use Rattle.event_core.specs.declared.entry.Entry.{Entry}
 use Rattle.event_core.specs.States.{State}
 use Rattle.event_core.specs.Splits.{IsReason, is_reason}
 use Rattle.event_core.specs.Histories.{state_of, AreLegal, journaled}
+use Rattle.event_core.specs.Frames.{KeepsFrame}
 use Rattle.event_core.specs.Sound.{IsSound}
 
 -- the state with nobody holding a node
@@ -39,3 +41,7 @@ LegalStatesAreSound p = (es : List Entry) → AreLegal p es → IsSound (state_o
 abbrev pub ReasonsAreDecided : Problem → Type 0
 ReasonsAreDecided p =
     (cs : List Cut) (box : List Span) (cutoff : Option ℚ) (j : ℕ) (b : ℤ) (reason : Reason) → Decides (is_reason p cs box cutoff j b reason) (IsReason p cs box cutoff j b reason)
+
+-- each part of the state after an event is what the event names, or as it was
+abbrev pub EventsKeepFrames : Type 0
+EventsKeepFrames = (s : State) (worker : Option ℕ) (event : Event) → KeepsFrame s worker event

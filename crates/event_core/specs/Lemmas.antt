@@ -3,6 +3,7 @@ pub mod Passing
 pub mod Running
 pub mod Holds
 pub mod Ended
+pub mod Frames
 pub mod Points
 pub mod Boxes
 pub mod Reasons

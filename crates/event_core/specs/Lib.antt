@@ -6,6 +6,7 @@ pub mod Splits
 pub mod Judging
 pub mod After
 pub mod Histories
+pub mod Frames
 pub mod Rooms
 pub mod Sound
 pub mod Laws

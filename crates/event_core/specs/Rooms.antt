@@ -8,6 +8,7 @@ use Rattle.derivation_book.specs.Rounded.{rounded_row}
 use Rattle.event_core.specs.declared.entry.Entry.{Entry}
 use Rattle.event_core.specs.States.{State}
 use Rattle.problem.specs.Linear.{Point, Multipliers}
+use Rattle.node_tree.specs.Limits.{most_nodes}
 
 -- how many splits, nodes, cuts and holds fit without memory
 pub record Rooms : Type 0 where
@@ -37,7 +38,7 @@ cut_with mult (Some r) = Some (record { row = r; mult = mult })
 
 -- the nodes of a split are few enough
 abbrev pub HasNumbers : State → Event → Type 0
-HasNumbers s (Split i j b reason) = length s.nodes + 2 ≤ 1_000_000_000
+HasNumbers s (Split i j b reason) = length s.nodes + 2 ≤ most_nodes
 HasNumbers s e = Unit {0}
 
 -- an entry for the event, one for the release of a node that it claims, and one for the release of each node that is held; a release has its own since its claim

@@ -7,6 +7,7 @@ use Rattle.derivation_book.specs.Cuts.{AreCutsOf}
 use Rattle.incumbent.specs.Offers.{IsIncumbentOf}
 use Rattle.event_core.specs.declared.entry.Holder.{Holder}
 use Rattle.event_core.specs.States.{State, tree_of, is_open}
+use Rattle.problem.specs.Limits.{most_cuts}
 
 -- each worker holds one node at most, and each node is held by one worker at most
 abbrev pub AreApart : List Holder → Type 0
@@ -18,7 +19,7 @@ pub record IsSound (s : State) : Type 0 where
   pub tree : IsTree (tree_of s)
   pub leaves : (i : ℕ) → is_open s i ≡ true → children_at (tree_of s) i ≡ None
   pub cuts : AreCutsOf s.problem s.cuts
-  pub few_cuts : length s.cuts ≤ 256
+  pub few_cuts : length s.cuts ≤ most_cuts
   pub incumbent : IsIncumbentOf s.problem s.incumbent
   pub holds_open : All (λ (h : Holder). is_open s h.node ≡ true) s.holds
   pub apart : AreApart s.holds

@@ -1,6 +1,7 @@
 // What events change.
 ghost use Rattle.std.specs.Prelude.{◌≡◌, ◌<◌, ◌≤◌, ◌+◌, None, Some, true, length, slice_get};
 ghost use Rattle.node_tree.specs.Nodes.{children_at};
+ghost use Rattle.node_tree.specs.Limits.{most_nodes};
 ghost use Rattle.derivation_book.specs.Rounded.{rounded_row};
 ghost use Rattle.incumbent.specs.Offers.{IsIncumbentOf, IsImprovement};
 ghost use Rattle.event_core.specs.States.{is_open, box_of, tree_of};
@@ -66,6 +67,8 @@ impl Parts {
         requires { is_open self.old.state node ≡ true }
         ensures { self.new.state ≡ after_close self.old.state node }
     {
+        // The next node that is asked for is mostly near this one.
+        self.tree.move_to(node);
         self.ended[node as usize] = true;
         self.open_nodes -= 1;
         remove_holds(&mut self.holds, node);
@@ -75,7 +78,7 @@ impl Parts {
     fn split(&mut self, node: u32, column: u32, bound: i64)
         requires splits { 0 < self.old.room.splits }
         requires nodes { 2 ≤ self.old.room.nodes }
-        requires few { length self.old.state.nodes + 2 ≤ 1_000_000_000 }
+        requires few { length self.old.state.nodes + 2 ≤ most_nodes }
         requires node_open { is_open self.old.state node ≡ true }
         requires leaf { children_at (tree_of self.old.state) node ≡ None }
         requires inside { has_both (slice_get (box_of self.old.state node) column) bound ≡ true }

@@ -1,6 +1,7 @@
 // Which events are admitted.
 ghost use Rattle.std.specs.Prelude.{◌≡◌, ◌≤◌, true, IfOk, length, All};
 ghost use Rattle.problem.specs.Limited.{IsModestSpan};
+ghost use Rattle.problem.specs.Limits.{most_cuts};
 ghost use Rattle.event_core.specs.States.{is_open, box_of};
 ghost use Rattle.event_core.specs.Holds.{is_held, is_holding, holds_node, is_busy, is_yours};
 ghost use Rattle.event_core.specs.Judging.{judged_claim, judged_release, judged_cut, judged_offer, judged_split, judged_close, judged};
@@ -11,12 +12,9 @@ use crate::split_place::SplitPlace;
 use crate::split_rule::{has_both, is_reason};
 use node_events::{Event, Mult, Proof, Reason};
 use node_tree::laws::boxes_are_cut;
-use problem::Point;
+use problem::{MOST_CUTS, Point};
 use problem_box::IntBox;
 use std::alloc::{AllocError, Global};
-
-/// How many cuts there may be.
-const MOST_CUTS: usize = 256;
 
 impl Parts {
     /// Whether the node is there and has not ended.
@@ -112,7 +110,7 @@ impl Parts {
     fn judge_cut(&self, alloc: Global, mult: &Mult) -> Result<Admit, AllocError>
         ensures { IfOk result (λ a. a ≡ judged_cut self.now.state mult.now) }
     {
-        if self.book.len() >= MOST_CUTS {
+        if self.book.len() >= MOST_CUTS as usize {
             return Ok(Admit::Full);
         }
         match self.book.cg_row(alloc, &self.problem, mult)? {
@@ -147,7 +145,7 @@ impl Parts {
         bound: i64,
         reason: &Reason,
     ) -> Result<Admit, AllocError>
-        requires { length self.now.state.cuts ≤ 256 }
+        requires { length self.now.state.cuts ≤ most_cuts }
         ensures { IfOk result (λ a. a ≡ judged_split self.now.state worker node column bound reason.now) }
     {
         if !self.is_open(node) {
@@ -202,7 +200,7 @@ impl Parts {
         worker: Option<u32>,
         event: &Event,
     ) -> Result<Admit, AllocError>
-        requires { length self.now.state.cuts ≤ 256 }
+        requires { length self.now.state.cuts ≤ most_cuts }
         ensures { IfOk result (λ a. a ≡ judged self.now.state worker event.now) }
     {
         match event {

@@ -3,6 +3,7 @@ ghost use Rattle.std.specs.Prelude.{◌≡◌, ◌<◌, ◌≤◌, ◌+◌, leng
 ghost use Rattle.derivation_book.specs.Rounded.{rounded_row};
 ghost use Rattle.event_core.specs.States.{first_state};
 ghost use Rattle.event_core.specs.Rooms.{cut_with};
+ghost use Rattle.node_tree.specs.Limits.{most_nodes};
 
 use crate::entry::Holder;
 use derivation_book::{Book, Cut};
@@ -84,7 +85,7 @@ impl Parts {
 
     /// Makes room for one more split, whose nodes are few enough. The one error is want of memory.
     pub(crate) fn reserve_split(&mut self) -> Result<(), AllocError>
-        requires { length self.old.state.nodes + 2 ≤ 1_000_000_000 }
+        requires { length self.old.state.nodes + 2 ≤ most_nodes }
         ensures same { self.new.state ≡ self.old.state }
         ensures ok { OnOk result ((0 < self.new.room.splits) × (2 ≤ self.new.room.nodes)) }
     {

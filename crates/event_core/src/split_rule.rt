@@ -1,12 +1,14 @@
 // Where a node may be split, and for which reason.
-ghost use Rattle.std.specs.Prelude.{◌≡◌, ◌<◌, ◌≤◌, ◌^◌, ◌+ℤ◌, ◌<ℤ◌, int_le, IfOk, length, take, slice_get, All};
+ghost use Rattle.std.specs.Prelude.{◌≡◌, ◌<◌, ◌≤◌, ◌+ℤ◌, ◌<ℤ◌, int_le, IfOk, length, take, slice_get, All};
 ghost use Rattle.std.specs.List.{list_all};
 ghost use Rattle.std.specs.Ordering.{int_eq};
 ghost use Rattle.fraction.specs.Rational.{floor_div};
 ghost use Rattle.problem_box.specs.declared.span.Span.{Span as SpanValue};
 ghost use Rattle.problem.specs.Limited.{IsModestSpan};
+ghost use Rattle.problem.specs.Limits.{most_cuts};
 ghost use Rattle.dual_simplex.specs.Relaxation.{rational_at};
 ghost use Rattle.dual_simplex.specs.Answers.{answer};
+ghost use Rattle.dual_simplex.specs.Sizes.{most_numbered_cuts};
 ghost use Rattle.event_core.specs.Splits.{has_both, cuts_of, is_between, is_middle, is_cramped, is_stalled, is_fractional, is_given, is_reason};
 
 use crate::relaxed::{is_below_cutoff, is_relaxed};
@@ -80,7 +82,7 @@ fn is_cramped(
     pivots: u32,
 ) -> Result<bool, AllocError>
     requires few { cuts ≤ length book.now.cuts }
-    requires numbered { cuts < 2 ^ 27 }
+    requires numbered { cuts < most_numbered_cuts }
     requires columns { length area.now ≡ length problem.now.spans }
     ensures { IfOk result (λ b. b ≡ is_cramped pivots (answer problem.now (take cuts book.now.cuts) area.now)) }
 {
@@ -99,7 +101,7 @@ fn is_stalled(
     area: &IntBox,
 ) -> Result<bool, AllocError>
     requires few { cuts ≤ length book.now.cuts }
-    requires numbered { cuts < 2 ^ 27 }
+    requires numbered { cuts < most_numbered_cuts }
     requires columns { length area.now ≡ length problem.now.spans }
     ensures { IfOk result (λ b. b ≡ is_stalled (answer problem.now (take cuts book.now.cuts) area.now)) }
 {
@@ -153,7 +155,7 @@ fn is_given(
     reason: &Reason,
 ) -> Result<bool, AllocError>
     requires few { cuts_of reason.now ≤ length book.now.cuts }
-    requires few_cuts { length book.now.cuts ≤ 256 }
+    requires few_cuts { length book.now.cuts ≤ most_cuts }
     requires columns { length area.now ≡ length problem.now.spans }
     requires modest { All IsModestSpan area.now }
     ensures { IfOk result (λ b. b ≡ is_given problem.now book.now.cuts area.now cutoff at.column at.bound reason.now) }
@@ -207,7 +209,7 @@ pub fn is_reason(
     at: SplitPlace,
     reason: &Reason,
 ) -> Result<bool, AllocError>
-    requires few_cuts { length book.now.cuts ≤ 256 }
+    requires few_cuts { length book.now.cuts ≤ most_cuts }
     requires columns { length area.now ≡ length problem.now.spans }
     requires modest { All IsModestSpan area.now }
     ensures { IfOk result (λ b. b ≡ is_reason problem.now book.now.cuts area.now cutoff at.column at.bound reason.now) }

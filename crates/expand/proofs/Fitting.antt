@@ -19,6 +19,7 @@ use Rattle.problem.specs.Modest.{IsModest}
 use Rattle.problem.specs.Rising.{RiseFrom}
 use Rattle.problem.specs.Limited.{IsModestSpan, AreLimited, IsLimitedRow}
 use Rattle.problem.specs.Problem.{Problem}
+use Rattle.problem.specs.Limits.{most_columns, largest_bound}
 use Rattle.cert_rows.specs.Lines.{CertLine, row_at}
 use Rattle.derivation_book.specs.declared.cut.Cut.{Cut}
 use Rattle.derivation_book.specs.Known.{known_lines}
@@ -91,22 +92,22 @@ module _ (a c : ℚ) (ma : IsModest a) (mc : IsModest c) (s : Span) (ms : IsMode
   left_small : Small (2 * 10 ^ 24) left
   left_small = wider (10 ^ 24 + 10 ^ 24) (2 * 10 ^ 24) left (omega arith) (Within-+ℚ a (neg_ℚ c) (10 ^ 15) (10 ^ 24) (10 ^ 24) (omega arith) ma (negated (10 ^ 24) c mc))
 
-  bound_modest : nat_abs (bound_for left s) ≤ 10 ^ 9
+  bound_modest : nat_abs (bound_for left s) ≤ largest_bound
   bound_modest = step (int_lt (pos 0) left.num)
     where
-      step : (b : Bool) → nat_abs (cond b s.lo s.hi) ≤ 10 ^ 9
+      step : (b : Bool) → nat_abs (cond b s.lo s.hi) ≤ largest_bound
       step true = ms.0
       step false = ms.1
 
   product_small : Small (2 * 10 ^ 33) (left *ℚ whole (bound_for left s))
   product_small =
-      wider (2 * 10 ^ 24 * 10 ^ 9) (2 * 10 ^ 33) (left *ℚ whole (bound_for left s)) (omega arith)
-      (Within-*ℚ left (bound_for left s) (10 ^ 15) (2 * 10 ^ 24) (10 ^ 9) (omega arith) left_small bound_modest)
+      wider (2 * 10 ^ 24 * largest_bound) (2 * 10 ^ 33) (left *ℚ whole (bound_for left s)) (omega arith)
+      (Within-*ℚ left (bound_for left s) (10 ^ 15) (2 * 10 ^ 24) largest_bound (omega arith) left_small bound_modest)
 
   product_is : with_product total left (whole (bound_for left s)) ≡ Some (total +ℚ left *ℚ whole (bound_for left s))
   product_is =
       with_product_is total left (whole (bound_for left s))
-      (mul_fits_within left (bound_for left s) (10 ^ 15) (2 * 10 ^ 24) (10 ^ 9) (omega arith) (omega arith) (omega arith) left_small bound_modest)
+      (mul_fits_within left (bound_for left s) (10 ^ 15) (2 * 10 ^ 24) largest_bound (omega arith) (omega arith) (omega arith) left_small bound_modest)
       (add_fits_within total (left *ℚ whole (bound_for left s)) (10 ^ 15) k (2 * 10 ^ 33) (omega arith) (omega arith) (omega (arith, lk)) mt product_small)
 
   abbrev HasNext : Option ℚ → Type 0
@@ -184,7 +185,7 @@ columns_there ls mult at j (suc n) =
     )
 
 -- the price, where the combination is modest
-module _ (p : Problem) (cs : List Cut) (box : List Span) (target mult : List (ℕ × ℚ)) (few : length box ≤ 1000) (modest : All IsModestSpan box)
+module _ (p : Problem) (cs : List Cut) (box : List Span) (target mult : List (ℕ × ℚ)) (few : length box ≤ most_columns) (modest : All IsModestSpan box)
     (targeted : (j : ℕ) → IsModest (coefficient target j)) (at : (j : ℕ) → (c : ℚ) × (combined_at (known_lines p cs) mult j ≡ Some c) × IsModest c)
     (side : (s : ℚ) × (combined_side (known_lines p cs) mult ≡ Some s) × Small (10 ^ 25) s) where
   pub price_there : (v : ℚ) × (price p cs box target mult ≡ Some v)
@@ -198,7 +199,7 @@ module _ (p : Problem) (cs : List Cut) (box : List Span) (target mult : List (�
       (all.0, ap (option_and_then (λ (q : Sums). with_columns q.side target 0 q.coefficients box)) sums ∙ all.1)
 
 -- no row
-pub bare_price_there : (p : Problem) (cs : List Cut) (box : List Span) (target : List (ℕ × ℚ)) → length box ≤ 1000 → All IsModestSpan box → ((j : ℕ) → IsModest (coefficient target j))
+pub bare_price_there : (p : Problem) (cs : List Cut) (box : List Span) (target : List (ℕ × ℚ)) → length box ≤ most_columns → All IsModestSpan box → ((j : ℕ) → IsModest (coefficient target j))
     → (v : ℚ) × (price p cs box target [] ≡ Some v)
 bare_price_there p cs box target few modest targeted =
     price_there p cs box target [] few modest targeted (λ j. (whole (pos 0), refl, zero_modest)) (whole (pos 0), refl, wider 0 (10 ^ 25) (whole (pos 0)) (omega arith) zero_small)
@@ -207,7 +208,7 @@ bare_price_there p cs box target few modest targeted =
 added_once : (f : ℕ → ℚ) (i : ℕ) (m : ℚ) (y : ℚ) → with_product (whole (pos 0)) m (f i) ≡ Some y → sum_from f (whole (pos 0)) ((i, m) ∷ []) ≡ Some y
 added_once f i m y e = ap (option_and_then (λ t. Some t)) e
 
-pub row_price_there : (p : Problem) (cs : List Cut) (box : List Span) (i : ℕ) (z : ℤ) (n : ℕ) → nat_abs z ≤ 1 → length box ≤ 1000 → All IsModestSpan box → IsLimitedRow n (row_at (known_lines p cs) i)
+pub row_price_there : (p : Problem) (cs : List Cut) (box : List Span) (i : ℕ) (z : ℤ) (n : ℕ) → nat_abs z ≤ 1 → length box ≤ most_columns → All IsModestSpan box → IsLimitedRow n (row_at (known_lines p cs) i)
     → (v : ℚ) × (price p cs box [] ((i, whole z) ∷ []) ≡ Some v)
 row_price_there p cs box i z n l few modest row =
     let ls = known_lines p cs in

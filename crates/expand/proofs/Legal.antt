@@ -16,6 +16,7 @@ use Rattle.problem.specs.declared.row.Row.{Row}
 use Rattle.problem.specs.Problem.{Problem}
 use Rattle.problem.specs.Feasible.{objective_at}
 use Rattle.problem.specs.Limited.{IsModestSpan, IsLimited, IsLimitedRow}
+use Rattle.problem.specs.Limits.{most_columns}
 use Rattle.row_activity.specs.declared.verdict.Sign.{Sign}
 use Rattle.row_activity.specs.declared.verdict.Sign.TheVariants.{Plus, Minus}
 use Rattle.row_activity.specs.declared.verdict.Verdict.{Verdict}
@@ -75,7 +76,7 @@ nonempty p box c n = by_first (first_empty box) refl
 
 -- ---- proofs
 module _ (p : Problem) (cs : List Cut) (box : List Span) (limits : IsLimited p) (columns : length box ≡ length p.spans) (modest : All IsModestSpan box) where
-  few : length box ≤ 1000
+  few : length box ≤ most_columns
   few = omega (arith, columns, limits.few_columns)
 
   crossed_legal : (cutoff : Option ℚ) (j : ℕ) → IsFirstEmpty box j → is_legal_proof p cs box cutoff (Crossed j) ≡ true

@@ -1,5 +1,5 @@
 -- The middle of the first free column of a box.
-use Rattle.std.specs.Prelude.{◌≡◌, ◌≤◌, ◌^◌, ℕ, ℤ, ◌≤ℤ◌, ◌<ℤ◌, ◌+ℤ◌, int_le, int_lt, nat_abs, true, ◌&&◌, List, All, Option, Some, slice_get}
+use Rattle.std.specs.Prelude.{◌≡◌, ◌≤◌, ℕ, ℤ, ◌≤ℤ◌, ◌<ℤ◌, ◌+ℤ◌, int_le, int_lt, nat_abs, true, ◌&&◌, List, All, Option, Some, slice_get}
 use Rattle.std.proofs.Common.{sym, ap, ◌∙◌, subst, arith}
 use Rattle.std.proofs.lemmas.Int.{ints}
 use Rattle.std.proofs.lemmas.List.Elements.{All-get_or}
@@ -9,6 +9,7 @@ use Rattle.fraction.specs.Lemmas.Rational.{floor_below, floor_least}
 use Rattle.problem_box.specs.declared.span.Span.{Span}
 use Rattle.problem_box.specs.Changes.{IsFirstFree}
 use Rattle.problem.specs.Limited.{IsModestSpan}
+use Rattle.problem.specs.Limits.{largest_bound}
 use Rattle.event_core.specs.Splits.{has_both}
 
 -- a box that is split at the middle of its first free column
@@ -34,14 +35,14 @@ module _ (ss : List Span) (j : ℕ) (free : IsFirstFree ss j) (b : ℤ) (middle 
           let q : int_lt z hi ≡ true = grind (arith, ints) in
           λ i. p i && q i
 
-  pub middle_modest : All IsModestSpan ss → nat_abs b ≤ 10 ^ 9
+  pub middle_modest : All IsModestSpan ss → nat_abs b ≤ largest_bound
   middle_modest m =
       let k : IsModestSpan free.span =
       subst IsModestSpan (get_or_from_slice_get ss j free.span free.span free.there) (All-get_or IsModestSpan ss j free.span (slice_get_within ss j free.span free.there) m)
       in
       within free.span.lo b free.span.hi middle_low middle_high k.0 k.1
     where
-      within : (lo z hi : ℤ) → lo ≤ℤ z → z <ℤ hi → nat_abs lo ≤ 10 ^ 9 → nat_abs hi ≤ 10 ^ 9 → nat_abs z ≤ 10 ^ 9
+      within : (lo z hi : ℤ) → lo ≤ℤ z → z <ℤ hi → nat_abs lo ≤ largest_bound → nat_abs hi ≤ largest_bound → nat_abs z ≤ largest_bound
       within lo z hi h k l m = omega (arith, ints, h, k, l, m)
 
 -- the span of the first free column, where it was read

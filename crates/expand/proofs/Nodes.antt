@@ -4,6 +4,7 @@ use Rattle.std.proofs.Common.{sym, ap, ◌∙◌, subst, arith}
 use Rattle.problem_box.specs.declared.span.Span.{Span}
 use Rattle.problem.specs.Problem.{Problem}
 use Rattle.problem.specs.Limited.{IsModestSpan, IsLimited}
+use Rattle.problem.specs.Limits.{most_columns}
 use Rattle.node_tree.specs.Trees.{IsTree}
 use Rattle.event_core.specs.States.{State, tree_of, box_of}
 use Rattle.expand.specs.Verdicts.{IsPart}
@@ -26,5 +27,5 @@ node_box s p i box tree same limits e =
       part = subst (IsPart s.problem) (sym e) (box_part s tree i);
     }
 
-pub few_columns : (p : Problem) (box : List Span) → IsNodeBox p box → length box ≤ 1000
+pub few_columns : (p : Problem) (box : List Span) → IsNodeBox p box → length box ≤ most_columns
 few_columns p box h = omega (arith, h.columns, h.limits.few_columns)

@@ -1,5 +1,5 @@
 -- What an optimum of the relaxation of a node gives: a proof, a point, or a split.
-use Rattle.std.specs.Prelude.{◌≡◌, ◌<◌, ◌≤◌, ◌+◌, ◌++◌, ◌^◌, ℕ, zero, suc, ℤ, pos, ◌≤ℤ◌, int_le, int_lt, nat_abs, nat_eq, Bool, true, false, not, IsTrue, ◌&&◌, List, [], ◌∷◌, length, map, take, drop, All, Option, Some, None, slice_get, slice_index_or, refl}
+use Rattle.std.specs.Prelude.{◌≡◌, ◌<◌, ◌≤◌, ◌+◌, ◌++◌, ℕ, zero, suc, ℤ, pos, ◌≤ℤ◌, int_le, int_lt, nat_abs, nat_eq, Bool, true, false, not, IsTrue, ◌&&◌, List, [], ◌∷◌, length, map, take, drop, All, Option, Some, None, slice_get, slice_index_or, refl}
 use Rattle.std.specs.Option.{ForSome}
 use Rattle.std.proofs.Common.{sym, ap, ◌∙◌, subst, inl, inr, arith}
 use Rattle.std.proofs.lemmas.Int.{ints}
@@ -22,6 +22,7 @@ use Rattle.problem.specs.Rows.{Compares, Satisfies}
 use Rattle.problem.specs.Problem.{Problem}
 use Rattle.problem.specs.Feasible.{HasWholeObjective, IsFeasible, objective_at}
 use Rattle.problem.specs.Limited.{IsModestSpan}
+use Rattle.problem.specs.Limits.{largest_bound}
 use Rattle.node_events.specs.declared.reason.Reason.{Reason}
 use Rattle.node_events.specs.declared.reason.Reason.TheVariants.{Fractional, Cramped, Stalled}
 use Rattle.node_events.specs.declared.proof.Proof.{Proof}
@@ -96,16 +97,16 @@ both_at_floor (s ∷ ss) (q ∷ x) zero h n =
     λ i. a i && b i
 both_at_floor (s ∷ ss) (q ∷ x) (suc j) h n = both_at_floor ss x j h.2 n
 
-pub floor_modest : (ss : List Span) (x : RationalPoint) (j : ℕ) (q : ℚ) → LiesInBox ss x → All IsModestSpan ss → slice_get x j ≡ Some q → nat_abs (floor q) ≤ 10 ^ 9
+pub floor_modest : (ss : List Span) (x : RationalPoint) (j : ℕ) (q : ℚ) → LiesInBox ss x → All IsModestSpan ss → slice_get x j ≡ Some q → nat_abs (floor q) ≤ largest_bound
 floor_modest [] [] j q h m e = absurd (none-some q e)
 floor_modest [] (r ∷ x) j q h m e = absurd h
 floor_modest (s ∷ ss) [] j q h m e = absurd h
-floor_modest (s ∷ ss) (r ∷ x) zero q h m e = subst (λ (y : ℚ). nat_abs (floor y) ≤ 10 ^ 9) (same_Some r q e) (within s.lo (floor r) s.hi (floor_low s r h.0) (floor_high s r h.1) k.0 k.1)
+floor_modest (s ∷ ss) (r ∷ x) zero q h m e = subst (λ (y : ℚ). nat_abs (floor y) ≤ largest_bound) (same_Some r q e) (within s.lo (floor r) s.hi (floor_low s r h.0) (floor_high s r h.1) k.0 k.1)
   where
     k : IsModestSpan s
     k = All-head IsModestSpan s ss m
 
-    within : (a b c : ℤ) → a ≤ℤ b → b ≤ℤ c → nat_abs a ≤ 10 ^ 9 → nat_abs c ≤ 10 ^ 9 → nat_abs b ≤ 10 ^ 9
+    within : (a b c : ℤ) → a ≤ℤ b → b ≤ℤ c → nat_abs a ≤ largest_bound → nat_abs c ≤ largest_bound → nat_abs b ≤ largest_bound
     within a b c l n o p = omega (arith, ints, l, n, o, p)
 floor_modest (s ∷ ss) (r ∷ x) (suc j) q h m e = floor_modest ss x j q h.2 (All-tail IsModestSpan s ss m) e
 

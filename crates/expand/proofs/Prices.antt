@@ -8,7 +8,7 @@ use Rattle.std.proofs.lemmas.Option.{slice_get_within, get_or_from_slice_get}
 use Rattle.fraction.specs.Rational.{ℚ, whole, ◌+ℚ◌, ◌*ℚ◌, ◌≤ℚ◌, neg_ℚ}
 use Rattle.fraction.specs.Lemmas.Rational.{+ℚ_assoc, +ℚ_comm, *ℚ_assoc, one-*ℚ, zero-*ℚ, zero-+ℚ, neg-+ℚ, +ℚ-≤ℚ, ≤ℚ_trans}
 use Rattle.fraction.specs.Order.{◌<ℚ◌}
-use Rattle.fraction.specs.Lemmas.Order.{not_both, either_order, whole-≤ℚ}
+use Rattle.fraction.specs.Lemmas.Order.{not_both, either_order, whole-≤ℚ, less_most}
 use Rattle.fraction.specs.Lemmas.Ring.{ring_ℚ, +ℚ-mul, +ℚ-zero, *ℚ-zero}
 use Rattle.fraction.specs.Lemmas.Whole.{whole-+, whole-*}
 use Rattle.problem_box.specs.declared.span.Span.{Span}
@@ -59,12 +59,6 @@ difference x y h = elim (either_order (y +ℚ minus *ℚ x) (whole (pos 0))) [
 pub lesser : (x y z : ℚ) → x ≤ℚ y → y <ℚ z → x <ℚ z
 lesser x y z h k = elim (either_order z x) [
   | inl l ↦ absurd (not_both z y (≤ℚ_trans z x y l h) k)
-  | inr l ↦ l
-]
-
-pub less_most : (x y z : ℚ) → x <ℚ y → y ≤ℚ z → x <ℚ z
-less_most x y z h k = elim (either_order z x) [
-  | inl l ↦ absurd (not_both y x (≤ℚ_trans y z x k l) h)
   | inr l ↦ l
 ]
 

@@ -10,6 +10,7 @@ use Rattle.fraction.specs.Lemmas.Order.{same_le, either_order}
 use Rattle.problem_box.specs.declared.span.Span.{Span}
 use Rattle.problem.specs.Linear.{Point, Multipliers}
 use Rattle.problem.specs.Feasible.{IsFeasible, objective_at}
+use Rattle.problem.specs.Limits.{most_cuts}
 use Rattle.row_activity.specs.Activity.{low_of}
 use Rattle.node_events.specs.declared.proof.Proof.{Proof}
 use Rattle.node_events.specs.declared.proof.Proof.TheVariants.{Bound}
@@ -68,7 +69,7 @@ module _ (s : State) (box : List Span) where
   closed_or_branched_settles true proof b h k = h refl
   closed_or_branched_settles false proof b h k = k refl
 
-  cuts_settle : (limit : ℕ) (mults : List Multipliers) → limit ≤ 256 → length s.cuts ≤ 256 → AreCutsFound s.problem s.cuts mults → AreNewCuts s (take (limit - length s.cuts) mults)
+  cuts_settle : (limit : ℕ) (mults : List Multipliers) → limit ≤ most_cuts → length s.cuts ≤ most_cuts → AreCutsFound s.problem s.cuts mults → AreNewCuts s (take (limit - length s.cuts) mults)
   cuts_settle limit mults l few h = record {
     rows = All-take (HasRow s.problem s.cuts) (limit - length s.cuts) mults h.rows;
     few = omega (arith, l, few, length-take (limit - length s.cuts) mults);
@@ -96,7 +97,7 @@ module _ (s : State) (box : List Span) where
         (λ e. record { both = has_both_here box j h.middle.free b h.middle.bound; holds = middle_reason s.problem s.cuts box (cutoff s) j b reason h.nonempty h.middle h.run })
 
     -- by the definition of how it is settled
-    pub settled_is_legal : (limit : ℕ) (f : Finding) → limit ≤ 256 → length s.cuts ≤ 256 → Holds s.problem s.cuts box (cutoff s) f → IsSettlement s box (settled s box limit f)
+    pub settled_is_legal : (limit : ℕ) (f : Finding) → limit ≤ most_cuts → length s.cuts ≤ most_cuts → Holds s.problem s.cuts box (cutoff s) f → IsSettlement s box (settled s box limit f)
     settled_is_legal limit (Cuts mults) l few h = cuts_settle limit mults l few h
     settled_is_legal limit (Shut proof) l few h = h
     settled_is_legal limit (Whole x) l few h = point_settles x (Bound [] false) h.feasible (λ z k. corner_closes s.problem s.cuts box n.limits n.columns n.modest x z h.fixed h.point k)

@@ -9,6 +9,7 @@ abbrev pub fractional_from : ℕ → RationalPoint → List ℕ
 fractional_from j [] = []
 fractional_from j (q ∷ x) = if nat_eq q.den 1 then fractional_from (j + 1) x else j ∷ fractional_from (j + 1) x
 
+-- the columns whose value is no whole number
 abbrev pub fractional_columns : RationalPoint → List ℕ
 fractional_columns x = fractional_from 0 x
 

@@ -32,6 +32,7 @@ abbrev pub is_rounded : Problem → ℚ → Bool
 is_rounded p v = has_whole_objective p && not (nat_eq v.den 1)
 
 -- ---- cuts
+-- there is no column
 abbrev pub is_empty : List ℕ → Bool
 is_empty [] = true
 is_empty (j ∷ js) = false
@@ -69,12 +70,14 @@ abbrev pub IsOfOptimum : List ColumnGains → ℕ → RationalPoint → Multipli
 IsOfOptimum costs k x mult v [] f = IsOptimum costs k x mult v f
 IsOfOptimum costs k x mult v (m ∷ ms) f = f ≡ Cuts (m ∷ ms)
 
+-- what is found of a node whose linear program has this answer
 abbrev pub IsOfAnswer : Problem → List Cut → List Span → Option ℚ → List ColumnGains → ℕ → Answer → Finding → Type 0
 IsOfAnswer p cs box cutoff costs room (Infeasible mult) f = f ≡ Shut (Refute mult)
 IsOfAnswer p cs box cutoff costs room (Optimal x mult v) f = IsOfOptimum costs (length cs) x mult v (cuts_found p cs box cutoff room x v) f
 IsOfAnswer p cs box cutoff costs room (Cramped pivots) f = IsUnanswered box (CrampedReason (length cs) pivots) f
 IsOfAnswer p cs box cutoff costs room Stalled f = IsUnanswered box (StalledReason (length cs)) f
 
+-- what is found of a node whose box has this verdict
 abbrev pub IsOfVerdict : Problem → List Cut → List Span → Option ℚ → List ColumnGains → ℕ → Verdict → Finding → Type 0
 IsOfVerdict p cs box cutoff costs room (Empty j) f = f ≡ Shut (Crossed j)
 IsOfVerdict p cs box cutoff costs room (Refuted i s) f = f ≡ Shut (Refute ((i, multiplier s) ∷ []))
@@ -95,5 +98,6 @@ costs_by origin Priced a costs = costs
 costs_by origin OnePoint a costs = costs
 costs_by origin Unsettled a costs = with_note origin a costs
 
+-- the pseudo-costs after the look at a node
 abbrev pub costs_after : Problem → List Cut → List Span → Option ℚ → Option Origin → List ColumnGains → List ColumnGains
 costs_after p cs box cutoff origin costs = costs_by origin (verdict p box cutoff) (answer p cs box) costs

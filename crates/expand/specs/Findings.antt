@@ -62,6 +62,7 @@ pub record IsLoose (p : Problem) (cs : List Cut) (box : List Span) (reason : Rea
   pub run : IsOfRun p cs box reason
   pub middle : IsMiddle box j b
 
+-- the finding is true of the problem, its cuts, the box and the cutoff
 abbrev pub Holds : Problem → List Cut → List Span → Option ℚ → Finding → Type 0
 Holds p cs box cutoff (Cuts mults) = AreCutsFound p cs mults
 Holds p cs box cutoff (Shut proof) = is_legal_proof p cs box cutoff proof ≡ true

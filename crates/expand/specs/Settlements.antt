@@ -3,6 +3,7 @@ use Rattle.std.specs.Prelude.{◌≡◌, ◌+◌, ◌≤◌, ℕ, true, List, []
 use Rattle.problem_box.specs.declared.span.Span.{Span}
 use Rattle.problem.specs.Linear.{Point, Multipliers}
 use Rattle.problem.specs.Feasible.{IsFeasible, objective_at}
+use Rattle.problem.specs.Limits.{most_cuts}
 use Rattle.node_events.specs.declared.event.Event.{Event}
 use Rattle.node_events.specs.declared.event.Event.TheVariants.{Cut, Offer, Split, Close}
 use Rattle.node_events.specs.declared.proof.Proof.{Proof}
@@ -40,8 +41,9 @@ pub record IsBranching (s : State) (box : List Span) (b : Branching) : Type 0 wh
 -- each has a rounded row, and all of them fit beside the cuts that are there
 pub record AreNewCuts (s : State) (mults : List Multipliers) : Type 0 where
   pub rows : All (HasRow s.problem s.cuts) mults
-  pub few : length s.cuts + length mults ≤ 256
+  pub few : length s.cuts + length mults ≤ most_cuts
 
+-- the settlement is legal in this state for a node with this box
 abbrev pub IsSettlement : State → List Span → Settlement → Type 0
 IsSettlement s box (Separated mults) = AreNewCuts s mults
 IsSettlement s box (Closed proof) = IsShut s box proof

@@ -39,6 +39,7 @@ closed_or_branched reached proof b = if reached then Closed proof else Branched 
 abbrev pub branching_at : ℕ → RationalPoint → ℚ → ℕ → Branching
 branching_at k x v j = record { place = record { column = j; bound = floor (rational_at x j) }; reason = Fractional k x; value = Some v }
 
+-- what is done after an optimum: a whole one improves the incumbent or closes the node; another one splits it, or closes it by its bound
 abbrev pub settled_optimum : State → ℕ → RationalPoint → Multipliers → ℚ → Option ℕ → Settlement
 settled_optimum s k x mult v None = improved_or_closed s (floors x) (bound_of s mult v)
 settled_optimum s k x mult v (Some j) =

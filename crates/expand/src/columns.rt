@@ -1,6 +1,7 @@
 // The column in which a node is split.
-ghost use Rattle.std.specs.Prelude.{◌≡◌, ◌<◌, ◌≤◌, ◌^◌, All, IfOk, length};
+ghost use Rattle.std.specs.Prelude.{◌≡◌, ◌<◌, ◌≤◌, All, IfOk, length};
 ghost use Rattle.expand.specs.Columns.{fractional_columns, IsChosen};
+ghost use Rattle.problem.specs.Limits.{most_columns};
 
 use node_events::RationalPoint;
 use pseudo_cost::Costs;
@@ -25,7 +26,7 @@ pub(crate) fn fractional_columns(
 
 /// Of the columns where the point isn't whole the one of greatest score; none where there is no such column.
 pub(crate) fn split_column(costs: &Costs, columns: &[usize]) -> Option<u32>
-    requires few { length costs.now ≤ 1000 }
+    requires few { length costs.now ≤ most_columns }
     requires there { All (λ j. j < length costs.now) columns.now }
     ensures { IsChosen costs.now columns.now result }
 {

@@ -1,6 +1,7 @@
 // What the linear program of a node says.
 ghost use Rattle.std.specs.Prelude.{◌≡◌, ◌<◌, ◌≤◌, IfOk, OnOk, OnErr, IfSome, Some, All, length};
 ghost use Rattle.problem.specs.Limited.{IsModestSpan};
+ghost use Rattle.problem.specs.Limits.{most_columns, most_cuts};
 ghost use Rattle.dual_simplex.specs.declared.answer.Answer.TheVariants.{Optimal};
 ghost use Rattle.dual_simplex.specs.Answers.{linear_program, run, answer};
 ghost use Rattle.row_activity.specs.Meaning.{IsOpen};
@@ -8,6 +9,7 @@ ghost use Rattle.expand.specs.Columns.{fractional_columns};
 ghost use Rattle.expand.specs.Expansion.{cuts_found, IsOfAnswer, IsOfOptimum, IsUnanswered};
 ghost use Rattle.expand.specs.Glances.{IsGlance};
 ghost use Rattle.expand.specs.Notes.{with_note, noted_gain};
+ghost use Rattle.pseudo_cost.specs.Gains.{largest_gain};
 
 use crate::branching::first_free;
 use crate::columns::{fractional_columns, split_column};
@@ -28,7 +30,7 @@ use std::alloc::{AllocError, Global};
 /// The finding where the run came to no answer: the node may be split in the middle of the first free column of its box.
 fn unanswered(area: &IntBox, reason: Reason) -> Finding
     requires free { IsOpen area.now }
-    requires few { length area.now ≤ 1000 }
+    requires few { length area.now ≤ most_columns }
     requires modest { All IsModestSpan area.now }
     ensures { IsUnanswered area.now reason result }
 {
@@ -51,8 +53,8 @@ fn cuts_or_optimum(
     columns: &[usize],
     mults: Mults,
 ) -> Finding
-    requires few { cuts ≤ 256 }
-    requires few_columns { length costs.now ≤ 1000 }
+    requires few { cuts ≤ most_cuts }
+    requires few_columns { length costs.now ≤ most_columns }
     requires there { length costs.now ≡ length point }
     requires columns { columns.now ≡ fractional_columns point }
     ensures { IsOfOptimum costs.now cuts point mult value mults result }
@@ -86,7 +88,7 @@ fn at_optimum(
     requires glance { IsGlance glance.now.problem.now glance.now.book.now.cuts glance.now.relaxation.now glance.now.area.now }
     requires costs { length costs.old ≡ length glance.now.problem.now.spans }
     requires origin { IfSome origin.now (λ o. o.column < length costs.old) }
-    requires gain { IfSome gain (λ g. g ≤ 1_000_000_000) }
+    requires gain { IfSome gain (λ g. g ≤ largest_gain) }
     requires tableau { IfSome (run (linear_program glance.now.problem.now glance.now.book.now.cuts glance.now.area.now)).tableau (λ t. tableau.now ≡ Some t) }
     requires optimal { answer glance.now.problem.now glance.now.book.now.cuts glance.now.area.now ≡ Optimal point mult value }
     requires point { length point ≡ length glance.now.problem.now.spans }

@@ -2,6 +2,7 @@
 ghost use Rattle.std.specs.Prelude.{◌≡◌, ◌<◌, ◌≤◌, ◌-◌, true, false, [], IfOk, All, Some, None, length, take};
 ghost use Rattle.problem_box.specs.Boxes.{IsInBox};
 ghost use Rattle.problem.specs.Limited.{IsModestSpan};
+ghost use Rattle.problem.specs.Limits.{most_cuts};
 ghost use Rattle.row_activity.specs.Activity.{low_of, IsLimitedBox};
 ghost use Rattle.derivation_book.specs.Legal.{reaches};
 ghost use Rattle.dual_simplex.specs.Relaxation.{LiesInBox};
@@ -145,7 +146,7 @@ pub fn settle(
     area: &IntBox,
     limit: u32,
 ) -> Result<Settlement, AllocError>
-    requires limit { limit ≤ 256 }
+    requires limit { limit ≤ most_cuts }
     requires opened { is_open state.now.state node ≡ true }
     requires area { area.now ≡ box_of state.now.state node }
     requires holds { Holds state.now.state.problem state.now.state.cuts area.now (cutoff state.now.state) finding }

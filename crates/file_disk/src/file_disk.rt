@@ -5,6 +5,8 @@ ghost use Rattle.outside.specs.Faults.{Counts};
 use crate::opened::Opened;
 use outside::{Disk, Failed};
 use std::fs::File;
+use std::io;
+use std::io::{Error, ErrorKind};
 use std::rt::Files;
 
 /// What is known of the file.
@@ -21,7 +23,8 @@ enum Place {
 /// path each call fails.
 ///
 /// Reading takes nothing from others. The first write or cut takes the file for writing until the disk is dropped, and fails where that can't
-/// be. A sync is the file's `sync_all`, and the first one that succeeds has synced its entry in its folder too.
+/// be. A sync is the file's `sync_all`, and the first one that succeeds has synced its entry in its folder too. Of its faults it keeps what the
+/// system said of the last one, for a person; no contract speaks of that.
 pub struct FileDisk<'a, R: Files<File = File>> {
     files: &'a R,
     path: &'a Option<String>,
@@ -31,6 +34,8 @@ pub struct FileDisk<'a, R: Files<File = File>> {
     /// Whether a sync has failed. The system may then have dropped what it couldn't write, and tell so only once.
     unsynced: bool,
     count: u64,
+    /// What the system said of the last fault.
+    met: Option<Error>,
 }
 
 impl<'a, R: Files<File = File>> Drop for FileDisk<'a, R> {
@@ -42,6 +47,7 @@ impl<'a, R: Files<File = File>> Drop for FileDisk<'a, R> {
             entered: _,
             unsynced: _,
             count: _,
+            met: _,
         } = self;
     }
 }
@@ -58,15 +64,21 @@ impl<'a, R: Files<File = File>> FileDisk<'a, R> {
             entered: false,
             unsynced: false,
             count: 0,
+            met: None,
         }
     }
 
+    /// What the system said of the last fault; none where there was none.
+    pub fn met(&self) -> Option<Error> {
+        self.met
+    }
+
     /// Opens the file, unless that was done.
-    fn look(&mut self) -> Result<(), Failed>
+    fn look(&mut self) -> io::Result<()>
         ensures { self.new.count ≡ self.old.count }
     {
         let Some(path) = self.path else {
-            return Err(Failed);
+            return Err(no_path());
         };
         if let Place::Unseen = self.place {
             self.place = match Opened::at(self.files, path.as_str())? {
@@ -78,12 +90,12 @@ impl<'a, R: Files<File = File>> FileDisk<'a, R> {
     }
 
     /// Makes the file, unless there is one.
-    fn make(&mut self) -> Result<(), Failed>
+    fn make(&mut self) -> io::Result<()>
         ensures { self.new.count ≡ self.old.count }
     {
         self.look()?;
         let Some(path) = self.path else {
-            return Err(Failed);
+            return Err(no_path());
         };
         if let Place::Missing = self.place {
             self.place = Place::Open(Opened::made(self.files, path.as_str())?);
@@ -91,7 +103,7 @@ impl<'a, R: Files<File = File>> FileDisk<'a, R> {
         Ok(())
     }
 
-    fn try_size(&mut self) -> Result<u64, Failed>
+    fn try_size(&mut self) -> io::Result<u64>
         ensures { self.new.count ≡ self.old.count }
     {
         self.look()?;
@@ -101,40 +113,40 @@ impl<'a, R: Files<File = File>> FileDisk<'a, R> {
         }
     }
 
-    fn try_read(&mut self, at: u64, buf: &mut [u8]) -> Result<(), Failed>
+    fn try_read(&mut self, at: u64, buf: &mut [u8]) -> io::Result<()>
         ensures { self.new.count ≡ self.old.count }
     {
         self.look()?;
         match &self.place {
             Place::Open(opened) => opened.read(at, buf),
             _ if buf.is_empty() => Ok(()),
-            _ => Err(Failed),
+            _ => Err(Error::from(ErrorKind::NotFound)),
         }
     }
 
-    fn try_write(&mut self, at: u64, bytes: &[u8]) -> Result<(), Failed>
+    fn try_write(&mut self, at: u64, bytes: &[u8]) -> io::Result<()>
         ensures { self.new.count ≡ self.old.count }
     {
         self.make()?;
         match &mut self.place {
             Place::Open(opened) => opened.write(at, bytes),
-            _ => Err(Failed),
+            _ => Err(Error::from(ErrorKind::NotFound)),
         }
     }
 
-    fn try_cut(&mut self, size: u64) -> Result<(), Failed>
+    fn try_cut(&mut self, size: u64) -> io::Result<()>
         ensures { self.new.count ≡ self.old.count }
     {
         self.look()?;
         match &mut self.place {
             Place::Open(opened) => opened.cut(size),
             _ if size == 0 => Ok(()),
-            _ => Err(Failed),
+            _ => Err(Error::from(ErrorKind::NotFound)),
         }
     }
 
     /// Syncs the file, and its entry. Where there is no file, nothing has to be synced.
-    fn sync_both(&mut self) -> Result<(), Failed>
+    fn sync_both(&mut self) -> io::Result<()>
         ensures { self.new.count ≡ self.old.count }
     {
         self.look()?;
@@ -150,25 +162,34 @@ impl<'a, R: Files<File = File>> FileDisk<'a, R> {
     }
 
     /// Syncs, unless that has failed before.
-    fn try_sync(&mut self) -> Result<(), Failed>
+    fn try_sync(&mut self) -> io::Result<()>
         ensures { self.new.count ≡ self.old.count }
     {
         if self.unsynced {
-            return Err(Failed);
+            return Err(Error::other("an earlier sync has failed"));
         }
         let result = self.sync_both();
         self.unsynced = result.is_err();
         result
     }
 
-    /// Counts a call's fault, if it failed.
-    fn note(&mut self, failed: bool)
-        ensures { Counts self.old.count self.new.count failed }
+    /// Counts a call's fault, if it failed, and keeps what the system said.
+    fn noted<T: Drop>(&mut self, outcome: io::Result<T>) -> Result<T, Failed>
+        ensures counted { Counts self.old.count self.new.count (is_err result) }
     {
-        if failed {
-            self.count = self.count.saturating_add(1);
+        match outcome {
+            Ok(value) => Ok(value),
+            Err(error) => {
+                self.count = self.count.saturating_add(1);
+                self.met = Some(error);
+                Err(Failed)
+            }
         }
     }
+}
+
+fn no_path() -> Error {
+    Error::new(ErrorKind::NotFound, "there is no path")
 }
 
 impl<'a, R: Files<File = File>> Disk for FileDisk<'a, R> {
@@ -192,32 +213,27 @@ impl<'a, R: Files<File = File>> Disk for FileDisk<'a, R> {
 
     fn size(&mut self) -> Result<u64, Failed> {
         let result = self.try_size();
-        self.note(result.is_err());
-        result
+        self.noted(result)
     }
 
     fn read_at(&mut self, at: u64, buf: &mut [u8]) -> Result<(), Failed> {
         let result = self.try_read(at, buf);
-        self.note(result.is_err());
-        result
+        self.noted(result)
     }
 
     fn write_at(&mut self, at: u64, bytes: &[u8]) -> Result<(), Failed> {
         let result = self.try_write(at, bytes);
-        self.note(result.is_err());
-        result
+        self.noted(result)
     }
 
     fn cut(&mut self, size: u64) -> Result<(), Failed> {
         let result = self.try_cut(size);
-        self.note(result.is_err());
-        result
+        self.noted(result)
     }
 
     fn sync(&mut self) -> Result<(), Failed> {
         let result = self.try_sync();
-        self.note(result.is_err());
-        result
+        self.noted(result)
     }
 
     fn clock(&self) -> u64 {

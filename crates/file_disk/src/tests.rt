@@ -78,8 +78,10 @@ fn a_file_that_may_only_be_read(rt: HostRuntime) -> Result<(), Fail> {
         assert_eq!(rt; buf.as_slice(), b"abc".as_slice());
         assert_eq!(rt; disk.sync(), Ok(()));
         assert_eq!(rt; disk.write_at(0, b"x"), Err(Failed));
+        assert_eq!(rt; disk.write_at(1, b"bcd"), Err(Failed));
         assert_eq!(rt; disk.cut(0), Err(Failed));
-        assert_eq!(rt; disk.faults(), 2);
+        assert_eq!(rt; disk.write_at(1, b"bc"), Ok(()));
+        assert_eq!(rt; disk.faults(), 3);
         assert_eq!(rt; disk.size(), Ok(3));
         let mut other = FileDisk::new(&rt, &path);
         assert_eq!(rt; other.write_at(0, b"abc"), Ok(()));
@@ -163,9 +165,12 @@ fn the_entry_is_that_of_a_links_target(rt: HostRuntime) -> Result<(), Fail> {
 fn a_file_whose_name_is_gone_is_not_synced(rt: HostRuntime) -> Result<(), Fail> {
     let folder = scratch(&rt, "gone")?;
     let path = within(&rt, folder.as_str(), "j")?;
-    for replaced in [false, true] {
+    for (replaced, synced) in [(false, false), (false, true), (true, false), (true, true)] {
         let mut disk = FileDisk::new(&rt, &path);
         assert_eq!(rt; disk.write_at(0, b"abc"), Ok(()));
+        if synced {
+            assert_eq!(rt; disk.sync(), Ok(()));
+        }
         fs::remove_file(&rt, text(&path))?;
         if replaced {
             fs::write(&rt, text(&path), "abc")?;

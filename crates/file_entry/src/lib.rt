@@ -4,4 +4,4 @@
 
 mod entry;
 
-pub use entry::{is_link, sync_entry};
+pub use entry::{behind_links, is_at, is_link, sync_entry};

@@ -1,36 +1,46 @@
 // A sink that is a file.
-ghost use Rattle.std.specs.Prelude.{◌≡◌, ◌≤◌, length, IfOk};
+ghost use Rattle.std.specs.Prelude.{◌≡◌, ◌≤◌, true, length, IfOk};
+ghost use Rattle.outside.specs.Faults.{Counts};
 
 use crate::destination::Destination;
 use crate::target::Target;
 use outside::{Failed, Put, Sink};
 use std::fs::File;
-use std::rt::Files;
+use std::io;
+use std::io::{Error, ErrorKind};
+use std::rt::{Clock, Files};
 
 /// A file, found or made at the first write. It keeps nothing back: a write that succeeds was handed to the system, so one that the system refuses
-/// fails at once. To finish is to sync the file and its entry in its folder. Its count stays at the last number of 64 bits.
-pub struct FileSink<'a, R: Files<File = File>> {
+/// fails at once. To finish is to sync the file, to put it in its place, and to sync its entry in its folder. What was not finished so is removed
+/// where it is dropped. Its count stays at the last number of 64 bits. Of its faults it keeps what the system said of the last one, for a person;
+/// no contract speaks of that.
+pub struct FileSink<'a, R: Files<File = File> + Clock> {
     files: &'a R,
     destination: Destination<'a>,
     target: Option<Target>,
     /// Whether a sync has failed. The system may then have dropped what it couldn't write, and tell so only once.
     unsynced: bool,
     faults: u64,
+    met: Option<Error>,
 }
 
-impl<'a, R: Files<File = File>> Drop for FileSink<'a, R> {
+impl<'a, R: Files<File = File> + Clock> Drop for FileSink<'a, R> {
     fn drop(self) {
         let FileSink {
-            files: _,
+            files,
             destination: _,
-            target: _,
+            target,
             unsynced: _,
             faults: _,
+            met: _,
         } = self;
+        if let Some(target) = target {
+            target.give_up(files);
+        }
     }
 }
 
-impl<'a, R: Files<File = File>> FileSink<'a, R> {
+impl<'a, R: Files<File = File> + Clock> FileSink<'a, R> {
     /// The file there, not opened yet, without a fault.
     pub fn new(files: &'a R, destination: Destination<'a>) -> FileSink<'a, R>
         ensures { result.faults ≡ 0 }
@@ -41,23 +51,31 @@ impl<'a, R: Files<File = File>> FileSink<'a, R> {
             target: None,
             unsynced: false,
             faults: 0,
+            met: None,
         }
     }
 
-    // Waits until what was written lies on the disk, if anything was.
-    fn sync(&self) -> Result<(), Failed> {
-        match (&self.target, self.destination.path) {
-            (Some(target), Some(path)) => target.sync(self.files, path),
+    /// What the system said of the last fault; none where there was none.
+    pub fn met(&self) -> Option<Error> {
+        self.met
+    }
+
+    // Waits until what was written lies on the disk in its place, if anything was.
+    fn sync(&mut self) -> io::Result<()>
+        ensures { self.new.faults ≡ self.old.faults }
+    {
+        match (&mut self.target, self.destination.path) {
+            (Some(target), Some(path)) => target.finish(self.files, path),
             _ => Ok(()),
         }
     }
 
     // The same, unless that has failed before.
-    fn try_finish(&mut self) -> Result<(), Failed>
+    fn try_finish(&mut self) -> io::Result<()>
         ensures { self.new.faults ≡ self.old.faults }
     {
         if self.unsynced {
-            return Err(Failed);
+            return Err(Error::other("an earlier sync has failed"));
         }
         let synced = self.sync();
         self.unsynced = synced.is_err();
@@ -65,7 +83,7 @@ impl<'a, R: Files<File = File>> FileSink<'a, R> {
     }
 
     // How many bytes of the piece were taken.
-    fn try_write(&mut self, piece: &[u8]) -> Result<usize, Failed>
+    fn try_write(&mut self, piece: &[u8]) -> io::Result<usize>
         ensures faults { self.new.faults ≡ self.old.faults }
         ensures bound { IfOk result (λ n. n ≤ length piece.now) }
     {
@@ -73,13 +91,21 @@ impl<'a, R: Files<File = File>> FileSink<'a, R> {
             self.target = Some(self.destination.target(self.files)?);
         }
         match &mut self.target {
-            Some(target) => target.write(piece),
-            None => Err(Failed),
+            Some(target) => target.write(self.files, piece),
+            None => Err(Error::from(ErrorKind::NotFound)),
         }
+    }
+
+    // Counts a fault.
+    fn fail(&mut self, error: Error)
+        ensures { Counts self.old.faults self.new.faults true }
+    {
+        self.faults = self.faults.saturating_add(1);
+        self.met = Some(error);
     }
 }
 
-impl<'a, R: Files<File = File>> Sink for FileSink<'a, R> {
+impl<'a, R: Files<File = File> + Clock> Sink for FileSink<'a, R> {
     ghost use Rattle.std.specs.Prelude.{false, []};
 
     ghost tells = { false };
@@ -94,18 +120,24 @@ impl<'a, R: Files<File = File>> Sink for FileSink<'a, R> {
     fn write(&mut self, piece: &[u8]) -> Put {
         match self.try_write(piece) {
             Ok(count) if count > 0 => Put::Took(count),
-            _ => {
-                self.faults = self.faults.saturating_add(1);
+            Ok(_) => {
+                self.fail(Error::from(ErrorKind::WriteZero));
+                Put::Failed
+            }
+            Err(error) => {
+                self.fail(error);
                 Put::Failed
             }
         }
     }
 
     fn finish(&mut self) -> Result<(), Failed> {
-        let finished = self.try_finish();
-        if finished.is_err() {
-            self.faults = self.faults.saturating_add(1);
+        match self.try_finish() {
+            Ok(()) => Ok(()),
+            Err(error) => {
+                self.fail(error);
+                Err(Failed)
+            }
         }
-        finished
     }
 }

@@ -1,15 +1,14 @@
 // Which file it is, whatever it is called.
-use outside::Failed;
-use std::fs;
 use std::fs::{File, Metadata};
 use std::io::ErrorKind;
 use std::os::unix::fs::{FileTypeExt, MetadataExt};
 use std::rt::Files;
+use std::{fs, io};
 
 /// Where the system shows the files of the standard streams. `std` has no other way to ask for one that it did not open.
-const STANDARD_OUTPUT: &str = "/proc/self/fd/1";
+pub(crate) const STANDARD_OUTPUT: &str = "/proc/self/fd/1";
 
-const STANDARD_ERROR: &str = "/proc/self/fd/2";
+pub(crate) const STANDARD_ERROR: &str = "/proc/self/fd/2";
 
 /// A file by its numbers, which all its names and all that have it open share: its device's, and its own there.
 #[derive(Clone, Copy, Debug, PartialEq, Eq)]
@@ -22,33 +21,28 @@ pub struct Inode {
 
 impl Inode {
     /// The file that is open.
-    pub(crate) fn of(file: &File) -> Result<Inode, Failed> {
-        match file.metadata() {
-            Ok(data) => Ok(inode_of(&data)),
-            Err(_) => Err(Failed),
-        }
+    pub(crate) fn of(file: &File) -> io::Result<Inode> {
+        Ok(inode_of(&file.metadata()?))
     }
 
     /// The file that the path leads to now, if there is one.
-    pub(crate) fn at<R: Files>(files: &R, path: Option<&str>) -> Result<Option<Inode>, Failed> {
+    pub(crate) fn at<R: Files>(files: &R, path: Option<&str>) -> io::Result<Option<Inode>> {
         let Some(path) = path else {
             return Ok(None);
         };
         match fs::metadata(files, path) {
             Ok(data) => Ok(Some(inode_of(&data))),
             Err(error) if is_absence(error.kind()) => Ok(None),
-            Err(_) => Err(Failed),
+            Err(error) => Err(error),
         }
     }
 
-    /// The file that standard output writes to. This fails where /proc isn't mounted.
-    pub(crate) fn of_standard_output<R: Files>(files: &R) -> Result<Inode, Failed> {
-        Inode::at(files, Some(STANDARD_OUTPUT))?.ok_or(Failed)
-    }
-
-    /// The file that standard error writes to, likewise.
-    pub(crate) fn of_standard_error<R: Files>(files: &R) -> Result<Inode, Failed> {
-        Inode::at(files, Some(STANDARD_ERROR))?.ok_or(Failed)
+    /// The file of a standard stream, by where the system shows it. This fails where /proc isn't mounted.
+    pub(crate) fn of_stream<R: Files>(files: &R, stream: &str) -> io::Result<Inode> {
+        match Inode::at(files, Some(stream))? {
+            Some(inode) => Ok(inode),
+            None => Err(io::Error::new(ErrorKind::NotFound, "/proc isn't mounted")),
+        }
     }
 }
 

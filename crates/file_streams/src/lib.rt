@@ -3,17 +3,23 @@
 //!
 //! - `descriptors`: holds the standard descriptors, before any file is opened.
 //! - `inode`: which file it is, whatever it is called.
+//! - `head`, `copies`: what the content of a file tells: a journal, a copy of the model.
 //! - `spared`: the files that nothing may be written over.
-//! - `destination`, `target`: where a sink writes, and how that is opened without harm.
-//! - `retried`: reads and writes that a signal interrupts.
+//! - `guard`: what is looked at before a run.
+//! - `destination`, `part`, `target`: where a sink writes, and how that is opened without harm.
+//! - `retried`: reads and writes that a signal interrupts, and streams that don't block.
 //! - `file_source`, `file_sink`, `standard_output`: the source and the sinks.
 #![tactic(auto)]
 
+mod copies;
 mod descriptors;
 mod destination;
 mod file_sink;
 mod file_source;
+mod guard;
+mod head;
 mod inode;
+mod part;
 mod retried;
 mod spared;
 mod standard_output;

@@ -1,15 +1,25 @@
-// One read and one write, each tried again where a signal interrupts it. Every stream here goes through them.
+// One read and one write, each tried again where a signal interrupts it, and a write also where the stream takes nothing now. Every stream here
+// goes through them.
 ghost use Rattle.std.specs.Prelude.{◌≡◌, ◌≢◌, ◌≤◌, ◌<◌, ◌↔◌, length, take, IsTrue, IfOk, IfErr, OnErr};
 ghost use Rattle.std.specs.Io.KnownBytes.{Appends, Consumes, IsAtEnd, Keeps};
 ghost use Rattle.std.specs.IoError.{error_kind};
 
-use std::io;
 use std::io::{ErrorKind, Read, Write};
+use std::rt::Clock;
+use std::time::Duration;
+use std::{io, thread};
 
 fn is_interrupted(error: &io::Error) -> bool
     ensures { IsTrue result ↔ (error_kind error.now ≡ ErrorKind.Interrupted) }
 {
     error.kind() == ErrorKind::Interrupted
+}
+
+// Whether the stream takes nothing now, which one that does not block tells so.
+fn is_busy(error: &io::Error) -> bool
+    ensures { IsTrue result ↔ (error_kind error.now ≡ ErrorKind.WouldBlock) }
+{
+    error.kind() == ErrorKind::WouldBlock
 }
 
 /// Reads once into the front of the buffer, and answers how many bytes came: none at the end. An error took none.
@@ -29,16 +39,23 @@ pub(crate) fn read_some<R: Read>(from: &mut R, buf: &mut [u8]) -> io::Result<usi
     Err(io::Error::from(ErrorKind::TimedOut))
 }
 
-/// Writes once, and answers how many bytes were taken, from the front of the piece. An error took none.
-pub(crate) fn write_some<W: Write>(to: &mut W, piece: &[u8]) -> io::Result<usize>
+/// Writes once, and answers how many bytes were taken, from the front of the piece. An error took none. Where the stream takes nothing now it
+/// waits, as one that blocks would.
+pub(crate) fn write_some<R: Clock, W: Write>(
+    clock: &R,
+    to: &mut W,
+    piece: &[u8],
+) -> io::Result<usize>
     ensures bound { IfOk result (λ n. n ≤ length piece.now) }
     ensures bytes { IfOk result (λ n. Appends (W.contents to.old) (W.contents to.new) (take n piece.now)) }
     ensures failed { OnErr result (Keeps (W.contents to.old) (W.contents to.new)) }
     ensures retried { IfErr result (λ e. error_kind e ≢ ErrorKind.Interrupted) }
+    ensures waited { IfErr result (λ e. error_kind e ≢ ErrorKind.WouldBlock) }
 {
     for _ in 0..u64::MAX {
         match to.write(piece) {
             Err(error) if is_interrupted(&error) => {}
+            Err(error) if is_busy(&error) => thread::sleep(clock, Duration::from_millis(5)),
             done => return done,
         }
     }

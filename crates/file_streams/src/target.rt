@@ -1,17 +1,20 @@
 // What a file's sink writes to.
 ghost use Rattle.std.specs.Prelude.{◌≤◌, length, IfOk};
 
+use crate::part::Part;
 use crate::retried::write_some;
 use file_entry::sync_entry;
-use outside::Failed;
 use std::fs::File;
-use std::io::{ErrorKind, Stderr, Stdout};
-use std::rt::Files;
+use std::io;
+use std::io::{Stderr, Stdout};
+use std::rt::{Clock, Files};
 
 /// What a file's sink writes to.
 #[derive(Drop)]
 pub enum Target {
-    /// A file that it alone has open.
+    /// A file that takes the place of another when it is whole.
+    Part(Part),
+    /// A file that is written where it stands: a device, a pipe, or one beside which none can be made.
     Own(File),
     /// A file that is standard output's too. Opened again it would be written from its front, over what standard output writes, so both write
     /// through the one descriptor.
@@ -22,36 +25,44 @@ pub enum Target {
 
 impl Target {
     /// Writes once, and answers how many bytes of the piece were taken.
-    pub(crate) fn write(&mut self, piece: &[u8]) -> Result<usize, Failed>
+    pub(crate) fn write<R: Clock>(&mut self, clock: &R, piece: &[u8]) -> io::Result<usize>
         ensures { IfOk result (λ n. n ≤ length piece.now) }
     {
-        let done = match self {
-            Target::Own(file) => write_some(file, piece),
-            Target::Output(output) => write_some(output, piece),
-            Target::Error(error) => write_some(error, piece),
-        };
-        done.map_err(|_| Failed)
+        match self {
+            Target::Part(part) => write_some(clock, &mut part.file, piece),
+            Target::Own(file) => write_some(clock, file, piece),
+            Target::Output(output) => write_some(clock, output, piece),
+            Target::Error(error) => write_some(clock, error, piece),
+        }
     }
 
-    /// Waits until what was written lies on the disk, and the entry of the file, which the path leads to. Nothing is to be waited for at a standard
-    /// stream, nor at a device or a pipe, which can't be synced.
-    pub(crate) fn sync<R: Files<File = File>>(
-        &self,
+    /// Waits until what was written lies on the disk in its place, and the entry of the file, which the path leads to. Nothing is to be waited
+    /// for at a standard stream, nor at a device or a pipe, which can't be synced.
+    pub(crate) fn finish<R: Files<File = File>>(
+        &mut self,
         files: &R,
         path: &String,
-    ) -> Result<(), Failed> {
-        let Target::Own(file) = self else {
-            return Ok(());
-        };
-        match file.sync_all() {
-            Ok(()) => {}
-            Err(error) if error.kind() == ErrorKind::InvalidInput => return Ok(()),
-            Err(_) => return Err(Failed),
-        }
-        match file.metadata() {
-            Ok(data) if data.is_file() => sync_entry(files, path, file),
-            Ok(_) => Ok(()),
-            Err(_) => Err(Failed),
+    ) -> io::Result<()> {
+        match self {
+            Target::Part(part) => part.put_in_place(files),
+            Target::Own(file) => finish_own(files, path, file),
+            Target::Output(_) | Target::Error(_) => Ok(()),
         }
     }
+
+    /// Removes what has not come to its place.
+    pub(crate) fn give_up<R: Files>(&self, files: &R) {
+        if let Target::Part(part) = self {
+            part.give_up(files);
+        }
+    }
+}
+
+// Syncs a plain file, and its entry. Each failure to do so is a fault.
+fn finish_own<R: Files<File = File>>(files: &R, path: &String, file: &File) -> io::Result<()> {
+    if !file.metadata()?.is_file() {
+        return Ok(());
+    }
+    file.sync_all()?;
+    sync_entry(files, path, file)
 }

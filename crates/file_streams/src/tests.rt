@@ -9,7 +9,8 @@ use std::{env, fs, io, process};
 
 const NONE: Spared<'static> = Spared {
     open: Ok(None),
-    paths: [None, None],
+    model: None,
+    journal: None,
 };
 
 /// A path for a file of this test alone.
@@ -20,23 +21,41 @@ fn scratch(rt: &HostRuntime, name: &str) -> Result<String, Fail> {
     Ok(format!(in rt.alloc(); "{folder}/bnc-{number}-{name}")?)
 }
 
+/// Whether the file at the path holds this text.
+fn holds(rt: &HostRuntime, path: &String, text: &str) -> Result<bool, Fail> {
+    let held = fs::read_to_string(rt, path.as_str())?;
+    Ok(held.as_str() == text)
+}
+
+/// The name under which a file is written before it takes its place.
+fn part_of(rt: &HostRuntime, path: &String) -> Result<String, Fail> {
+    Ok(format!(in rt.alloc(); "{}.1.part", path.as_str())?)
+}
+
 #[test]
 fn sink(rt: HostRuntime) -> Result<(), Fail> {
     let path = scratch(&rt, "sink")?;
+    let part = part_of(&rt, &path)?;
     fs::write(&rt, path.as_str(), "old and long\n")?;
     let there = Destination {
         path: Some(&path),
         spared: NONE,
         streams: (rt.stdout(), rt.stderr()),
     };
+    {
+        let mut sink = FileSink::new(&rt, there);
+        assert!(rt; write_all(&mut sink, b"VER ").is_ok());
+        assert!(rt; holds(&rt, &path, "old and long\n")?);
+        assert!(rt; holds(&rt, &part, "VER ")?);
+    }
+    assert!(rt; !fs::exists(&rt, part.as_str())?);
     let mut sink = FileSink::new(&rt, there);
-    let before = fs::read_to_string(&rt, path.as_str())?;
-    assert_eq!(rt; before.as_str(), "old and long\n");
     assert!(rt; write_all(&mut sink, b"VER ").is_ok());
     assert!(rt; write_all(&mut sink, b"1.0\n").is_ok());
     assert!(rt; sink.finish().is_ok());
-    let after = fs::read_to_string(&rt, path.as_str())?;
-    assert_eq!(rt; after.as_str(), "VER 1.0\n");
+    assert!(rt; holds(&rt, &path, "VER 1.0\n")?);
+    assert!(rt; !fs::exists(&rt, part.as_str())?);
+    assert!(rt; sink.finish().is_ok());
     fs::remove_file(&rt, path.as_str())?;
     let mut nowhere = FileSink::new(
         &rt,
@@ -61,34 +80,71 @@ fn a_file_under_another_name_is_spared(rt: HostRuntime) -> Result<(), Fail> {
     let by_path = Destination {
         path: Some(&other),
         spared: Spared {
-            open: Ok(None),
-            paths: [None, Some(path.as_str())],
+            journal: Some(path.as_str()),
+            ..NONE
         },
         streams: (rt.stdout(), rt.stderr()),
     };
+    assert!(rt; by_path.look(&rt).is_err());
     assert_eq!(rt; FileSink::new(&rt, by_path).write(b"VER"), Put::Failed);
     let source = FileSource::open(&rt, Some(path.as_str()));
     let while_open = Destination {
         path: Some(&other),
         spared: Spared {
             open: source.inode(),
-            paths: [None, None],
+            ..NONE
         },
         streams: (rt.stdout(), rt.stderr()),
     };
     fs::remove_file(&rt, path.as_str())?;
     let mut sink = FileSink::new(&rt, while_open);
     assert_eq!(rt; sink.write(b"VER"), Put::Failed);
-    let after = fs::read_to_string(&rt, other.as_str())?;
-    assert_eq!(rt; after.as_str(), "NAME one\n");
+    assert!(rt; holds(&rt, &other, "NAME one\n")?);
     fs::remove_file(&rt, other.as_str())?;
+    Ok(())
+}
+
+/// A journal whose first record is that of a model with the text 'NAME one', and its mark alone.
+const JOURNAL: &[u8] = b"BNCJRNL1\x01\x14\0\0\0\x01\x01\0\0\0\0\0\0\0\0\0NAME one\n\0";
+
+#[test]
+fn a_file_of_such_content_is_spared(rt: HostRuntime) -> Result<(), Fail> {
+    let path = scratch(&rt, "content")?;
+    let model = scratch(&rt, "model")?;
+    let journal = scratch(&rt, "journal")?;
+    fs::write(&rt, model.as_str(), "NAME two\n")?;
+    fs::write(&rt, journal.as_str(), JOURNAL)?;
+    let there = Destination {
+        path: Some(&path),
+        spared: Spared {
+            open: Ok(None),
+            model: Some(model.as_str()),
+            journal: Some(journal.as_str()),
+        },
+        streams: (rt.stdout(), rt.stderr()),
+    };
+    for text in ["BNCJRNL1", "BNCJRNL1\0", "NAME two\n", "NAME one\n"] {
+        fs::write(&rt, path.as_str(), text)?;
+        assert!(rt; there.look(&rt).is_err());
+        assert_eq!(rt; FileSink::new(&rt, there).write(b"VER"), Put::Failed);
+        assert!(rt; holds(&rt, &path, text)?);
+    }
+    for text in ["", "BNCJRNL", "NAME tow\n", "NAME one", "NAME one\n\n"] {
+        fs::write(&rt, path.as_str(), text)?;
+        assert!(rt; there.look(&rt).is_ok());
+        assert_eq!(rt; FileSink::new(&rt, there).write(b"VER"), Put::Took(3));
+        assert!(rt; holds(&rt, &path, text)?);
+    }
+    for path in [path.as_str(), model.as_str(), journal.as_str()] {
+        fs::remove_file(&rt, path)?;
+    }
     Ok(())
 }
 
 #[test]
 fn a_file_in_use_is_spared(rt: HostRuntime) -> Result<(), Fail> {
     let path = scratch(&rt, "in-use")?;
-    fs::write(&rt, path.as_str(), "BNCJRNL1")?;
+    fs::write(&rt, path.as_str(), "VER old")?;
     let there = Destination {
         path: Some(&path),
         spared: NONE,
@@ -98,8 +154,7 @@ fn a_file_in_use_is_spared(rt: HostRuntime) -> Result<(), Fail> {
     let user = File::open(&rt, path.as_str())?;
     assert!(rt; user.try_lock().is_ok());
     assert_eq!(rt; sink.write(b"VER"), Put::Failed);
-    let held = fs::read_to_string(&rt, path.as_str())?;
-    assert_eq!(rt; held.as_str(), "BNCJRNL1");
+    assert!(rt; holds(&rt, &path, "VER old")?);
     drop(user);
     assert_eq!(rt; sink.write(b"VER"), Put::Took(3));
     assert_eq!(rt; FileSink::new(&rt, there).write(b"VER"), Put::Failed);
@@ -109,22 +164,34 @@ fn a_file_in_use_is_spared(rt: HostRuntime) -> Result<(), Fail> {
 }
 
 #[test]
-fn a_file_whose_name_is_gone_is_not_kept(rt: HostRuntime) -> Result<(), Fail> {
-    let path = scratch(&rt, "gone")?;
+fn a_place_that_was_taken_is_left(rt: HostRuntime) -> Result<(), Fail> {
+    let path = scratch(&rt, "taken")?;
     let other = scratch(&rt, "renamed")?;
     let there = Destination {
         path: Some(&path),
         spared: NONE,
         streams: (rt.stdout(), rt.stderr()),
     };
-    let mut sink = FileSink::new(&rt, there);
-    assert!(rt; sink.finish().is_ok());
-    assert_eq!(rt; sink.write(b"VER"), Put::Took(3));
-    fs::rename(&rt, path.as_str(), other.as_str())?;
-    assert!(rt; sink.finish().is_err());
-    fs::rename(&rt, other.as_str(), path.as_str())?;
-    assert!(rt; sink.finish().is_err());
-    fs::remove_file(&rt, path.as_str())?;
+    for older in [false, true] {
+        if older {
+            fs::write(&rt, path.as_str(), "older")?;
+        }
+        let mut sink = FileSink::new(&rt, there);
+        assert!(rt; sink.finish().is_ok());
+        assert_eq!(rt; sink.write(b"VER"), Put::Took(3));
+        if older {
+            fs::rename(&rt, path.as_str(), other.as_str())?;
+        }
+        fs::write(&rt, path.as_str(), "another")?;
+        assert!(rt; sink.finish().is_err());
+        assert!(rt; holds(&rt, &path, "another")?);
+        fs::remove_file(&rt, path.as_str())?;
+        assert!(rt; sink.finish().is_err());
+    }
+    let part = part_of(&rt, &path)?;
+    assert!(rt; !fs::exists(&rt, part.as_str())?);
+    assert!(rt; holds(&rt, &other, "older")?);
+    fs::remove_file(&rt, other.as_str())?;
     Ok(())
 }
 
@@ -149,10 +216,11 @@ fn source(rt: HostRuntime) -> Result<(), Fail> {
     Ok(())
 }
 
-/// A stream of one byte at a time, whose next calls are interrupted.
+/// A stream of one byte at a time, whose next calls fail so.
 #[derive(Drop)]
 struct Interrupted {
     calls: u8,
+    kind: ErrorKind,
 }
 
 impl Interrupted {
@@ -161,7 +229,7 @@ impl Interrupted {
             return Ok(());
         }
         self.calls -= 1;
-        Err(io::Error::from(ErrorKind::Interrupted))
+        Err(io::Error::from(self.kind))
     }
 }
 
@@ -190,10 +258,19 @@ impl Write for Interrupted {
 }
 
 #[test]
-fn interrupted_calls_are_tried_again(rt: HostRuntime) -> Result<(), Fail> {
+fn calls_are_tried_again(rt: HostRuntime) -> Result<(), Fail> {
     let mut buf = [0; 3];
-    assert_eq!(rt; read_some(&mut Interrupted { calls: 2 }, &mut buf)?, 1);
+    let mut interrupted = Interrupted {
+        calls: 2,
+        kind: ErrorKind::Interrupted,
+    };
+    assert_eq!(rt; read_some(&mut interrupted, &mut buf)?, 1);
     assert!(rt; buf == *b"x\0\0");
-    assert_eq!(rt; write_some(&mut Interrupted { calls: 2 }, b"abc")?, 1);
+    for kind in [ErrorKind::Interrupted, ErrorKind::WouldBlock] {
+        assert_eq!(rt;
+            write_some(&rt, &mut Interrupted { calls: 2, kind }, b"abc")?,
+            1
+        );
+    }
     Ok(())
 }

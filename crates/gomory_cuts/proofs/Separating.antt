@@ -1,11 +1,9 @@
 -- What is separated: cuts that the point violates, no two of them the same.
 use Rattle.std.proofs.Common.{◌≡◌, ℕ, zero, suc, ◌+◌, ◌<◌, ◌≤◌, arith, refl, ap, sym, ◌∙◌, subst, Bool, true, false, Option, Some, None, List, [], ◌∷◌, ◌++◌, length, get_or, take, min, inl, inr}
-use Rattle.std.specs.Prelude.{ℤ, ◌⊎◌, if◌then◌else◌, eqb, ◌&&◌, ◌||◌, All}
-use Rattle.std.specs.Ordering.{int_eq, is_lt}
-use Rattle.std.specs.declared.cmp.Ordering.{Ordering}
-use Rattle.std.specs.declared.cmp.Ordering.TheVariants.{Less, Equal, Greater}
+use Rattle.std.specs.Prelude.{ℤ, ◌⊎◌, if◌then◌else◌, eqb, ◌&&◌, All}
+use Rattle.std.specs.Ordering.{int_eq}
 use Rattle.std.proofs.lemmas.Int.{ints}
-use Rattle.std.proofs.lemmas.Bool.{eq-eqb}
+use Rattle.std.proofs.lemmas.Bool.{eq-eqb, or_parts}
 use Rattle.std.proofs.lemmas.List.{length-append, length-take, get_or_append_left, get_or-take}
 use Rattle.std.proofs.lemmas.List.Elements.{All-nil, All-cons, All-append, All-take}
 use Rattle.std.proofs.Math.Seq.{get_or-append_seam}
@@ -13,7 +11,7 @@ use Rattle.std.proofs.Math.Nat.{min-le_left, min-le_right}
 use Rattle.fraction.specs.Rational.{ℚ}
 use Rattle.fraction.specs.Order.{◌<ℚ◌}
 use Rattle.fraction.specs.Lemmas.Bounds.{was_some}
-use Rattle.fraction.specs.Lemmas.Order.{not_both, less}
+use Rattle.fraction.specs.Lemmas.Order.{not_both, less, less_only}
 use Rattle.fraction.specs.Checked.{compare}
 use Rattle.problem.specs.declared.row.Row.{Row}
 use Rattle.problem.specs.declared.row.Sense.TheVariants.{G}
@@ -35,17 +33,12 @@ use Rattle.gomory_cuts.specs.Separation.{is_below, is_violated, if_violated, cut
 use Rattle.gomory_cuts.specs.Laws.{IsSeparating, AreDifferent}
 use Rattle.gomory_cuts.proofs.Rising.{gomory_between}
 
-less_is : (o : Ordering) → is_lt o ≡ true → Less ≡ o
-less_is Less e = refl
-less_is Equal e = absurd (let z : ⊥ = cc in z)
-less_is Greater e = absurd (let z : ⊥ = cc in z)
-
 below_side : (x : List ℚ) (r : Row) → is_violated x r ≡ true → rational_value r.terms x <ℚ r.rhs
 below_side x r e = at (checked_sum r.terms x) refl e
   where
     at : (o : Option ℚ) → checked_sum r.terms x ≡ o → is_below o r.rhs ≡ true → rational_value r.terms x <ℚ r.rhs
     at None f g = absurd (let z : ⊥ = cc in z)
-    at (Some v) f g = subst (λ v. v <ℚ r.rhs) (sum_exact r.terms x v f) (less v r.rhs (less_is (compare v r.rhs) g))
+    at (Some v) f g = subst (λ v. v <ℚ r.rhs) (sum_exact r.terms x v f) (less v r.rhs (less_only (compare v r.rhs) g))
 
 violated_is : (x : List ℚ) (r : Row) → G ≡ r.sense → is_violated x r ≡ true → SatisfiesRow x r → ⊥
 violated_is x r s e h = not_both r.rhs (rational_value r.terms x) (subst (λ q. Compares q r.rhs (rational_value r.terms x)) (sym s) h) (below_side x r e)
@@ -124,14 +117,10 @@ same_itself : (m : List (ℕ × ℚ)) → is_same m m ≡ true
 same_itself [] = refl
 same_itself (a ∷ m) = all_true (eqb a.0 a.0) (int_eq a.1.num a.1.num) (eqb a.1.den a.1.den) (is_same m m) (eq-eqb a.0 a.0 refl) (same_int a.1.num) (eq-eqb a.1.den a.1.den refl) (same_itself m)
 
-neither : (a b : Bool) → (a || b) ≡ false → (a ≡ false) × (b ≡ false)
-neither true b e = absurd (let z : ⊥ = cc in z)
-neither false b e = (refl, e)
-
 not_found : (m : List (ℕ × ℚ)) (found : List (List (ℕ × ℚ))) → is_found m found ≡ false → (i : ℕ) → i < length found → get_or found i [] ≡ m → ⊥
 not_found m [] e i l f = omega arith
-not_found m (k ∷ ks) e zero l f = let a = (neither (is_same m k) (is_found m ks) e).0 in let b = ap (is_same m) f ∙ same_itself m in cc
-not_found m (k ∷ ks) e (suc i) l f = not_found m ks (neither (is_same m k) (is_found m ks) e).1 i (omega arith) f
+not_found m (k ∷ ks) e zero l f = let a = (or_parts (is_same m k) (is_found m ks) e).0 in let b = ap (is_same m) f ∙ same_itself m in cc
+not_found m (k ∷ ks) e (suc i) l f = not_found m ks (or_parts (is_same m k) (is_found m ks) e).1 i (omega arith) f
 
 one_more : (m : List (ℕ × ℚ)) (found : List (List (ℕ × ℚ))) → AreDifferent found → is_found m found ≡ false → AreDifferent (found ++ m ∷ [])
 one_more m found h e i j l b f =

@@ -29,6 +29,7 @@ pub record IsSeparating (p : Problem) (cuts : List Cut) (x : RationalPoint) (m :
 abbrev pub AreDifferent : List Multipliers → Type 0
 AreDifferent ms = (i j : ℕ) → i < j → j < length ms → slice_index_or ms i [] ≡ slice_index_or ms j [] → ⊥
 
+-- cuts that each shut out the point, no two of them the same
 pub record IsSeparation (p : Problem) (cuts : List Cut) (x : RationalPoint) (ms : List Multipliers) : Type 0 where
   pub each : All (IsSeparating p cuts x) ms
   pub different : AreDifferent ms

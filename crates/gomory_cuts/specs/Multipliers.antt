@@ -45,6 +45,7 @@ row_multipliers s row v k [] = Some []
 row_multipliers s row v k (r ∷ rs) = option_and_then (λ u. option_map (with_multiplier k u) (row_multipliers s row (v + 1) (k + 1) rs)) (multiplier s r.sense (entry row v))
 
 -- ---- bound rows
+-- whether a variable is at its upper bound
 abbrev pub is_at_upper : BasisStatus → Bool
 is_at_upper Basic = false
 is_at_upper AtLower = false

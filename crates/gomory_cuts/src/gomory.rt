@@ -1,8 +1,9 @@
 //! The multipliers of a Chvátal-Gomory cut.
 
-ghost use Rattle.std.specs.Prelude.{◌≡◌, ◌<◌, ◌≤◌, ◌+◌, ◌^◌, ◌++◌, IfOk, OnOk, All, length};
+ghost use Rattle.std.specs.Prelude.{◌≡◌, ◌<◌, ◌≤◌, ◌+◌, ◌++◌, IfOk, OnOk, All, length};
 ghost use Rattle.derivation_book.specs.Known.{known_lines};
 ghost use Rattle.gomory_cuts.specs.Multipliers.{filled, gomory_multipliers};
+ghost use Rattle.dual_simplex.specs.Sizes.{most_numbered_cuts};
 
 use crate::filling::fillings;
 use crate::multiplier::{of_cuts, of_rows};
@@ -68,7 +69,7 @@ pub(crate) fn gomory_multipliers(
     sign: Sign,
     column: usize,
 ) -> Result<Option<Terms>, AllocError>
-    requires few { length book.now.cuts < 2 ^ 27 }
+    requires few { length book.now.cuts < most_numbered_cuts }
     requires columns { length problem.now.spans ≤ length tableau.now.statuses }
     requires column { column < length problem.now.spans }
     ensures { IfOk result (λ o. o ≡ gomory_multipliers problem.now book.now.cuts tableau.now sign column) }

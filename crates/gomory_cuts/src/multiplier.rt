@@ -1,12 +1,13 @@
 //! The multipliers of rows and of cuts.
 
-ghost use Rattle.std.specs.Prelude.{◌≡◌, ◌<◌, ◌+◌, ◌^◌, ◌++◌, IfOk, OnOk, length, map};
+ghost use Rattle.std.specs.Prelude.{◌≡◌, ◌<◌, ◌+◌, ◌++◌, IfOk, OnOk, length, map};
 ghost use Rattle.problem.specs.Linear.{Multipliers};
 ghost use Rattle.derivation_book.specs.declared.cut.Cut.{Cut};
 ghost use Rattle.derivation_book.specs.Known.{first_cut};
 ghost use Rattle.tableau.specs.Elimination.{entry};
 ghost use Rattle.tableau.specs.Multipliers.{with_multiplier};
 ghost use Rattle.gomory_cuts.specs.Multipliers.{above_floor, below_ceiling, multiplier, row_multipliers};
+ghost use Rattle.dual_simplex.specs.Sizes.{most_numbered_cuts};
 
 use crate::sign::{Sign, signed};
 use derivation_book::Book;
@@ -96,7 +97,7 @@ pub(crate) fn of_cuts(
     sign: Sign,
     row: &[Frac],
 ) -> Result<Option<Terms>, AllocError>
-    requires { length book.now.cuts < 2 ^ 27 }
+    requires { length book.now.cuts < most_numbered_cuts }
     ensures { IfOk result (λ o. o ≡ row_multipliers sign row.now (length problem.now.spans + length problem.now.rows) (first_cut problem.now) (map (λ (c : Cut). c.row) book.now.cuts)) }
 {
     problem.limits_hold();

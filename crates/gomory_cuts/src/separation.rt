@@ -1,9 +1,10 @@
 //! The cuts that separate a point.
 
-ghost use Rattle.std.specs.Prelude.{◌≡◌, ◌<◌, ◌≤◌, ◌^◌, ◌++◌, ◌∷◌, ◌&&◌, nat_eq, IfOk, OnOk, List, Option, length, take};
+ghost use Rattle.std.specs.Prelude.{◌≡◌, ◌<◌, ◌≤◌, ◌++◌, ◌∷◌, ◌&&◌, nat_eq, IfOk, OnOk, List, Option, length, take};
 ghost use Rattle.std.specs.Ordering.{int_eq};
 ghost use Rattle.problem.specs.Linear.{Multipliers};
 ghost use Rattle.gomory_cuts.specs.Separation.{cut_at, is_fractional, cuts_at, is_same, is_found, with_cuts, separation};
+ghost use Rattle.dual_simplex.specs.Sizes.{most_numbered_cuts};
 
 use crate::gomory::gomory_multipliers;
 use crate::sign::Sign;
@@ -30,7 +31,7 @@ fn cut_at(
     column: usize,
     sign: Sign,
 ) -> Result<Option<Mult>, AllocError>
-    requires few { length book.now.cuts < 2 ^ 27 }
+    requires few { length book.now.cuts < most_numbered_cuts }
     requires columns { length problem.now.spans ≤ length tableau.now.statuses }
     requires column { column < length problem.now.spans }
     ensures { IfOk result (λ o. o ≡ cut_at problem.now book.now.cuts tableau.now point.now column sign) }
@@ -103,7 +104,7 @@ fn add_cut(
     sign: Sign,
     found: &mut Vec<Mult>,
 ) -> Result<(), AllocError>
-    requires few { length book.now.cuts < 2 ^ 27 }
+    requires few { length book.now.cuts < most_numbered_cuts }
     requires columns { length problem.now.spans ≤ length tableau.now.statuses }
     requires column { column < length problem.now.spans }
     requires four { length found.old.items ≤ 4 }
@@ -131,7 +132,7 @@ fn add_cuts(
     column: usize,
     found: &mut Vec<Mult>,
 ) -> Result<(), AllocError>
-    requires few { length book.now.cuts < 2 ^ 27 }
+    requires few { length book.now.cuts < most_numbered_cuts }
     requires columns { length problem.now.spans ≤ length tableau.now.statuses }
     requires column { column < length problem.now.spans }
     requires point { length point.now ≡ length problem.now.spans }
@@ -177,7 +178,7 @@ pub fn separate(
     book: &Book,
     point: &RationalPoint,
 ) -> Result<Vec<Mult>, AllocError>
-    requires few { length book.now.cuts < 2 ^ 27 }
+    requires few { length book.now.cuts < most_numbered_cuts }
     requires columns { length problem.now.spans ≤ length tableau.now.statuses }
     requires point { length point.now ≡ length problem.now.spans }
     ensures { IfOk result (λ v. v.items ≡ separation problem.now book.now.cuts tableau.now point.now) }

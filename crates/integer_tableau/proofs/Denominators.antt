@@ -6,6 +6,7 @@ use Rattle.std.proofs.lemmas.Int.{unsigned_abs-mul}
 use Rattle.std.proofs.lemmas.List.Elements.{All-nil, All-cons}
 use Rattle.fraction.specs.Bounds.{Within}
 use Rattle.fraction.specs.Rational.{ℚ, frac, whole}
+use Rattle.fraction.specs.Lemmas.Bounds.{Within-more}
 use Rattle.integer_tableau.proofs.Expanded.{value_of_column, value_of_row, which}
 use Rattle.integer_tableau.proofs.Fractions.{Within-frac}
 use Rattle.integer_tableau.proofs.Lists.{size_is}
@@ -19,18 +20,12 @@ use Rattle.integer_tableau.specs.Positions.{coefficient, coefficients, numerator
 use Rattle.integer_tableau.specs.declared.position.Position.{Position}
 use Rattle.integer_tableau.specs.declared.position.Position.TheVariants.{InBasis, InColumn}
 
-greater : (n a b : ℕ) (x : ℚ) → a ≤ b → Within n a x → Within n b x
-greater n a b x l h = record { divides = h.divides; size = more (nat_abs x.num * n) a b x.den l h.size }
-  where
-    more : (m a b d : ℕ) → a ≤ b → m ≤ a * d → m ≤ b * d
-    more m a b d l h = omega (arith, h, mul-le-mul_right d l)
-
 over : (z : ℤ) (d : ℕ) → 0 < d → nat_abs z ≤ 2 ^ 62 → Within d (2 ^ 62) (frac z d)
-over z d o l = greater d (nat_abs z) (2 ^ 62) (frac z d) l
+over z d o l = Within-more d (nat_abs z) (2 ^ 62) (frac z d) l
     (subst (λ m. Within m (nat_abs z) (frac z d)) (mul-one d) (subst (λ m. Within (d * 1) m (frac z d)) (mul-one (nat_abs z)) (Within-frac z d 1 o)))
 
 whole_over : (z : ℤ) (d : ℕ) → nat_abs z * d ≤ 2 ^ 62 → Within d (2 ^ 62) (whole z)
-whole_over z d l = greater d (nat_abs z * d) (2 ^ 62) (whole z) l (subst (λ m. Within m (nat_abs z * d) (whole z)) (one_times d) (Within-frac z 1 d (omega arith)))
+whole_over z d l = Within-more d (nat_abs z * d) (2 ^ 62) (whole z) l (subst (λ m. Within m (nat_abs z * d) (whole z)) (one_times d) (Within-frac z 1 d (omega arith)))
   where
     one_times : (d : ℕ) → 1 * d ≡ d
     one_times d = omega arith

@@ -8,7 +8,7 @@ use Rattle.std.specs.Ordering.{int_eq}
 use Rattle.std.proofs.lemmas.Bool.Decides.{Decides-int_eq}
 use Rattle.fraction.specs.Bounds.{Within}
 use Rattle.fraction.specs.Checked.{add_checked, mul_checked}
-use Rattle.fraction.specs.Lemmas.Bounds.{add_fits_within, add_is, mul_fits_small, mul_is}
+use Rattle.fraction.specs.Lemmas.Bounds.{add_fits_within, add_is, mul_fits_small, mul_is, frac-num_le, small_product}
 use Rattle.fraction.specs.Lemmas.Integers.{diff-add, diff-mul, diff-neg, diff-pos, diff-same, is_diff, neg-mul_ℤ}
 use Rattle.fraction.specs.Lemmas.Lowest.{abs-div}
 use Rattle.fraction.specs.Lemmas.Rational.{frac-*ℚ, frac-+ℚ, frac_den, frac_is, frac_same, lit_one, neg_ℚ-frac}
@@ -21,10 +21,6 @@ abbrev pub IsNarrow : ℤ → Type 0
 IsNarrow z = nat_abs z < 2 ^ 63
 
 -- ---- the parts of a fraction
-pub frac-num_le : (z : ℤ) (d : ℕ) → 0 < d → nat_abs (frac z d).num ≤ nat_abs z
-unfolding frac
-frac-num_le z zero o = absurd (omega arith)
-frac-num_le z (suc n) o = rw (abs-div z _) (div-le_self (nat_abs z) _)
 
 pub frac-den_le : (z : ℤ) (d : ℕ) → 0 < d → (frac z d).den ≤ d
 frac-den_le z d o = le_of_dvd o (frac_den z d o)
@@ -42,8 +38,6 @@ Within-frac z d k o = record {
     sized m a e d k h = omega (arith, ap (λ n. n * k) h)
 
 -- ---- products and sums over denominators that are given
-small_product : (m n a b : ℕ) → m ≤ a → n ≤ b → a * b < 2 ^ 127 → m * n < 2 ^ 127
-small_product m n a b h k l = omega (arith, mul-le-mul h k)
 
 pub mul_frac : (a b : ℤ) (c d : ℕ) → 0 < c → 0 < d → nat_abs a * nat_abs b < 2 ^ 127 → c * d < 2 ^ 127
     → mul_checked (frac a c) (frac b d) ≡ Some (frac (a *ℤ b) (c * d))

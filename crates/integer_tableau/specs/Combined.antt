@@ -29,6 +29,7 @@ numbers_from k (suc n) f = f k ∷ numbers_from (suc k) n f
 abbrev pub combined_row : ℕ → List Position → List (List ℤ) → List ℤ → List ℤ
 combined_row d positions rows coefficients = numbers_from 0 (length rows) (combined d coefficients positions rows)
 
+-- the row of a variable that is in the basis; none of another one
 abbrev pub row_if_basic : Position → List ℤ → List ℤ
 row_if_basic InBasis row = row
 row_if_basic (InColumn k) row = []
@@ -61,9 +62,11 @@ value_numerators d (s ∷ positions) (x ∷ xs) [] = []
 value_numerators d (s ∷ positions) (x ∷ xs) (v ∷ vs) = value_numerator d s x v ∷ value_numerators d positions xs vs
 
 -- ---- all variables
+-- the rows of all variables: those of columns, and behind them those of rows
 abbrev pub expanded_rows : ℕ → List (List ℤ) → List Position → List (List ℤ) → List (List ℤ)
 expanded_rows d program_rows positions rows = rows ++ rows_behind (combined_row d positions rows) (drop (length rows) positions) program_rows
 
+-- the numerators of the values of all variables: those of columns, and behind them those of rows
 abbrev pub expanded_values : ℕ → List (List ℤ) → List Position → List ℤ → List ℤ → List ℤ
 expanded_values d program_rows positions xs vs = vs ++ map (λ a. combined_value (pos d) a positions xs vs) program_rows
 
@@ -75,6 +78,7 @@ expanded program_rows t = record t {
 }
 
 -- ---- what holds of one that keeps rows and values of columns
+-- the size of a bound, 0 where there is none
 abbrev pub size_of : Option ℤ → ℕ
 size_of None = 0
 size_of (Some z) = nat_abs z
@@ -83,6 +87,7 @@ size_of (Some z) = nat_abs z
 abbrev pub bound_size : IntegerBounds → ℕ
 bound_size b = max (size_of b.lower) (size_of b.upper)
 
+-- the sum of the sizes of the greater bounds
 abbrev pub total_bound_size : List IntegerBounds → ℕ
 total_bound_size [] = 0
 total_bound_size (b ∷ bs) = bound_size b + total_bound_size bs

@@ -11,6 +11,7 @@ abbrev pub row_width : ℕ → Position → ℕ
 row_width n InBasis = n
 row_width n (InColumn k) = 0
 
+-- the parts of the tableau have sizes that fit one another, and its denominator is above 0
 pub record IsConsistent (t : IntegerTableau) : Type 0 where
   pub positive : 0 < t.denominator
   pub bounds : length t.bounds ≡ length t.positions

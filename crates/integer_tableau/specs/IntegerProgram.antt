@@ -7,6 +7,7 @@ use Rattle.integer_tableau.specs.Numbers.{IsWithin, total_size}
 use Rattle.integer_tableau.specs.IntegerTableau.{fraction_bounds}
 use Rattle.integer_tableau.specs.declared.integer_bounds.IntegerBounds.{IntegerBounds}
 
+-- the same linear program over fractions
 abbrev pub fraction_program : List (List ℤ) → List ℤ → List IntegerBounds → List ℕ → LinearProgram
 fraction_program rows costs bounds numbers = record {
   rows = map (map whole) rows;

@@ -26,17 +26,21 @@ pub record IntegerTableau : Type 0 where
   pub pivots : ℕ
 
 -- ---- variable by variable
+-- the same bounds as fractions
 abbrev pub fraction_bounds : IntegerBounds → Bounds
 fraction_bounds b = record { lower = option_map whole b.lower; upper = option_map whole b.upper }
 
+-- the status of a variable at its upper or its lower bound
 abbrev pub bound_status : Bool → BasisStatus
 bound_status true = AtUpper
 bound_status false = AtLower
 
+-- the status of a variable, by its position and whether it is at its upper bound
 abbrev pub status : Position → Bool → BasisStatus
 status InBasis u = Basic
 status (InColumn k) u = bound_status u
 
+-- the statuses of all variables
 abbrev pub statuses_of : List Position → List Bool → List BasisStatus
 statuses_of [] us = []
 statuses_of (s ∷ ss) [] = []
@@ -47,6 +51,7 @@ abbrev pub value : ℕ → Position → ℤ → ℤ → ℚ
 value d InBasis x v = frac v d
 value d (InColumn k) x v = whole x
 
+-- the values of all variables
 abbrev pub values_of : ℕ → List Position → List ℤ → List ℤ → List ℚ
 values_of d [] xs vs = []
 values_of d (s ∷ ss) [] vs = []

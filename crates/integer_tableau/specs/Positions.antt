@@ -21,6 +21,7 @@ abbrev pub coefficients : ℕ → List Position → List ℤ → List ℚ
 coefficients d positions row = map (coefficient d row) positions
 
 -- ---- sums over the variables
+-- the sum of the products, number by number
 abbrev pub products : List ℤ → List ℤ → ℤ
 products [] xs = pos 0
 products (z ∷ zs) [] = pos 0

@@ -10,6 +10,7 @@ abbrev pub columns_from : ℕ → ℕ → List Position
 columns_from k zero = []
 columns_from k (suc n) = InColumn k ∷ columns_from (suc k) n
 
+-- the number is below 0
 abbrev pub is_negative : ℤ → Bool
 is_negative z = int_lt z (pos 0)
 
@@ -17,6 +18,7 @@ is_negative z = int_lt z (pos 0)
 abbrev pub start_number : ℤ → IntegerBounds → ℤ
 start_number cost b = if int_lt cost (pos 0) then unwrap_or b.upper (pos 0) else unwrap_or b.lower (pos 0)
 
+-- the bound at which each column starts
 abbrev pub start_numbers : List ℤ → List IntegerBounds → List ℤ
 start_numbers [] bs = []
 start_numbers (c ∷ cs) [] = []

@@ -256,11 +256,4 @@ impl IntegerProgram {
     {
         self.costs.width()
     }
-
-    /// Its numbers are whole.
-    pub fn numbers_are_whole(&self)
-        ensures { IsIntegral self.now }
-    {
-        let _costs = &self.costs;
-    }
 }

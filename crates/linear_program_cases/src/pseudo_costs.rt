@@ -4,7 +4,7 @@ ghost use Rattle.std.specs.Prelude.{◌<◌, All, length};
 
 use anyhow::Result;
 use fraction::Frac;
-use pseudo_cost::{Costs, GREATEST_GAIN, Side, gain};
+use pseudo_cost::{Costs, LARGEST_GAIN, Side, gain};
 use std::alloc::Global;
 use std::io;
 
@@ -39,7 +39,7 @@ pub(crate) fn show<R: Print + Alloc<A = Global>>(rt: &R) -> Result<()> {
     costs.note(0, Side::Down, 0);
     costs.note(0, Side::Down, 0);
     show_choice(rt, &costs, &[0, 1])?;
-    costs.note(3, Side::Up, GREATEST_GAIN);
+    costs.note(3, Side::Up, LARGEST_GAIN);
     show_choice(rt, &costs, &[0, 1, 2, 3])?;
     Ok(())
 }

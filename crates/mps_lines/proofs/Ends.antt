@@ -2,7 +2,7 @@
 use Rattle.std.specs.Prelude.{◌≡◌, ℕ, ◌+◌, ◌<◌, Bool, true, false, not, ◌==◌, ◌&&◌, List, [], ◌∷◌, ◌++◌, length, take, drop}
 use Rattle.std.specs.List.{list_all, onto_first, position_or_len}
 use Rattle.std.proofs.Common.{refl, sym, ap, ◌∙◌, cond, arith, get_or, suc, zero, add-one}
-use Rattle.std.proofs.lemmas.Bool.{not-true, eqb-true}
+use Rattle.std.proofs.lemmas.Bool.{not-true, eqb-true, and_parts}
 use Rattle.std.proofs.lemmas.List.{take-append-drop}
 use Rattle.std.proofs.lemmas.List.Sums.{passes_at_first}
 use Rattle.std.proofs.Math.Seq.{drop-cons, take-length, drop-length}
@@ -14,10 +14,6 @@ use Rattle.mps_lines.specs.Ends.{without_cr}
 -- b and what follows, where no line ends at b
 begun : (b : ℕ) (bytes : List ℕ) → (b == 10) ≡ false → ((b == 13) && begins_with 10 bytes) ≡ false → raw_lines (b ∷ bytes) ≡ onto_first b (raw_lines bytes)
 begun b bytes h k = rw (h, k) refl
-
-and_parts : (a b : Bool) → (a && b) ≡ true → (a ≡ true) × (b ≡ true)
-and_parts true b h = (refl, h)
-and_parts false b h = (h, cc)
 
 last_cr : (b : ℕ) (t : Bool) (lines : List (List ℕ)) → cond (t && true) ([] ∷ lines) ((b ∷ []) ∷ lines) ≡ cond t [] (b ∷ []) ∷ lines
 last_cr b true lines = refl

@@ -1,11 +1,11 @@
 -- What digits by their places say of the number that they spell.
-use Rattle.std.proofs.Common.{◌≡◌, ℕ, zero, suc, ◌+◌, ◌-◌, ◌*◌, ◌^◌, ◌<◌, ◌≤◌, Bool, true, false, ◌==◌, ◌&&◌, ◌||◌, not, nat_le, List, [], ◌∷◌, ◌++◌, length, refl, sym, ap, ◌∙◌, subst, arith, ◌⊎◌, inl, inr, add-one, take, drop, cond, get_or}
+use Rattle.std.proofs.Common.{◌≡◌, ℕ, zero, suc, ◌+◌, ◌-◌, ◌*◌, ◌^◌, ◌<◌, ◌≤◌, Bool, true, false, ◌==◌, ◌||◌, not, nat_le, List, [], ◌∷◌, ◌++◌, length, refl, sym, ap, ◌∙◌, subst, arith, ◌⊎◌, inl, inr, add-one, take, drop, cond, get_or}
 use Rattle.std.proofs.lemmas.Bool.Decides.{nat_tests}
 use Rattle.std.proofs.lemmas.Nat.{pow-add}
 use Rattle.std.proofs.lemmas.Grind.{pow_more}
 use Rattle.std.proofs.Math.Nat.{pow-le-pow_right, one-le-pow, mul-pos, mul-le-mul_right, lt_of_mul-lt-mul_right, mul-lt-mul_of_pos_right}
 use Rattle.std.proofs.lemmas.Int.Digits.{digits_value-lt, digits_value_more}
-use Rattle.std.proofs.lemmas.Bool.{cases_lt, le-leb, lt-leb}
+use Rattle.std.proofs.lemmas.Bool.{cases_lt, le-leb, lt-leb, and_parts}
 use Rattle.std.specs.Bool.{MatchBool}
 use Rattle.std.specs.List.{list_all, take_while, prefix_len}
 use Rattle.std.specs.Char.{digit_value}
@@ -162,10 +162,6 @@ placed n unit at c s hc hn h (inl k) (inl j) = at_low n unit at c s hc hn h j
 pub step : (n unit at c : ℕ) (s : Sum) → is_digit c ≡ true → n < 10 ^ at → Parts n (10 ^ unit) s
     → Parts (digit_value c * 10 ^ at + n) (10 ^ unit) (with_digit unit at c s)
 step n unit at c s hc hn h = rw ((digit_is c hc).2) (placed n unit at c s hc hn h (cases_lt at (unit + 25)) (cases_lt at unit))
-
-and_parts : (a b : Bool) → (a && b) ≡ true → (a ≡ true) × (b ≡ true)
-and_parts true b h = (refl, h)
-and_parts false b h = (h, cc)
 
 pub all_digits : (cs : List ℕ) → list_all is_digit cs ≡ true → AllDigits 10 cs
 all_digits [] h = tt

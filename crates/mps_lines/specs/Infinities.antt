@@ -13,9 +13,11 @@ infinity_word s = if str_eq_ignore_ascii_case s.1 (codes "inf") || str_eq_ignore
 unfoldable pub is_vast : Spelt → Bool
 is_vast s = nat_le (10 ^ 20 * 10 ^ s.down) (digits_value 10 s.digits * 10 ^ s.up)
 
+-- whether a number whose size is an infinity of the format is negative; none for other numbers
 abbrev pub vast : Option Spelt → Option Bool
 vast None = None
 vast (Some s) = if is_vast s then Some s.negative else None
 
+-- whether the infinity that a field spells, by a word or by a vast number, is the negative one; none for other fields
 abbrev pub infinite : List ℕ → Option Bool
 infinite field = option_or (infinity_word (sign_at field)) (vast (spelling field))

@@ -8,6 +8,7 @@ use Rattle.mps_lines.specs.declared.lines.Lines.{Lines}
 abbrev pub seen : Held → Line
 seen line = record { number = line.number; is_data = line.is_data; fields = map (λ f. f.now) line.fields.items }
 
+-- the lines behind a line that is held back, with that line in front
 abbrev pub with_first : Option Held → List Line → List Line
 with_first None lines = lines
 with_first (Some line) lines = seen line ∷ lines
@@ -16,6 +17,7 @@ with_first (Some line) lines = seen line ∷ lines
 abbrev pub left : Lines → List Line
 left l = numbered l.number (raw_lines l.text.now)
 
+-- how many bytes are left to read
 abbrev pub text_len : Lines → ℕ
 text_len l = length l.text.now
 
@@ -23,5 +25,6 @@ text_len l = length l.text.now
 abbrev pub room : Lines → ℕ
 room l = l.number + length l.text.now
 
+-- the lines of a text
 abbrev pub lines_of : List ℕ → List Line
 lines_of text = all_lines text

@@ -4,10 +4,16 @@ ghost use Rattle.std.specs.Prelude.{◌≡◌, ℕ, ◌+◌, ◌*◌, ◌^◌, �
 ghost use Rattle.std.specs.List.{prefix_len, list_all};
 ghost use Rattle.std.specs.Option.{option_map};
 ghost use Rattle.std.specs.Str.Parse.{digits_value};
-ghost use Rattle.mps_lines.specs.Decimals.{is_digit, front_digits, behind_digits, sign_at, point_at, power_at, exponent_at, with_sign, within_limits, decimal, capped, amount, spelt_of};
+ghost use Rattle.mps_lines.specs.Decimals.{is_digit, front_digits, behind_digits, sign_at, point_at, power_at, exponent_at, with_sign, within_limits, decimal, capped, amount, spelt_of, largest_number, finest_number};
 ghost use Rattle.mps_lines.specs.Weights.{weighed, with_digit, judged};
 
 use fraction::Frac;
+
+/// The largest size of a number.
+const LARGEST_NUMBER: u128 = 1_000_000_000;
+
+/// A number is a multiple of 1 over this.
+const FINEST_NUMBER: u128 = 1_000_000_000_000_000;
 
 /// Why a field is no number that is read.
 #[derive(Clone, Copy, Debug, PartialEq, Eq)]
@@ -167,11 +173,11 @@ fn weigh(whole: &[u8], part: &[u8], at: u128, unit: u128) -> Sum
     sum
 }
 
-/// Whether the number is above 10^9.
+/// Whether the number is above the largest, 10^9.
 fn is_too_large(sum: Sum) -> bool
-    ensures { result ≡ (sum.high || nat_lt (10 ^ 24) sum.middle || ((sum.middle == 10 ^ 24) && sum.low)) }
+    ensures { result ≡ (sum.high || nat_lt (largest_number * finest_number) sum.middle || ((sum.middle == largest_number * finest_number) && sum.low)) }
 {
-    const LARGEST: u128 = 1_000_000_000_000_000_000_000_000;
+    const LARGEST: u128 = LARGEST_NUMBER * FINEST_NUMBER;
     sum.high || sum.middle > LARGEST || (sum.middle == LARGEST && sum.low)
 }
 
@@ -197,7 +203,7 @@ fn judge(negative: bool, sum: Sum) -> Result<Frac, NumFault>
     if sum.low {
         return Err(NumFault::TooFine);
     }
-    Ok(Frac::make(with_sign(negative, sum.middle), 1_000_000_000_000_000))
+    Ok(Frac::make(with_sign(negative, sum.middle), FINEST_NUMBER as i128))
 }
 
 /// Whether each byte is a digit.

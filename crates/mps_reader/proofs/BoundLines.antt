@@ -1,5 +1,5 @@
 -- Lemmas: what the lines of BOUNDS say of each column.
-use Rattle.std.specs.Prelude.{◌≡◌, ℕ, ◌*◌, ◌/◌, ◌%◌, ◌^◌, ◌<◌, ◌≤◌, ℤ, pos, negsuc, neg_ℤ, nat_abs, Bool, true, false, ◌&&◌, ◌||◌, ◌==◌, nat_le, if◌then◌else◌, cond, List, ◌∷◌, Option, Some, None, []}
+use Rattle.std.specs.Prelude.{◌≡◌, ℕ, ◌*◌, ◌/◌, ◌%◌, ◌<◌, ◌≤◌, ℤ, pos, negsuc, neg_ℤ, nat_abs, Bool, true, false, ◌&&◌, ◌||◌, ◌==◌, nat_le, if◌then◌else◌, cond, List, ◌∷◌, Option, Some, None, []}
 use Rattle.std.specs.Str.{bytes_eq}
 use Rattle.std.proofs.Common.{refl, arith}
 use Rattle.std.proofs.lemmas.Bool.{and_parts}
@@ -17,6 +17,7 @@ use Rattle.mps_reader.specs.declared.limits.ColumnBounds.{ColumnBounds}
 use Rattle.mps_lines.specs.declared.values.Value.TheVariants as value
 use Rattle.mps_reader.specs.BoundLines.{is_negative, with_limits, summary_of}
 use Rattle.mps_reader.specs.Lemmas.Limits.{is_modest}
+use Rattle.problem.specs.Limits.{largest_bound, finest}
 
 -- ---- the summary has the values that are defined
 pub record Gives (name : List ℕ) (bounds : List Bound) (l : ColumnBounds) : Type 0 where
@@ -66,28 +67,28 @@ summary_is name bounds =
     λ i. record { upper = g.upper i; lower = g.lower i; is_whole = g.whole i; is_upper_negative = g.negative i; has_lower_line = g.lower_line i }
 
 -- ---- roundings are small
-floor_div_small : (z : ℤ) (d : ℕ) → 0 < d → nat_abs z ≤ 10 ^ 9 * d → nat_abs (floor_div z d) ≤ 10 ^ 9
-floor_div_small (pos a) d p h = div-le_of_le-mul d (let e : a ≤ d * 10 ^ 9 = omega (arith, h) in e)
-floor_div_small (negsuc a) d p h = below (a / d) ((div-lt_iff_lt-mul {k = d} {x = a} {y = 10 ^ 9} p).1 (let e : a < 10 ^ 9 * d = omega (arith, ints, h) in e))
+floor_div_small : (z : ℤ) (d : ℕ) → 0 < d → nat_abs z ≤ largest_bound * d → nat_abs (floor_div z d) ≤ largest_bound
+floor_div_small (pos a) d p h = div-le_of_le-mul d (let e : a ≤ d * largest_bound = omega (arith, h) in e)
+floor_div_small (negsuc a) d p h = below (a / d) ((div-lt_iff_lt-mul {k = d} {x = a} {y = largest_bound} p).1 (let e : a < largest_bound * d = omega (arith, ints, h) in e))
   where
-    below : (n : ℕ) → n < 10 ^ 9 → nat_abs (negsuc n) ≤ 10 ^ 9
+    below : (n : ℕ) → n < largest_bound → nat_abs (negsuc n) ≤ largest_bound
     below n l = omega (arith, ints)
 
-size_of : (q : ℚ) → is_modest q ≡ true → nat_abs q.num ≤ 10 ^ 9 * q.den
+size_of : (q : ℚ) → is_modest q ≡ true → nat_abs q.num ≤ largest_bound * q.den
 size_of q h =
-    let a = and_parts (nat_le q.den (10 ^ 15)) _ h in
-    let b = and_parts (10 ^ 15 % q.den == 0) (nat_le (nat_abs q.num) (10 ^ 9 * q.den)) a.1 in
-    let le : nat_le (nat_abs q.num) (10 ^ 9 * q.den) ≡ true = b.1 in
+    let a = and_parts (nat_le q.den finest) _ h in
+    let b = and_parts (finest % q.den == 0) (nat_le (nat_abs q.num) (largest_bound * q.den)) a.1 in
+    let le : nat_le (nat_abs q.num) (largest_bound * q.den) ≡ true = b.1 in
     grind arith
 
-pub floor_small : (q : ℚ) → is_modest q ≡ true → nat_abs (floor q) ≤ 10 ^ 9
+pub floor_small : (q : ℚ) → is_modest q ≡ true → nat_abs (floor q) ≤ largest_bound
 unfolding floor
 floor_small q h = floor_div_small q.num q.den q.lowest.0 (size_of q h)
 
 neg_size : (z : ℤ) → nat_abs (neg_ℤ z) ≡ nat_abs z
 neg_size z = omega (arith, ints)
 
-pub ceil_small : (q : ℚ) → is_modest q ≡ true → nat_abs (ceil q) ≤ 10 ^ 9
+pub ceil_small : (q : ℚ) → is_modest q ≡ true → nat_abs (ceil q) ≤ largest_bound
 unfolding ceil
 ceil_small q h =
     let s = size_of q h in
@@ -99,8 +100,8 @@ module _ (field : List ℕ) (q : ℚ) (h : IsValue field (value.Finite q)) where
   value_modest : is_modest q ≡ true
   value_modest = modest_decimal field q h.0
 
-  pub finite_floor : nat_abs (floor q) ≤ 10 ^ 9
+  pub finite_floor : nat_abs (floor q) ≤ largest_bound
   finite_floor = floor_small q value_modest
 
-  pub finite_ceil : nat_abs (ceil q) ≤ 10 ^ 9
+  pub finite_ceil : nat_abs (ceil q) ≤ largest_bound
   finite_ceil = ceil_small q value_modest

@@ -1,5 +1,5 @@
 -- Lemmas: the problem from the reader's tables, and the checks of its limits.
-use Rattle.std.specs.Prelude.{◌≡◌, ℕ, ◌*◌, ◌^◌, ◌<◌, ◌≤◌, ◌%◌, true, false, ◌&&◌, ◌==◌, not, nat_le, nat_lt, List, ◌∷◌, All, pos, nat_abs, suc, []}
+use Rattle.std.specs.Prelude.{◌≡◌, ℕ, ◌*◌, ◌<◌, ◌≤◌, ◌%◌, true, false, ◌&&◌, ◌==◌, not, nat_le, nat_lt, List, ◌∷◌, All, pos, nat_abs, suc, []}
 use Rattle.std.specs.Option.{unwrap_or}
 use Rattle.std.proofs.Common.{ap, ◌∙◌, arith}
 use Rattle.std.proofs.lemmas.List.Elements.{All-nil, All-cons}
@@ -11,16 +11,17 @@ use Rattle.fraction.specs.Lemmas.Bounds.{whole_parts}
 use Rattle.problem.specs.Modest.{IsModest}
 use Rattle.problem.specs.Rising.{RiseFrom, AreNonzero}
 use Rattle.problem.specs.Limited.{AreLimited}
+use Rattle.problem.specs.Limits.{largest_bound, finest}
 use Rattle.mps_reader.specs.Words.{value_under}
 use Rattle.mps_reader.specs.Meaning.{is_zero}
 use Rattle.mps_reader.specs.Lemmas.Limits.{is_modest, limited_from}
 
-pub modest_within : (q : ℚ) → is_modest q ≡ true → Within (10 ^ 15) (10 ^ 24) q
+pub modest_within : (q : ℚ) → is_modest q ≡ true → Within finest (largest_bound * finest) q
 modest_within q h =
-    let a = and_parts (nat_le q.den (10 ^ 15)) ((10 ^ 15 % q.den == 0) && nat_le (nat_abs q.num) (10 ^ 9 * q.den)) h in
-    let b = and_parts (10 ^ 15 % q.den == 0) (nat_le (nat_abs q.num) (10 ^ 9 * q.den)) a.1 in
-    let le : nat_le (nat_abs q.num) (10 ^ 9 * q.den) ≡ true = b.1 in
-    let l : nat_abs q.num ≤ 10 ^ 9 * q.den = grind arith in
+    let a = and_parts (nat_le q.den finest) ((finest % q.den == 0) && nat_le (nat_abs q.num) (largest_bound * q.den)) h in
+    let b = and_parts (finest % q.den == 0) (nat_le (nat_abs q.num) (largest_bound * q.den)) a.1 in
+    let le : nat_le (nat_abs q.num) (largest_bound * q.den) ≡ true = b.1 in
+    let l : nat_abs q.num ≤ largest_bound * q.den = grind arith in
     record { divides = dvd_of_mod-eq-zero q.den (eqb-true _ 0 b.0); size = omega (arith, l) }
 
 pub limited_is : (n k : ℕ) (ts : List (ℕ × ℚ)) → limited_from n k ts ≡ true

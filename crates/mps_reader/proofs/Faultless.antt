@@ -1,5 +1,5 @@
 -- Lines without a fault keep to the limits, with ranges and bounds.
-use Rattle.std.specs.Prelude.{◌≡◌, ℕ, ◌+◌, ◌^◌, ◌≤◌, ℤ, nat_abs, Bool, true, false, ◌&&◌, not, nat_le, nat_lt, cond, List, ◌∷◌, ◌++◌, Option, Some, None, is_some, Result, Ok, drop, IfSome, []}
+use Rattle.std.specs.Prelude.{◌≡◌, ℕ, ◌+◌, ◌≤◌, ℤ, nat_abs, Bool, true, false, ◌&&◌, not, nat_le, nat_lt, cond, List, ◌∷◌, ◌++◌, Option, Some, None, is_some, Result, Ok, drop, IfSome, []}
 use Rattle.std.specs.List.{list_all}
 use Rattle.std.specs.Option.{option_or}
 use Rattle.std.specs.Str.{bytes_eq}
@@ -12,7 +12,7 @@ use Rattle.mps_lines.specs.Lines.{Line}
 use Rattle.mps_reader.specs.BoundLines.{with_setting, with_limits, summary_of}
 use Rattle.mps_reader.proofs.BoundLines.{floor_small, ceil_small}
 use Rattle.mps_lines.specs.Infinities.{infinite}
-use Rattle.mps_reader.specs.Faults.{when, counted, most_rows, is_field, is_ranged, count_ranged, differs, bound_value_fault, typed_row_fault, row_fault, side_fault, sides_fault, side_line_fault, side_number_fault, bound_line_fault, limits_fields, section_fault, data_fault_in, word_fault, line_fault, may_follow, stage, stage_of, type_fault}
+use Rattle.mps_reader.specs.Faults.{when, counted, is_field, is_ranged, count_ranged, differs, bound_value_fault, typed_row_fault, row_fault, side_fault, sides_fault, side_line_fault, side_number_fault, bound_line_fault, limits_fields, section_fault, data_fault_in, word_fault, line_fault, may_follow, stage, stage_of, type_fault}
 use Rattle.mps_reader.specs.Lemmas.LinesWithinLimits.{none_keeps, line_more, none_both, none_when, below_of, new_sides}
 use Rattle.mps_reader.specs.Meaning.{unless_infinite}
 use Rattle.mps_reader.specs.Lemmas.Modest.{modest_number}
@@ -30,6 +30,7 @@ use Rattle.mps_reader.specs.declared.kinds.Section.{Section}
 use Rattle.mps_reader.specs.declared.kinds.Section.TheVariants as section
 use Rattle.mps_reader.specs.declared.limits.ColumnBounds.{ColumnBounds}
 use Rattle.mps_reader.specs.Lemmas.Limits.{is_modest, KeepsLimits, are_modest_sides}
+use Rattle.problem.specs.Limits.{most_rows, largest_bound}
 
 -- ---- ranges
 abbrev pub used : List (List ℕ × RowType) → List (List ℕ × List ℕ) → ℕ
@@ -43,7 +44,7 @@ HaveDistinctNames (r ∷ rows) = (value_under rows r.0 ≡ None) × HaveDistinct
 
 -- ---- bounds
 abbrev pub IsSmall : ℤ → Type 0
-IsSmall z = nat_abs z ≤ 10 ^ 9
+IsSmall z = nat_abs z ≤ largest_bound
 
 abbrev pub AreSmall : ColumnBounds → Type 0
 AreSmall l = IfSome l.upper (λ z. IsSmall z) × IfSome l.lower (λ z. IsSmall z)

@@ -1,5 +1,5 @@
 -- The problem of sections without a fault keeps to the limits.
-use Rattle.std.specs.Prelude.{◌≡◌, ℕ, ◌+◌, ◌^◌, ◌≤◌, ℤ, pos, nat_abs, Bool, true, false, ◌&&◌, cond, List, ◌∷◌, Option, Some, None, is_some, length, All, IfSome, []}
+use Rattle.std.specs.Prelude.{◌≡◌, ℕ, ◌+◌, ◌≤◌, ℤ, pos, nat_abs, Bool, true, false, ◌&&◌, cond, List, ◌∷◌, Option, Some, None, is_some, length, All, IfSome, []}
 use Rattle.std.specs.List.{flat_map, sum_by}
 use Rattle.std.specs.Option.{option_map, unwrap_or}
 use Rattle.std.specs.Str.{bytes_eq}
@@ -13,6 +13,7 @@ use Rattle.std.proofs.lemmas.List.Elements.{All-nil, All-cons}
 use Rattle.fraction.specs.Rational.{ℚ}
 use Rattle.problem.specs.declared.row.Row.{Row}
 use Rattle.problem.specs.Limited.{AreLimited, IsLimited, IsLimitedRow, IsModestSpan}
+use Rattle.problem.specs.Limits.{largest_bound}
 use Rattle.mps_reader.proofs.SideNumbers.{numbers_of}
 use Rattle.mps_reader.specs.BoundLines.{summary_of}
 use Rattle.mps_reader.proofs.BoundLines.{summary_gives}
@@ -153,27 +154,27 @@ ranges_held (p ∷ pairs) name h = let a = and_parts (is_modest (number p.1)) (a
     by rest false m = rest
 
 -- ---- spans
-module _ (upper : Option ℕ) (u : IfSome upper (λ n. n ≤ 10 ^ 9)) where
-  upper_small : (o : Option ℤ) → IfSome o (λ z. nat_abs z ≤ 10 ^ 9) → nat_abs (unwrap_or (or_upper upper o) (pos 0)) ≤ 10 ^ 9
+module _ (upper : Option ℕ) (u : IfSome upper (λ n. n ≤ largest_bound)) where
+  upper_small : (o : Option ℤ) → IfSome o (λ z. nat_abs z ≤ largest_bound) → nat_abs (unwrap_or (or_upper upper o) (pos 0)) ≤ largest_bound
   upper_small (Some z) h = h
   upper_small None h = by upper u
     where
-      by : (upper : Option ℕ) → IfSome upper (λ n. n ≤ 10 ^ 9) → nat_abs (unwrap_or (or_upper upper None) (pos 0)) ≤ 10 ^ 9
+      by : (upper : Option ℕ) → IfSome upper (λ n. n ≤ largest_bound) → nat_abs (unwrap_or (or_upper upper None) (pos 0)) ≤ largest_bound
       by None u = omega arith
       by (Some n) u = u
 
-  lower_small : (o : Option ℤ) → IfSome o (λ z. nat_abs z ≤ 10 ^ 9) → nat_abs (unwrap_or (or_lower upper o) (pos 0)) ≤ 10 ^ 9
+  lower_small : (o : Option ℤ) → IfSome o (λ z. nat_abs z ≤ largest_bound) → nat_abs (unwrap_or (or_lower upper o) (pos 0)) ≤ largest_bound
   lower_small (Some z) h = h
   lower_small None h = by upper u
     where
-      by : (upper : Option ℕ) → IfSome upper (λ n. n ≤ 10 ^ 9) → nat_abs (unwrap_or (or_lower upper None) (pos 0)) ≤ 10 ^ 9
+      by : (upper : Option ℕ) → IfSome upper (λ n. n ≤ largest_bound) → nat_abs (unwrap_or (or_lower upper None) (pos 0)) ≤ largest_bound
       by None u = omega arith
       by (Some n) u = omega (arith, ints, u)
 
   span_modest : (bounds : List Bound) (name : List ℕ) → AreSmall (summary_of name bounds) → IsModestSpan (span upper (bounds_on bounds name))
   span_modest bounds name h =
       let g = summary_gives name bounds in
-      (lower_small _ (subst (λ o. IfSome o (λ z. nat_abs z ≤ 10 ^ 9)) g.lower h.1), upper_small _ (subst (λ o. IfSome o (λ z. nat_abs z ≤ 10 ^ 9)) g.upper h.0))
+      (lower_small _ (subst (λ o. IfSome o (λ z. nat_abs z ≤ largest_bound)) g.lower h.1), upper_small _ (subst (λ o. IfSome o (λ z. nat_abs z ≤ largest_bound)) g.upper h.0))
 
   spans_modest : (bounds : List Bound) (columns : List (List ℕ × Column)) → ((name : List ℕ) → AreSmall (summary_of name bounds)) → All IsModestSpan (spans_of upper (bounds_on bounds) columns)
   spans_modest bounds [] h = All-nil IsModestSpan
@@ -189,7 +190,7 @@ module _ (s : Sections) (k : KeepsAll s) where
   objective_limited None = are_limited (length (columns_of (entries_of s.columns))) [] refl
   objective_limited (Some name) = subst (λ ts. AreLimited (length (columns_of (entries_of s.columns))) ts) (sym (terms_placed name (entries_of s.columns))) (terms_limited name)
 
-  pub whole_limited : (upper : Option ℕ) → IfSome upper (λ n. n ≤ 10 ^ 9) → IsLimited (problem_of upper s)
+  pub whole_limited : (upper : Option ℕ) → IfSome upper (λ n. n ≤ largest_bound) → IsLimited (problem_of upper s)
   whole_limited upper u =
       let cs = columns_of (entries_of s.columns) in
       let ts = placed_of (entries_of s.columns) in

@@ -1,5 +1,5 @@
 -- Lemmas: the rows of the problem, where a ranged row gives two.
-use Rattle.std.specs.Prelude.{◌≡◌, ℕ, ◌+◌, ◌*◌, ◌^◌, ◌≤◌, ℤ, pos, neg_ℤ, nat_abs, Bool, true, false, if◌then◌else◌, cond, List, ◌∷◌, ◌++◌, Option, Some, None, All, IfSome, int_lt, []}
+use Rattle.std.specs.Prelude.{◌≡◌, ℕ, ◌+◌, ◌*◌, ◌≤◌, ℤ, pos, neg_ℤ, nat_abs, Bool, true, false, if◌then◌else◌, cond, List, ◌∷◌, ◌++◌, Option, Some, None, All, IfSome, int_lt, []}
 use Rattle.std.specs.List.{flat_map}
 use Rattle.std.specs.Option.{unwrap_or}
 use Rattle.std.proofs.Common.{refl, sym, ap, ◌∙◌, arith, subst}
@@ -15,6 +15,7 @@ use Rattle.problem.specs.declared.row.Row.{Row}
 use Rattle.problem.specs.declared.row.Sense.{Sense}
 use Rattle.problem.specs.declared.row.Sense.TheVariants as sense
 use Rattle.problem.specs.Limited.{AreLimited, IsLimitedRow}
+use Rattle.problem.specs.Limits.{largest_bound, finest}
 use Rattle.mps_reader.proofs.SideNumbers.{numbers_of, value_under_numbers}
 use Rattle.mps_reader.proofs.BuildingLemmas.{side_in}
 use Rattle.mps_reader.specs.Meaning.{rows_at, rows_from, range_of, ranged_rows, is_below_zero}
@@ -44,7 +45,7 @@ pub neg_held : (q : ℚ) → IsTextNumber q → IsTextNumber (neg_ℚ q)
 neg_held q h =
     let n : ℚ = record { num = neg_ℤ q.num; den = q.den; lowest = (q.lowest.0, ap (λ k. gcd k q.den) (neg_size q.num) ∙ q.lowest.1) } in
     subst (λ (x : ℚ). IsTextNumber x) (sym (neg_ℚ_is q ∙ sym (ℚ_is n)))
-    (record { divides = h.divides; size = subst (λ k. k * 10 ^ 15 ≤ 10 ^ 24 * q.den) (sym (neg_size q.num)) h.size })
+    (record { divides = h.divides; size = subst (λ k. k * finest ≤ largest_bound * finest * q.den) (sym (neg_size q.num)) h.size })
 
 pub abs_held : (q : ℚ) → IsTextNumber q → IsTextNumber (abs_ℚ q)
 abs_held q h = by (int_lt q.num (pos 0))
@@ -54,16 +55,16 @@ abs_held q h = by (int_lt q.num (pos 0))
     by false = h
 
 pub sum_is : (a b : ℚ) → IsTextNumber a → IsTextNumber b → add_checked a b ≡ Some (a +ℚ b)
-sum_is a b h k = add_is a b (add_fits_within a b (10 ^ 15) (10 ^ 24) (10 ^ 24) (omega arith) (omega arith) (omega arith) h k)
+sum_is a b h k = add_is a b (add_fits_within a b finest (largest_bound * finest) (largest_bound * finest) (omega arith) (omega arith) (omega arith) h k)
 
-sum_wide : (a b : ℚ) → IsTextNumber a → IsTextNumber b → Within (10 ^ 15) (2 * 10 ^ 24) (a +ℚ b)
-sum_wide a b h k = let s : Within (10 ^ 15) (10 ^ 24 + 10 ^ 24) (a +ℚ b) = Within-+ℚ a b (10 ^ 15) (10 ^ 24) (10 ^ 24) (omega arith) h k in record { divides = s.divides; size = omega (arith, s.size) }
+sum_wide : (a b : ℚ) → IsTextNumber a → IsTextNumber b → Within finest (2 * (largest_bound * finest)) (a +ℚ b)
+sum_wide a b h k = let s : Within finest (largest_bound * finest + largest_bound * finest) (a +ℚ b) = Within-+ℚ a b finest (largest_bound * finest) (largest_bound * finest) (omega arith) h k in record { divides = s.divides; size = omega (arith, s.size) }
 
-wide : (q : ℚ) → IsTextNumber q → Within (10 ^ 15) (2 * 10 ^ 24) q
+wide : (q : ℚ) → IsTextNumber q → Within finest (2 * (largest_bound * finest)) q
 wide q h = record { divides = h.divides; size = omega (arith, h.size) }
 
 abbrev AreWide : ℚ × ℚ → Type 0
-AreWide ends = Within (10 ^ 15) (2 * 10 ^ 24) ends.0 × Within (10 ^ 15) (2 * 10 ^ 24) ends.1
+AreWide ends = Within finest (2 * (largest_bound * finest)) ends.0 × Within finest (2 * (largest_bound * finest)) ends.1
 
 range_wide : (type : RowType) (b r : ℚ) → IsTextNumber b → IsTextNumber r → AreWide (range_of type b r)
 range_wide row.N b r h k = (wide b h, wide b h)
@@ -77,7 +78,7 @@ range_wide row.E b r h k = by (is_below_zero r)
 
 -- ---- limited rows
 module _ (n : ℕ) (ts : List (ℕ × ℚ)) (l : AreLimited n ts) where
-  one_limited : (s : Sense) (b : ℚ) → Within (10 ^ 15) (2 * 10 ^ 24) b → All (IsLimitedRow n) (record { sense = s; rhs = b; terms = ts } ∷ [])
+  one_limited : (s : Sense) (b : ℚ) → Within finest (2 * (largest_bound * finest)) b → All (IsLimitedRow n) (record { sense = s; rhs = b; terms = ts } ∷ [])
   one_limited s b h = All-cons (IsLimitedRow n) (record { sense = s; rhs = b; terms = ts }) [] (record { terms = l; rhs = h }) (All-nil (IsLimitedRow n))
 
   single_limited : (type : RowType) (b : ℚ) → IsTextNumber b → All (IsLimitedRow n) (rows_from type b None ts)

@@ -8,7 +8,7 @@ use Rattle.std.proofs.lemmas.List.Sums.{sum_by-append}
 use Rattle.fraction.specs.Rational.{ℚ}
 use Rattle.mps_lines.specs.Lines.{Line}
 use denote.Ref.{Bor}
-use Rattle.mps_reader.specs.Faults.{◌<|>◌, when, most_rows, is_counted, is_ranged, counted, count_ranged, side_number_fault, sides_fault, side_line_fault, differs, side_fault}
+use Rattle.mps_reader.specs.Faults.{◌<|>◌, when, is_counted, is_ranged, counted, count_ranged, side_number_fault, sides_fault, side_line_fault, differs, side_fault}
 use Rattle.mps_reader.specs.Lemmas.Named.{bytes_flip, value_under_push, same_text}
 use Rattle.mps_reader.specs.RowsSoFar.{IsRowAt}
 use Rattle.mps_reader.proofs.RowsSoFar.{or_none, row_gives, row_set}
@@ -24,6 +24,7 @@ use Rattle.mps_reader.specs.declared.kinds.Stop.{Stop}
 use Rattle.mps_reader.specs.declared.kinds.Stop.TheVariants as stop
 use Rattle.mps_reader.specs.declared.sides.Sides.{Sides}
 use Rattle.mps_reader.specs.SideLines.{number_for, side_so_far, HasSides, some_sides_fault}
+use Rattle.problem.specs.Limits.{most_rows}
 
 -- ---- no row
 pub none_so_far : (rows : List (List ℕ × RowType)) (i : ℕ) → get_or (map (side_so_far []) rows) i None ≡ None

@@ -3,7 +3,7 @@ use Rattle.std.specs.Prelude.{◌≡◌, ℕ, Bool, true, false, cond, List, ◌
 use Rattle.std.proofs.Common.{refl, sym, ap, ◌∙◌, arith, set, get_or, subst}
 use Rattle.std.proofs.lemmas.List.{length-map}
 use denote.Ref.{Bor}
-use Rattle.mps_reader.specs.Faults.{is_repeated, most_columns}
+use Rattle.mps_reader.specs.Faults.{is_repeated}
 use Rattle.mps_reader.specs.Meaning.{objective_name, place}
 use Rattle.mps_reader.specs.Lemmas.Named.{length_push, place_push, same_text}
 use Rattle.mps_reader.specs.RowsSoFar.{IsNew, IsRowAt, last_place, named_last, row_so_far}
@@ -17,6 +17,7 @@ use Rattle.mps_reader.specs.declared.kinds.Column.{Column}
 use Rattle.mps_reader.specs.declared.kinds.RowType.{RowType}
 use Rattle.mps_reader.specs.RowState.{RowState, is_place, with_number}
 use Rattle.mps_reader.specs.State.{IsLastAt, HasEntries}
+use Rattle.problem.specs.Limits.{most_columns}
 
 -- ---- the names of an entry
 module _ {B H : Type 0} (s : Columns B H) (es : List (Bor (List ℕ) × RowType)) (entries : List Entry) (h : HasEntries s (table es) entries) where

@@ -25,6 +25,7 @@ with_setting bound.Mi upper lower negative l = record l { lower = None; has_lowe
 with_setting bound.Pl upper lower negative l = record l { upper = None; is_upper_negative = false }
 with_setting bound.Bv upper lower negative l = record { upper = Some (pos 1); lower = Some (pos 0); is_whole = true; is_upper_negative = false; has_lower_line = true }
 
+-- whether a value that is no infinity is below 0
 abbrev pub is_negative : Option Bool → ℚ → Bool
 is_negative None q = is_below_zero q
 is_negative (Some infinity) q = false

@@ -13,6 +13,7 @@ pub record RowState : Type 0 where
   pub terms : Option Terms
   pub named_by : Option ℕ
 
+-- states of rows as the pairs of their parts
 abbrev pub code_RowState : Coded RowState
 code_RowState = code_by (Option Terms × Option ℕ) (coded× (coded_option (coded_list (coded× coded_ℕ code_ℚ))) (coded_option coded_ℕ))
     (λ r. (r.terms, r.named_by)) (λ p. record { terms = p.0; named_by = p.1 }) (λ _. refl)
@@ -21,6 +22,7 @@ code_RowState = code_by (Option Terms × Option ℕ) (coded× (coded_option (cod
 abbrev pub new_row : Bool → RowState
 new_row keeps = record { terms = if keeps then Some [] else None; named_by = None }
 
+-- a row whose terms are not kept, and that no column names
 abbrev pub bare_row : RowState
 bare_row = new_row false
 

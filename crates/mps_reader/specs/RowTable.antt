@@ -5,6 +5,7 @@ use Rattle.mps_reader.specs.declared.row_table.RowEntry.{RowEntry}
 use Rattle.mps_reader.specs.declared.row_table.RowEntry.TheVariants as entry
 use Rattle.mps_reader.specs.declared.row_terms.TermRow.{TermRow}
 
+-- the state of a row that keeps its terms
 abbrev pub state_of : TermRow → RowState
 state_of r = record { terms = Some r.terms; named_by = r.named_by }
 

@@ -3,13 +3,14 @@ use Rattle.std.specs.Prelude.{◌≡◌, ℕ, ◌-◌, ◌<◌, Bool, true, fals
 use Rattle.std.specs.List.{position, IsDistinct}
 use Rattle.std.specs.Str.{bytes_eq}
 use denote.Ref.{Bor}
-use Rattle.mps_reader.specs.Faults.{most_columns, is_counted}
+use Rattle.mps_reader.specs.Faults.{is_counted}
 use Rattle.mps_reader.specs.Meaning.{objective_name, terms_of}
 use Rattle.mps_reader.specs.RowState.{RowState}
 use Rattle.mps_reader.specs.Sections.{DeclaredColumns, DeclaredRows, Entry, columns_of, is_same}
 use Rattle.mps_reader.specs.Tables.{table}
 use Rattle.mps_reader.specs.Words.{value_under}
 use Rattle.mps_reader.specs.declared.kinds.RowType.{RowType}
+use Rattle.problem.specs.Limits.{most_columns}
 
 -- the place of the last column
 abbrev pub last_place : List Entry → ℕ

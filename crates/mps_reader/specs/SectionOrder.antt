@@ -20,6 +20,7 @@ abbrev pub sense_after : Section → Bool → Bool → Bool
 sense_after section.ObjSense rest before = rest
 sense_after word rest before = before
 
+-- the order after one more section word
 abbrev pub order_after : Section → Bool → Order → Order
 order_after word rest o = record {
   last = Some word;

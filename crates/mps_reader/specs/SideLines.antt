@@ -33,6 +33,7 @@ pub record HasSideLines (ranged : Bool) (rows : DeclaredRows) (st : Sides) (earl
   pub group : bytes_of st.group ≡ side_set earlier
 
 -- ---- a line's rows with their values, behind a set's name or none
+-- the fault of the rows with their values, or that there are none
 abbrev pub some_sides_fault : Bool → DeclaredRows → RowValues → Option RowValues → Option Kind
 some_sides_fault ranged rows before None = Some kind.BadFields
 some_sides_fault ranged rows before (Some pairs) = sides_fault ranged rows before pairs

@@ -11,6 +11,7 @@ use Rattle.mps_reader.specs.declared.kinds.Stop.TheVariants as stop
 abbrev pub texts : List (Bor (List ℕ)) → List (List ℕ)
 texts fields = map (λ f. f.now) fields
 
+-- a table as a list of names with what stands under them
 abbrev pub table : {V : Type 0} → List (Bor (List ℕ) × V) → List (List ℕ × V)
 table entries = map (λ e. (e.0.now, e.1)) entries
 

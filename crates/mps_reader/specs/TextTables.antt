@@ -18,6 +18,7 @@ abbrev pub IsFaultOf : {A : Type 0} → ReadFault → Result A (ℕ × Kind) →
 IsFaultOf (fault.Refused line k) r = r ≡ Err (line, k)
 IsFaultOf fault.Memory r = Unit {0}
 
+-- why the reading stopped at this line
 abbrev pub fault_at : ℕ → Stop → ReadFault
 fault_at line (stop.Fault k) = fault.Refused line k
 fault_at line stop.Memory = fault.Memory

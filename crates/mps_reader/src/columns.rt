@@ -15,11 +15,9 @@ use crate::names::{add, has};
 use crate::numbers::number_in;
 use crate::row_table::RowTable;
 use indexmap::IndexMap;
+use problem::MOST_COLUMNS;
 use std::alloc::AllocError;
 use std::hash::BuildHasher;
-
-/// How many columns there may be.
-const MOST_COLUMNS: usize = 1000;
 
 /// One row of a column, with its value as it is spelled.
 #[derive(Clone, Copy)]

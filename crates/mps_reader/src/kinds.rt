@@ -23,7 +23,7 @@ pub enum Kind {
     BadNumber,
     /// An infinity where a number is wanted.
     Infinite,
-    /// A number of a size above 10^9.
+    /// A number of a size above `LARGEST_BOUND`.
     TooLarge,
     /// A number that is no multiple of 10^-15.
     TooFine,

@@ -1,11 +1,12 @@
 //! What the lines of BOUNDS say of a column.
 
-ghost use Rattle.std.specs.Prelude.{◌≡◌, ℕ, ◌≤◌, ◌^◌, false, true, IfOk, IfErr, None, nat_abs, if◌then◌else◌};
+ghost use Rattle.std.specs.Prelude.{◌≡◌, ℕ, ◌≤◌, false, true, IfOk, IfErr, None, nat_abs, if◌then◌else◌};
 ghost use Rattle.fraction.specs.Rational.{ceil, floor};
 ghost use Rattle.mps_reader.specs.BoundLines.{no_limits, with_limits, with_setting};
 ghost use Rattle.mps_reader.specs.Faults.{opens, type_fault};
 ghost use Rattle.mps_reader.specs.Sections.{has_value};
 ghost use Rattle.mps_reader.specs.Tables.{Stops};
+ghost use Rattle.problem.specs.Limits.{largest_bound};
 
 use crate::kinds::{BoundType, Kind, Stop};
 use crate::numbers::kind_of;
@@ -120,7 +121,7 @@ fn with_both(limits: ColumnBounds, upper: Option<i64>, lower: Option<i64>) -> Co
 
 /// The greatest whole number that is at most this one.
 fn floor_of(number: Frac) -> i64
-    requires { nat_abs (floor number) ≤ 10 ^ 9 }
+    requires { nat_abs (floor number) ≤ largest_bound }
     ensures { result ≡ floor number }
 {
     number.floor() as i64
@@ -128,7 +129,7 @@ fn floor_of(number: Frac) -> i64
 
 /// The least whole number that is at least this one.
 fn ceil_of(number: Frac) -> i64
-    requires { nat_abs (ceil number) ≤ 10 ^ 9 }
+    requires { nat_abs (ceil number) ≤ largest_bound }
     ensures { result ≡ ceil number }
 {
     number.ceil() as i64

@@ -17,7 +17,7 @@ pub const TEXT_LIMIT: usize = 4_194_304;
 
 /// The problem that a text reads as, or why it gives none.
 ///
-/// `upper` is the upper bound of columns that have none, and its negative the lower bound of those that have none; it is at most 10^9.
+/// `upper` is the upper bound of columns that have none, and its negative the lower bound of those that have none; it is at most `LARGEST_BOUND`.
 /// `Refused` has the text's first fault with its line; `Memory` where memory is wanting. The keys of the names' hash change no answer.
 pub fn read_mps<B: BuildHasher + Drop>(
     alloc: Global,

@@ -11,10 +11,8 @@ ghost use Rattle.mps_reader.specs.Tables.{texts, table, Stops};
 use crate::kinds::{Kind, RowType, Stop};
 use crate::names::add;
 use indexmap::IndexMap;
+use problem::MOST_ROWS;
 use std::hash::BuildHasher;
-
-/// How many rows there may be.
-pub const MOST_ROWS: usize = 1000;
 
 /// The type that a word names.
 pub fn row_type_of(word: &[u8]) -> Option<RowType>

@@ -3,19 +3,21 @@
 ghost use Rattle.std.specs.Prelude.{◌≡◌, ◌≢◌, ℕ, ◌<◌, ◌++◌, ◌∷◌, ◌==◌, ◌&&◌, ◌||◌, [], OnOk, IfOk, IfErr, IfSome, List, None, Some, true, false, if◌then◌else◌, length, nat_le, ◌+◌, pos};
 ghost use Rattle.std.specs.Option.{option_map};
 ghost use Rattle.fraction.specs.Rational.{whole};
-ghost use Rattle.mps_reader.specs.Faults.{counted, differs, is_counted, most_rows, side_fault, when};
+ghost use Rattle.mps_reader.specs.Faults.{counted, differs, is_counted, side_fault, when};
 ghost use Rattle.mps_reader.specs.RowsSoFar.{IsRowAt};
 ghost use Rattle.mps_reader.specs.Sections.{RowValues, pairs_of};
 ghost use Rattle.mps_reader.specs.SideLines.{HasSides, TakesFields, TakesRows, number_for};
 ghost use Rattle.mps_reader.specs.Tables.{Stops, table, bytes_of, texts};
 ghost use Rattle.mps_reader.specs.Words.{value_under};
+ghost use Rattle.problem.specs.Limits.{most_rows};
 
 use crate::kinds::{Kind, RowType, Stop};
 use crate::numbers::side_number;
-use crate::rows::{MOST_ROWS, is_counted};
+use crate::rows::is_counted;
 use crate::side_table::SideTable;
 use fraction::Frac;
 use indexmap::IndexMap;
+use problem::MOST_ROWS;
 use std::hash::BuildHasher;
 
 /// The numbers of the rows so far, the set's name, and how many of these rows count where they are ranges.

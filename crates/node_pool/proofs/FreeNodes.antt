@@ -1,30 +1,26 @@
 -- The list of the free nodes, event by event.
-use Rattle.std.specs.Prelude.{◌≡◌, ◌<◌, ◌≤◌, ◌+◌, ℕ, ℤ, Bool, true, false, not, ◌&&◌, ◌||◌, nat_eq, List, [], ◌∷◌, ◌++◌, length, Option, Some, None, slice_index_or, slice_set, refl}
+use Rattle.std.specs.Prelude.{◌≡◌, ◌<◌, ◌+◌, ℕ, ℤ, Bool, true, false, not, ◌&&◌, ◌||◌, nat_eq, List, [], ◌∷◌, ◌++◌, length, Option, Some, None, slice_index_or, slice_set, refl, cond, pos}
 use Rattle.std.specs.List.{list_any}
-use Rattle.std.proofs.Common.{sym, ap, ◌∙◌, subst, inl, inr, arith, length-append}
+use Rattle.std.proofs.Common.{sym, ap, ◌∙◌, subst, inl, inr, arith}
 use Rattle.std.proofs.lemmas.Bool.{cases_lt, eqb-true, eq-eqb}
 use Rattle.std.proofs.lemmas.List.{append-nil, append_assoc, length-set}
 use Rattle.std.proofs.lemmas.List.Folds.{list_any-append, list_any_at}
-use Rattle.problem.specs.declared.row.Row.{Row}
-use Rattle.problem.specs.Linear.{Multipliers}
-use Rattle.derivation_book.specs.Rounded.{rounded_row}
 use Rattle.node_events.specs.declared.event.Event.{Event}
-use Rattle.node_events.specs.declared.event.Event.TheVariants.{Claim, Release, Cut, Offer, Split, Close}
-use Rattle.node_tree.specs.declared.branch.Node.{Node}
 use Rattle.event_core.specs.declared.entry.Holder.{Holder}
 use Rattle.event_core.specs.declared.admit.Admit.TheVariants.{Yes}
 use Rattle.event_core.specs.States.{State, is_open}
 use Rattle.event_core.specs.Holds.{is_held, holds_node}
 use Rattle.event_core.specs.Judging.{judged}
-use Rattle.event_core.specs.After.{after, after_claim, after_release, after_cut, after_split, after_close}
+use Rattle.event_core.specs.After.{after, after_claim, after_release, after_split, after_close}
 use Rattle.event_core.specs.Histories.{is_journaled}
 use Rattle.event_core.specs.Sound.{IsSound}
 use Rattle.event_core.specs.Lemmas.Ended.{is_left, left_within}
-use Rattle.event_core.specs.Lemmas.Passing.{split_passed, close_passed}
 use Rattle.node_pool.specs.Free.{has_node, AreRising, AreFreeNodes, children_of}
 use Rattle.node_pool.specs.Answers.{IsGreatestFree}
 use Rattle.node_pool.proofs.RisingLists.{is_false, or_cases, or_end, has-push, AreBelow, missing, rising-push, below-push, rising-front, below-last, greatest_last, has_last, fewer, below_has}
 use Rattle.node_pool.proofs.OpenAndHeld.{and_no, and_yes, or_no, left-set, left-two, is_of_two, held-push, held-without, held_by, held_open, given, given_back, split_off}
+use Rattle.event_core.specs.Frames.{is_split, ended_by, opened_by, with_ended, without_holds, KeepsFrame}
+use Rattle.event_core.specs.Lemmas.Frames.{keeps_frame, journaled_claims, journaled_frees, freed_yours, splits_end, freed_holds}
 
 -- ---- what is free
 open_if : (o h : Bool) → (o && not h) ≡ true → o ≡ true
@@ -131,34 +127,55 @@ module _ (s : State) (w n : ℕ) (sound : IsSound s) (held : holds_node s w n �
           ∙ ap (λ c. c || is_of_two (length s.nodes) i) (left-set s.ended n i)
 
 -- ---- any event that a journal has
-cut_nodes : (s : State) (mult : Multipliers) (o : Option Row) (ns : List ℕ) → AreFreeNodes s ns → AreFreeNodes (after_cut s mult o) ns
-cut_nodes s mult None ns h = h
-cut_nodes s mult (Some r) ns h = record { rising = h.rising; listed = h.listed }
+-- what is free is told by the nodes that have ended and by the holds
+same_parts : (s t : State) (ns : List ℕ) → t.ended ≡ s.ended → t.holds ≡ s.holds → AreFreeNodes s ns → AreFreeNodes t ns
+same_parts s t ns e h a = record {
+  rising = a.rising;
+  listed = λ i. a.listed i ∙ sym (λ k. not (slice_index_or (e k) i true) && not (list_any (λ (held : Holder). nat_eq held.node i) (h k)));
+}
 
-same : (t : State) (ns : List ℕ) → AreFreeNodes t ns → AreFreeNodes t (ns ++ [])
-same t ns h = subst (AreFreeNodes t) (sym (append-nil ns)) h
+none_made : (b : Bool) (n : ℕ) → b ≡ false → cond b (n ∷ (n + 1) ∷ []) [] ≡ []
+none_made true n e = cc
+none_made false n e = refl
 
-pub added_nodes : (s : State) (w : ℕ) (e : Event) (ns : List ℕ) → IsSound s → judged s (Some w) e ≡ Yes → is_journaled e ≡ true → AreFreeNodes s ns
-    → AreFreeNodes (after s (Some w) e) (ns ++ children_of e (length s.nodes))
-added_nodes s w (Claim i) ns sound admitted journaled h = cc
-added_nodes s w (Release i) ns sound admitted journaled h = cc
-added_nodes s w (Cut mult) ns sound admitted journaled h = same _ ns (cut_nodes s mult (rounded_row s.problem s.cuts mult) ns h)
-added_nodes s w (Offer x) ns sound admitted journaled h = same _ ns (record { rising = h.rising; listed = h.listed })
-added_nodes s w (Split i j b r) ns sound admitted journaled h = split_nodes s w i sound (split_passed s (Some w) i j b r admitted).yours j b ns h
-added_nodes s w (Close i proof) ns sound admitted journaled h = same _ ns (closed_nodes s w i sound (close_passed s (Some w) i proof admitted).yours ns h)
+module _ (s : State) (w : ℕ) (e : Event) (ns : List ℕ) (sound : IsSound s) (admitted : judged s (Some w) e ≡ Yes) (journaled : is_journaled e ≡ true) (h : AreFreeNodes s ns) where
+  abbrev t : State
+  t = after s (Some w) e
 
--- ---- how many nodes there are then
-cut_count : (s : State) (mult : Multipliers) (o : Option Row) → length (after_cut s mult o).nodes ≤ length s.nodes + 2
-cut_count s mult None = omega arith
-cut_count s mult (Some r) = omega arith
+  abbrev frame : KeepsFrame s (Some w) e
+  frame = keeps_frame s (Some w) e
 
-pub two_more : (s : State) (w : Option ℕ) (e : Event) → length (after s w e).nodes ≤ length s.nodes + 2
-two_more s w (Claim i) = omega arith
-two_more s w (Release i) = omega arith
-two_more s w (Cut mult) = cut_count s mult (rounded_row s.problem s.cuts mult)
-two_more s w (Offer x) = omega arith
-two_more s w (Split i j b r) = omega (arith, length-append {A = Node}, length-set {A = Node})
-two_more s w (Close i proof) = omega arith
+  freed : (o : Option ℕ) → ended_by e ≡ o → t.holds ≡ without_holds o s.holds
+  freed o n = freed_holds s (Some w) e (journaled_claims e journaled) ∙ ap (λ (k : Option ℕ). without_holds k s.holds) (journaled_frees e journaled ∙ n)
+
+  ended : (o : Option ℕ) → ended_by e ≡ o → t.ended ≡ with_ended o s.ended ++ opened_by e
+  ended o n = frame.ended ∙ ap (λ (k : Option ℕ). with_ended k s.ended ++ opened_by e) n
+
+  opened : (b : Bool) → is_split e ≡ b → opened_by e ≡ cond b (false ∷ false ∷ []) []
+  opened b q = ap (λ (c : Bool). cond c (false ∷ false ∷ []) []) q
+
+  made : (b : Bool) → is_split e ≡ b → children_of e (length s.nodes) ≡ cond b (length s.nodes ∷ (length s.nodes + 1) ∷ []) []
+  made b q = ap (λ (c : Bool). cond c (length s.nodes ∷ (length s.nodes + 1) ∷ []) []) q
+
+  yours : (i : ℕ) → ended_by e ≡ Some i → holds_node s w i ≡ true
+  yours i n = freed_yours s (Some w) e i admitted (journaled_frees e journaled ∙ n)
+
+  pub added_nodes : AreFreeNodes t (ns ++ children_of e (length s.nodes))
+  added_nodes = step (ended_by e) refl (is_split e) refl
+    where
+      step : (o : Option ℕ) → ended_by e ≡ o → (b : Bool) → is_split e ≡ b → AreFreeNodes t (ns ++ children_of e (length s.nodes))
+      step None n b q =
+          let still : is_split e ≡ false = splits_end e n in
+          subst (AreFreeNodes t) (sym (ap (λ (ms : List ℕ). ns ++ ms) (made false still) ∙ append-nil ns))
+          (same_parts s t ns (ended None n ∙ (ap (λ (bs : List Bool). s.ended ++ bs) (opened false still) ∙ append-nil s.ended)) (freed None n) h)
+      step (Some i) n false q =
+          subst (AreFreeNodes t) (sym (ap (λ (ms : List ℕ). ns ++ ms) (made false q) ∙ append-nil ns))
+          (same_parts (after_close s i) t ns (ended (Some i) n ∙ (ap (λ (bs : List Bool). slice_set s.ended i true ++ bs) (opened false q) ∙ append-nil (slice_set s.ended i true))) (freed (Some i) n)
+          (closed_nodes s w i sound (yours i n) ns h))
+      step (Some i) n true q =
+          subst (λ (ms : List ℕ). AreFreeNodes t (ns ++ ms)) (sym (made true q))
+          (same_parts (after_split s i 0 (pos 0)) t (ns ++ length s.nodes ∷ (length s.nodes + 1) ∷ []) (ended (Some i) n ∙ ap (λ (bs : List Bool). slice_set s.ended i true ++ bs) (opened true q)) (freed (Some i) n)
+          (split_nodes s w i sound (yours i n) 0 (pos 0) ns h))
 
 -- ---- states of the same nodes and holds
 pub moved_nodes : (s t : State) (ns ms : List ℕ) → t ≡ s → ms ≡ ns → AreFreeNodes s ns → AreFreeNodes t ms

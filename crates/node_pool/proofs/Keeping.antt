@@ -10,6 +10,7 @@ use Rattle.event_core.specs.States.{State}
 use Rattle.event_core.specs.After.{after, after_claim}
 use Rattle.event_core.specs.Histories.{is_journaled, journaled}
 use Rattle.event_core.specs.Laws.{unheld}
+use Rattle.event_core.specs.Lemmas.Frames.{unheld_other}
 use Rattle.event_codec.specs.Codes.{code}
 use Rattle.node_journal.specs.Records.{records}
 use Rattle.node_journal.specs.History.{IsPrefixOf}
@@ -81,14 +82,6 @@ module _ (s t : State) (es fs : List Entry) (w : Option ℕ) (e : Event) (other 
 
   pub same_leaves : (from : ℕ) (past : List Moment) (now : Moment) (h : Option Halt) → LeavesPrefixes from past now es h → LeavesPrefixes from past now fs h
   same_leaves from past now h all = leaves_given from past now es fs h h (given_same es fs h same_journaled) all
-
-unheld_other : (s : State) (w : Option ℕ) (e : Event) → is_journaled e ≡ false → unheld (after s w e) ≡ unheld s
-unheld_other s w (event.Claim i) j = refl
-unheld_other s w (event.Release i) j = refl
-unheld_other s w (event.Cut mult) j = cc
-unheld_other s w (event.Offer x) j = cc
-unheld_other s w (event.Split i k b r) j = cc
-unheld_other s w (event.Close i proof) j = cc
 
 pub halts_other : (faults budget count : ℕ) (fault : Option ℕ) (s t : State) (h : Option Halt) (w : Option ℕ) (e : Event) → is_journaled e ≡ false → t ≡ after s w e → IsHalt faults budget count fault s h
     → IsHalt faults budget count fault t h

@@ -1,10 +1,10 @@
 -- The open nodes that nobody holds.
-use Rattle.std.specs.Prelude.{◌≡◌, ◌<◌, ◌+◌, ℕ, Bool, not, ◌&&◌, nat_eq, List, [], ◌∷◌}
+use Rattle.std.specs.Prelude.{◌≡◌, ◌<◌, ◌+◌, ℕ, Bool, not, if◌then◌else◌, ◌&&◌, nat_eq, List, [], ◌∷◌}
 use Rattle.std.specs.List.{AllPairs, list_any}
 use Rattle.node_events.specs.declared.event.Event.{Event}
-use Rattle.node_events.specs.declared.event.Event.TheVariants.{Claim, Release, Cut, Offer, Split, Close}
 use Rattle.event_core.specs.States.{State, is_open}
 use Rattle.event_core.specs.Holds.{is_held}
+use Rattle.event_core.specs.Frames.{is_split}
 
 -- the node is open, and nobody holds it
 abbrev pub is_free : State → ℕ → Bool
@@ -25,9 +25,4 @@ pub record AreFreeNodes (s : State) (ns : List ℕ) : Type 0 where
 
 -- the children of the node that the event splits, where the next node has this number
 abbrev pub children_of : Event → ℕ → List ℕ
-children_of (Split i j b reason) n = n ∷ (n + 1) ∷ []
-children_of (Claim i) n = []
-children_of (Release i) n = []
-children_of (Cut mult) n = []
-children_of (Offer x) n = []
-children_of (Close i proof) n = []
+children_of e n = if is_split e then n ∷ (n + 1) ∷ [] else []

@@ -1,13 +1,13 @@
 -- What a halt says of its pool.
-use Rattle.std.specs.Prelude.{◌≡◌, ℕ, ◌+◌, Bool, true, false, nat_lt, length, Option, Some, None, Result, Ok, Err}
+use Rattle.std.specs.Prelude.{◌≡◌, ℕ, ◌+◌, Bool, true, false, ◌&&◌, nat_lt, length, Option, Some, None, Result, Ok, Err}
 use Rattle.outside.specs.Faults.{Rose}
 use Rattle.node_events.specs.declared.event.Event.{Event}
-use Rattle.node_events.specs.declared.event.Event.TheVariants.{Claim, Release, Cut, Offer, Split, Close}
 use Rattle.event_core.specs.declared.admit.Admit.TheVariants.{Yes}
 use Rattle.event_core.specs.States.{State}
 use Rattle.event_core.specs.Judging.{judged}
 use Rattle.event_core.specs.Histories.{is_journaled}
 use Rattle.event_core.specs.Laws.{unheld}
+use Rattle.event_core.specs.Frames.{is_split}
 use Rattle.event_codec.specs.Codes.{IsCodable}
 use Rattle.event_codec.specs.Types.{IsEvent}
 use Rattle.node_pool.specs.declared.halt.Halt.{Halt}
@@ -18,12 +18,7 @@ use Rattle.node_pool.specs.declared.answers.CommitFault.TheVariants as fault
 
 -- the event splits a node of a tree of so many, and with the two children the nodes are more than the budget
 abbrev pub passes_budget : ℕ → ℕ → Event → Bool
-passes_budget budget nodes (Split i j b reason) = nat_lt budget (nodes + 2)
-passes_budget budget nodes (Claim i) = false
-passes_budget budget nodes (Release i) = false
-passes_budget budget nodes (Cut mult) = false
-passes_budget budget nodes (Offer x) = false
-passes_budget budget nodes (Close i proof) = false
+passes_budget budget nodes e = is_split e && nat_lt budget (nodes + 2)
 
 -- A journal may have the event next: it is admitted without a worker in this state, in which nobody holds a node.
 pub record IsNext (s : State) (e : Event) : Type 0 where
@@ -67,10 +62,14 @@ halt_after h (Err fault.Halted) e count = h
 halt_after h (Err fault.Budget) e count = Some (halt.Budget e)
 halt_after h (Err fault.Disk) e count = Some (halt.Disk count e)
 
+-- the fault is the disk's
+abbrev pub is_disk_fault : CommitFault → Bool
+is_disk_fault fault.Disk = true
+is_disk_fault fault.Budget = false
+is_disk_fault fault.Memory = false
+is_disk_fault fault.Halted = false
+
 -- the commit failed by a fault of the disk
 abbrev pub fails_by_disk : Result Receipt CommitFault → Bool
 fails_by_disk (Ok r) = false
-fails_by_disk (Err fault.Memory) = false
-fails_by_disk (Err fault.Halted) = false
-fails_by_disk (Err fault.Budget) = false
-fails_by_disk (Err fault.Disk) = true
+fails_by_disk (Err f) = is_disk_fault f

@@ -1,5 +1,5 @@
 // The payload of an event.
-ghost use Rattle.std.specs.Prelude.{◌≡◌, ◌<◌, ◌^◌, true, IfOk, OnOk, length};
+ghost use Rattle.std.specs.Prelude.{◌≡◌, ◌<◌, ◌^◌, ◌↔◌, true, IsTrue, IfOk, OnOk, length};
 ghost use Rattle.event_core.specs.Histories.{is_journaled};
 ghost use Rattle.event_codec.specs.Codes.{code, IsCodable};
 ghost use Rattle.event_codec.specs.Types.{IsEvent};
@@ -14,7 +14,7 @@ const LIMIT: usize = 1 << 32;
 /// Whether the list of an event has fewer elements than a code can tell, if the event has one.
 fn is_codable(event: &Event) -> bool
     requires { is_journaled event.now ≡ true }
-    ensures { result ≡ true → IsCodable event.now }
+    ensures { IsTrue result ↔ IsCodable event.now }
 {
     match event {
         Event::Claim { .. } | Event::Release { .. } => false,

@@ -9,6 +9,7 @@ ghost use Rattle.node_pool.specs.Halting.{IsHalt};
 ghost use Rattle.node_pool.specs.Payloads.{IsJournalOf, LeavesPrefixes};
 ghost use Rattle.node_pool.specs.Stored.{IsStored};
 ghost use Rattle.node_pool.specs.Lemmas.Props.{AllStored-prop, IsHalt-prop};
+ghost use Rattle.node_tree.specs.Limits.{most_nodes};
 
 use crate::Halt;
 use crate::free::free_nodes;
@@ -31,7 +32,7 @@ pub struct Pool<D: Disk> {
     ghost listed: { AreFreeNodes state.state free.items },
     // A release takes no memory.
     ghost room: { length state.state.nodes ≤ vec_capacity free },
-    ghost few: { budget ≤ 1_000_000_000 },
+    ghost few: { budget ≤ most_nodes },
     ghost counted: { journal.count ≡ length (journaled state.history) + 1 },
     ghost stored: { AllByRecursion IsStored (journaled state.history) } by { AllStored-prop (journaled state.history) },
     ghost stands: { D.tells ≡ true → journal.fault ≡ None → IsJournalOf (payloads_in (D.now journal.disk)) state.history },
@@ -48,7 +49,7 @@ impl<D: Disk> Pool<D> {
         journal: Journal<D>,
         budget: u32,
     ) -> Result<Pool<D>, (State, Journal<D>)>
-        requires few { budget ≤ 1_000_000_000 }
+        requires few { budget ≤ most_nodes }
         requires unheld { state.state.holds ≡ [] }
         requires sound { journal.fault ≡ None }
         requires counted { journal.count ≡ length (journaled state.history) + 1 }
@@ -128,7 +129,7 @@ impl<D: Disk> Pool<D> {
         ensures crashes { D.tells ≡ true → LeavesPrefixes self.now.journal.opened (D.past self.now.journal.disk) (D.now self.now.journal.disk) self.now.state.history self.now.halt }
         ensures halted { IsHalt self.now.faults self.now.budget (D.count self.now.journal.disk) self.now.journal.fault self.now.state.state self.now.halt }
         ensures kept { D.tells ≡ true → KeepsHistory self.now.journal.opened (D.past self.now.journal.disk) (D.now self.now.journal.disk) (payloads_in (D.now self.now.journal.disk)) self.now.journal.fault }
-        ensures few { self.now.budget ≤ 1_000_000_000 }
+        ensures few { self.now.budget ≤ most_nodes }
         // The disk has counted no fewer faults than when the pool was made.
         ensures rising { self.now.faults ≤ D.count self.now.journal.disk }
     {

@@ -1,17 +1,16 @@
 -- Walks up a tree.
-use Rattle.std.specs.Prelude.{◌≡◌, ◌<◌, ◌≤◌, ◌+◌, ◌&&◌, eqb, ℕ, cond, Bool, true, false, List, [], ◌∷◌, ◌++◌, length, Some, None, drop}
-use Rattle.std.proofs.Common.{ap, ◌∙◌, subst, append_assoc, arith}
-use Rattle.std.proofs.Math.Seq.{drop-append_seam}
+use Rattle.std.specs.Prelude.{◌≡◌, ◌<◌, ◌≤◌, ◌+◌, ◌&&◌, eqb, ℕ, cond, Bool, true, false, List, [], ◌∷◌, length, Some, None}
+use Rattle.std.proofs.Common.{ap, ◌∙◌, arith}
 use Rattle.problem_box.specs.declared.span.Span.{Span}
 use Rattle.node_tree.specs.declared.branch.Side.{Side}
 use Rattle.node_tree.specs.declared.branch.Branch.{Branch}
 use Rattle.node_tree.specs.declared.branch.Node.{Node}
 use Rattle.node_tree.specs.Nodes.{Tree, node_at, branch_at}
-use Rattle.node_tree.specs.Paths.{path_at, box_along, setting, is_same_side}
-use Rattle.node_tree.specs.Cuts.{IsInside, AreInside}
+use Rattle.node_tree.specs.Paths.{path_at, setting, is_same_side}
 use Rattle.node_tree.specs.Trees.{IsTree}
 use Rattle.node_tree.specs.Lemmas.Paths.{path_end, path_child}
 use Rattle.node_tree.specs.Lemmas.Insides.{reached_by, downwards}
+use Rattle.node_tree.specs.Limits.{most_nodes}
 
 module _ (t : Tree) (tree : IsTree t) where
   pub path_stops : (i : ℕ) → branch_at t i ≡ None → path_at t i ≡ []
@@ -24,7 +23,7 @@ module _ (t : Tree) (tree : IsTree t) where
   parent_there i b e = let r = reached_by t tree i b e in (r.downwards, omega (arith, r.downwards, r.there))
 
   -- a first child has a next number, which is that of a node
-  pub second_child : length t.nodes ≤ 1_000_000_000 → (i k : ℕ) → (node_at t i).first_child ≡ Some k → k + 1 < 1_000_000_000
+  pub second_child : length t.nodes ≤ most_nodes → (i k : ℕ) → (node_at t i).first_child ≡ Some k → k + 1 < most_nodes
   second_child few i k e = let r = reached_by t tree (k + 1) _ (tree.children i k e).right in omega (arith, r.there, few)
 
   -- the walk goes on past a branch that set another bound, and stops at one that set this one
@@ -46,20 +45,3 @@ other_room root nodes a b h = record {
   reached = λ i l m. let r = h.reached i l m in record { branch = r.branch; reached = r.reached; downwards = r.downwards; child = r.child; inside = r.inside };
   children = λ i k e. let c = h.children i k e in record { column = c.column; bound = c.bound; left = c.left; right = c.right };
 }
-
--- ---- a path whose last branch is taken off
-pub popped : {X : Type 0} (xs ps qs : List X) (x : X) → xs ≡ ps ++ drop (length ps) xs → ps ≡ qs ++ x ∷ [] → drop (length qs) xs ≡ x ∷ drop (length ps) xs
-popped xs ps qs x e h =
-    let all : xs ≡ qs ++ (x ∷ drop (length ps) xs) = e ∙ ap (λ zs. zs ++ drop (length ps) xs) h ∙ append_assoc qs (x ∷ []) (drop (length ps) xs) in
-    ap (drop (length qs)) all ∙ drop-append_seam qs (x ∷ drop (length ps) xs)
-
-inside_suffix : (root : List Span) (qs ds : List (ℕ × Branch)) → AreInside root (qs ++ ds) → AreInside root ds
-inside_suffix root [] ds h = h
-inside_suffix root (q ∷ qs) ds h = inside_suffix root qs ds h.1
-
-pub last_inside : (root : List Span) (xs ps qs : List (ℕ × Branch)) (x : ℕ × Branch) → AreInside root xs → xs ≡ ps ++ drop (length ps) xs → ps ≡ qs ++ x ∷ []
-    → IsInside (box_along (drop (length ps) xs) 0 root) x.1
-last_inside root xs ps qs x i e h =
-    let all : xs ≡ qs ++ (x ∷ drop (length ps) xs) = e ∙ ap (λ zs. zs ++ drop (length ps) xs) h ∙ append_assoc qs (x ∷ []) (drop (length ps) xs) in
-    let r : AreInside root (x ∷ drop (length ps) xs) = inside_suffix root qs (x ∷ drop (length ps) xs) (subst (AreInside root) all i) in
-    r.0

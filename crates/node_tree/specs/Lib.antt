@@ -1,7 +1,11 @@
+pub mod Limits
 pub mod Nodes
 pub mod Paths
 pub mod Cuts
 pub mod Splits
 pub mod Trees
 pub mod Laws
+pub mod Entries
+pub mod Replaced
+pub mod Walks
 pub mod Lemmas

@@ -3,8 +3,11 @@
 
 mod branch;
 pub mod laws;
-mod path;
+mod limits;
+mod nodes;
 mod tree;
+mod walk;
 
 pub use branch::{Branch, Side};
+pub use limits::MOST_NODES;
 pub use tree::Tree;

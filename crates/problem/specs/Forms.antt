@@ -5,6 +5,7 @@ use Rattle.fraction.specs.Narrow.{narrow}
 use Rattle.problem.specs.declared.term.Form.{Form}
 use Rattle.problem.specs.declared.term.Form.TheVariants.{Narrow, Wide}
 
+-- the column and the coefficient, however they are kept
 abbrev pub pair_of : Form → ℕ × ℚ
 pair_of (Narrow column coefficient) = (column, coefficient)
 pair_of (Wide column coefficient) = (column, coefficient.value)

@@ -1,3 +1,4 @@
+pub mod Limits
 pub mod Linear
 pub mod Rows
 pub mod Problem

@@ -6,6 +6,7 @@ use Rattle.problem.specs.declared.row.Sense.TheVariants.{G, L, E}
 use Rattle.problem.specs.declared.row.Row.{Row}
 use Rattle.problem.specs.Linear.{Point, value}
 
+-- a list of rows
 abbrev pub Rows : Type 0
 Rows = List Row
 

@@ -1,6 +1,7 @@
 //! Integer programs over a box: minimise an objective over the whole points of the box that satisfy the rows.
 #![tactic(auto)]
 
+mod limits;
 mod names;
 mod point;
 mod program;
@@ -8,6 +9,7 @@ mod row;
 mod term;
 mod terms;
 
+pub use limits::{LARGEST_BOUND, LARGEST_CUT_COEFFICIENT, MOST_COLUMNS, MOST_CUTS, MOST_ROWS};
 pub use names::Names;
 pub use point::Point;
 pub use program::Problem;

@@ -97,14 +97,30 @@ impl IntBox {
         requires inside { ForSome (slice_get self.old column) (λ s. (s.lo ≤ℤ bound) × (bound <ℤ s.hi)) }
         ensures { self.new ≡ cut_high self.old column bound }
     {
-        let span = self.span(column);
-        self.spans[column] = span.with_high(bound);
+        self.set_high(column, bound);
     }
 
     /// Sets a column's lower bound to a greater one that the span has. No other bound changes.
     pub fn cut_low(&mut self, column: usize, bound: i64)
         requires there { column < length self.old }
         requires inside { ForSome (slice_get self.old column) (λ s. (s.lo <ℤ bound) × (bound ≤ℤ s.hi)) }
+        ensures { self.new ≡ cut_low self.old column bound }
+    {
+        self.set_low(column, bound);
+    }
+
+    /// Sets a column's upper bound, also to a greater one. No other bound changes.
+    pub fn set_high(&mut self, column: usize, bound: i64)
+        requires { column < length self.old }
+        ensures { self.new ≡ cut_high self.old column bound }
+    {
+        let span = self.span(column);
+        self.spans[column] = span.with_high(bound);
+    }
+
+    /// Sets a column's lower bound, also to a smaller one. No other bound changes.
+    pub fn set_low(&mut self, column: usize, bound: i64)
+        requires { column < length self.old }
         ensures { self.new ≡ cut_low self.old column bound }
     {
         let span = self.span(column);

@@ -6,6 +6,7 @@ use Rattle.pseudo_cost.specs.declared.column_gains.ColumnGains.{ColumnGains}
 use Rattle.pseudo_cost.specs.declared.column_gains.SideGains.{SideGains}
 use Rattle.pseudo_cost.specs.SideGains.{no_gains, with_gain, average, IsWithinLimits}
 
+-- a column that has noted nothing
 abbrev pub no_column_gains : ColumnGains
 no_column_gains = record { down = no_gains; up = no_gains }
 
@@ -31,6 +32,7 @@ noted j side g cs = slice_set cs j (noted_on side g (gains_at cs j))
 abbrev pub score : ColumnGains → ℕ
 score c = (average c.down + 1) * (average c.up + 1)
 
+-- column j's score
 abbrev pub score_at : List ColumnGains → ℕ → ℕ
 score_at cs j = score (gains_at cs j)
 

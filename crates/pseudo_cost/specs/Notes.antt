@@ -17,6 +17,7 @@ abbrev pub all_noted : List ColumnGains → List Note → List ColumnGains
 all_noted cs [] = cs
 all_noted cs (n ∷ ns) = all_noted (noted n.column n.side n.gain cs) ns
 
+-- both sides are the same one
 abbrev pub is_same_side : Side → Side → Bool
 is_same_side Down Down = true
 is_same_side Down Up = false

@@ -1,7 +1,8 @@
 // The gains that a column has noted.
-ghost use Rattle.std.specs.Prelude.{◌≡◌, ◌+◌, ◌*◌, ◌^◌, ◌≤◌};
+ghost use Rattle.std.specs.Prelude.{◌≡◌, ◌+◌, ◌*◌, ◌≤◌};
 ghost use Rattle.pseudo_cost.specs.SideGains.{with_gain, average, IsWithinLimits};
 ghost use Rattle.pseudo_cost.specs.ColumnGains.{noted_on, score, AreWithinLimits};
+ghost use Rattle.pseudo_cost.specs.Gains.{largest_gain};
 
 use crate::side::Side;
 
@@ -30,7 +31,7 @@ impl SideGains {
     /// These gains and one more. A side that has 2^32 takes no more.
     pub fn with(self, gain: u32) -> SideGains
         requires limits { IsWithinLimits self }
-        requires held { gain ≤ 1_000_000_000 }
+        requires held { gain ≤ largest_gain }
         ensures value { result ≡ with_gain gain self }
         ensures limits { IsWithinLimits result }
     {
@@ -47,7 +48,7 @@ impl SideGains {
     pub fn average(self) -> u64
         requires { IsWithinLimits self }
         ensures value { result ≡ average self }
-        ensures bounded { result ≤ 1_000_000_000 }
+        ensures bounded { result ≤ largest_gain }
     {
         if self.count == 0 {
             return 0;
@@ -83,7 +84,7 @@ impl ColumnGains {
     /// These gains and one more on a side.
     pub fn with(self, side: Side, gain: u32) -> ColumnGains
         requires limits { AreWithinLimits self }
-        requires held { gain ≤ 1_000_000_000 }
+        requires held { gain ≤ largest_gain }
         ensures value { result ≡ noted_on side gain self }
         ensures limits { AreWithinLimits result }
     {

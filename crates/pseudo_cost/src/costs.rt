@@ -1,6 +1,7 @@
 // The pseudo-costs of a problem's columns.
 ghost use Rattle.std.specs.Prelude.{◌≡◌, ◌<◌, ◌≤◌, All, IfOk, length, replicate};
 ghost use Rattle.pseudo_cost.specs.ColumnGains.{no_column_gains, noted, IsBetterOf, IsBestColumn};
+ghost use Rattle.pseudo_cost.specs.Gains.{largest_gain};
 
 use crate::column_gains::ColumnGains;
 use crate::side::Side;
@@ -47,7 +48,7 @@ impl Costs {
     /// A side that has noted 2^32 gains takes no more.
     pub fn note(&mut self, column: usize, side: Side, gain: u32)
         requires there { column < length self.old }
-        requires bounded { gain ≤ 1_000_000_000 }
+        requires bounded { gain ≤ largest_gain }
         ensures value { self.new ≡ noted column side gain self.old }
         ensures columns { length self.new ≡ length self.old }
     {

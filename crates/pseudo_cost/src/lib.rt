@@ -8,5 +8,5 @@ pub mod laws;
 mod side;
 
 pub use costs::Costs;
-pub use gains::{GREATEST_GAIN, gain};
+pub use gains::{LARGEST_GAIN, gain};
 pub use side::Side;

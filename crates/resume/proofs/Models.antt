@@ -7,6 +7,7 @@ use Rattle.std.proofs.lemmas.Int.{ints, to_z-of_z}
 use Rattle.std.specs.Int.RustNames.{FitsSigned}
 use Rattle.std.specs.Int.{w64, cast_unsigned, cast_signed}
 use Rattle.problem.specs.Problem.{Problem}
+use Rattle.problem.specs.Limits.{largest_bound}
 use Rattle.event_codec.specs.Codes.{i64_code}
 use Rattle.event_codec.specs.Models.{Model, IsUpper, upper_code, model_code}
 use Rattle.event_codec.specs.declared.fault.CodecFault.{CodecFault}
@@ -89,15 +90,15 @@ short_text text upper p h =
     not_less a b e = grind (arith, nat_tests)
 
 pub small_model : (text : List ℕ) (upper : Option ℤ) (p : Problem) → IsTextOf text upper p → length (model_code text upper) < 2 ^ 32
-small_model text upper p is = let s : length text ≤ 4194304 = short_text text (bound_of upper) p is.reads in omega (arith, length-model_code text upper, s)
+small_model text upper p is = let s : length text ≤ text_limit = short_text text (bound_of upper) p is.reads in omega (arith, length-model_code text upper, s)
 
 -- an upper bound fits the reader's type, and its own
-pub small_size : (z : ℤ) → IsUpper z → nat_abs z ≤ 1000000000
+pub small_size : (z : ℤ) → IsUpper z → nat_abs z ≤ largest_bound
 small_size (pos n) h = omega (arith, ints)
 small_size (negsuc n) h = absurd (omega (arith, ints))
 
 upper_fits : (z : ℤ) → IsUpper z → FitsSigned w64 z
 upper_fits z h = grind (arith, ints)
 
-pub read_size : (z : ℤ) (n : ℕ) → IsUpper z → n ≡ nat_abs (cast_signed w64 (cast_unsigned w64 z)) → n ≤ 1000000000
+pub read_size : (z : ℤ) (n : ℕ) → IsUpper z → n ≡ nat_abs (cast_signed w64 (cast_unsigned w64 z)) → n ≤ largest_bound
 read_size z n h e = let same : cast_signed w64 (cast_unsigned w64 z) ≡ z = to_z-of_z w64 z (upper_fits z h) in let le = small_size z h in omega (arith, e ∙ ap (λ (y : ℤ). nat_abs y) same, le)

@@ -4,15 +4,11 @@ use Rattle.std.proofs.Common.{arith, sym, ◌∙◌, ap, subst}
 use Rattle.std.proofs.Math.Seq.{take-suc}
 use Rattle.std.proofs.lemmas.List.{map-append, take_all}
 use Rattle.problem.specs.Problem.{Problem}
-use Rattle.problem.specs.declared.row.Row.{Row}
-use Rattle.problem.specs.Linear.{Multipliers}
-use Rattle.derivation_book.specs.Rounded.{rounded_row}
 use Rattle.node_events.specs.declared.event.Event.{Event}
-use Rattle.node_events.specs.declared.event.Event.TheVariants.{Claim, Release, Cut, Offer, Split, Close}
 use Rattle.event_codec.specs.Codes.{code}
 use Rattle.event_core.specs.declared.entry.Entry.{Entry}
 use Rattle.event_core.specs.States.{State, first_state}
-use Rattle.event_core.specs.After.{after, after_cut}
+use Rattle.event_core.specs.After.{after}
 use Rattle.event_core.specs.Holds.{without_hold}
 use Rattle.event_core.specs.Histories.{is_journaled, state_of}
 use Rattle.event_core.specs.Rooms.{Recorded}
@@ -22,9 +18,12 @@ use Rattle.resume.specs.Models.{IsModelOf}
 use Rattle.node_pool.specs.Payloads.{codes, model_in}
 use Rattle.node_pool.specs.Stored.{IsStored}
 use Rattle.node_pool.specs.Lemmas.Stored.{all_more}
-use Rattle.resume.specs.Events.{node_limit, read_entry, IsReadAs, IsNextEvent, IsNoEvent, IsApplied}
+use Rattle.resume.specs.Events.{read_entry, IsReadAs, IsNextEvent, IsNoEvent, IsApplied}
 use Rattle.resume.specs.Journals.{StandsFor, IsReplayed, IsDamagedEvent}
 use Rattle.resume.proofs.Applying.{codable_stays}
+use Rattle.node_tree.specs.Limits.{most_nodes}
+use Rattle.event_core.specs.Frames.{freed_by, without_holds}
+use Rattle.event_core.specs.Lemmas.Frames.{journaled_claims, freed_holds}
 
 -- one more event is read
 pub read_more : (p : Problem) (rest : List (List ℕ)) (es : List Entry) (payload : List ℕ) (e : Event) → IsReadAs p rest es → IsNextEvent (state_of p es) payload e
@@ -33,7 +32,7 @@ read_more p rest es payload e read next = record {
   written = ap (λ (l : List (List ℕ)). l ++ payload ∷ []) read.written ∙ ap (λ (c : List ℕ). codes es ++ c ∷ []) next.written ∙ sym (map-append (λ (x : Entry). code x.event) es (read_entry e ∷ []));
   stored = all_more IsStored es (read_entry e) read.stored (record { worker = refl; codable = next.codable; typed = next.typed });
   legal = legal_more (first_state p) es (read_entry e) read.legal next.legal;
-  few = subst (λ (s : State). length s.nodes ≤ node_limit) (sym (state_from-append (first_state p) es (read_entry e ∷ []))) next.few;
+  few = subst (λ (s : State). length s.nodes ≤ most_nodes) (sym (state_from-append (first_state p) es (read_entry e ∷ []))) next.few;
 }
 
 -- What the first payloads, so many behind the model, lead to.
@@ -59,18 +58,13 @@ stands_more p (x ∷ xs) (suc m) es e pos lt stands next =
     subst (λ (k : ℕ). StandsFor p (take k (x ∷ xs)) (es ++ read_entry e ∷ [])) (sym n)
     (record { rest = stands.rest ++ get_or xs m [] ∷ []; parts = ap (λ (l : List (List ℕ)). x ∷ l) grown; model = stands.model; read = read_more p stands.rest es (get_or xs m []) e stands.read next })
 
-cut_holds : (s : State) (mult : Multipliers) (o : Option Row) → (after_cut s mult o).holds ≡ s.holds
-cut_holds s mult None = refl
-cut_holds s mult (Some r) = refl
-
 -- Without a worker nobody comes to hold a node.
 pub nobody_holds : (s : State) (e : Event) → s.holds ≡ [] → is_journaled e ≡ true → (after s None e).holds ≡ []
-nobody_holds s (Claim i) h k = cc
-nobody_holds s (Release i) h k = cc
-nobody_holds s (Cut mult) h k = cut_holds s mult (rounded_row s.problem s.cuts mult) ∙ h
-nobody_holds s (Offer x) h k = h
-nobody_holds s (Split i j b reason) h k = ap (without_hold i) h
-nobody_holds s (Close i proof) h k = ap (without_hold i) h
+nobody_holds s e h j = freed_holds s None e (journaled_claims e j) ∙ without (freed_by e)
+  where
+    without : (o : Option ℕ) → without_holds o s.holds ≡ []
+    without None = h
+    without (Some i) = ap (without_hold i) h
 
 -- the next payload was applied
 pub one_more : (p : Problem) (ps : List (List ℕ)) (n : ℕ) (old new : Recorded) → n < length ps → HasRead p ps n old → IsApplied old (slice_index_or ps n []) new → HasRead p ps (n + 1) new
@@ -85,8 +79,8 @@ one_more p ps n old new lt has is = record {
     next = subst (λ (s : State). IsNextEvent s (slice_index_or ps n []) is.event) has.state is.next
 
 -- the tree isn't too large so far
-pub few_so_far : (p : Problem) (ps : List (List ℕ)) (n : ℕ) (c : Recorded) → HasRead p ps n c → length c.state.nodes ≤ node_limit
-few_so_far p ps n c has = subst (λ (s : State). length s.nodes ≤ node_limit) (sym has.state) has.stands.read.few
+pub few_so_far : (p : Problem) (ps : List (List ℕ)) (n : ℕ) (c : Recorded) → HasRead p ps n c → length c.state.nodes ≤ most_nodes
+few_so_far p ps n c has = subst (λ (s : State). length s.nodes ≤ most_nodes) (sym has.state) has.stands.read.few
 
 -- the next payload has no event that may come next
 pub broken_there : (p : Problem) (ps : List (List ℕ)) (n at : ℕ) (c : Recorded) → n < length ps → HasRead p ps n c → IsNoEvent c.state (slice_index_or ps n []) → at ≡ slice_index (places_from 8 ps) n

@@ -18,12 +18,14 @@ use Rattle.node_pool.specs.Stored.{IsStored}
 use Rattle.resume.specs.declared.fault.ResumeFault.{ResumeFault}
 use Rattle.resume.specs.declared.fault.ResumeFault.TheVariants as fault
 use Rattle.resume.specs.Models.{IsOtherModel}
-use Rattle.resume.specs.Events.{node_limit, IsReadAs, IsNextEvent, IsNoEvent}
+use Rattle.resume.specs.Events.{IsReadAs, IsNextEvent, IsNoEvent}
 use Rattle.resume.specs.Journals.{StandsFor, StandsOnDisk, IsFreshOrOf, IsDamagedModel, IsDamagedEvent}
 use Rattle.resume.specs.Refusals.{is_refusal, Refuses, RefusesPayloads, RefusesPayloadsFor}
 use Rattle.resume.specs.Laws.{StandingIsNotRefused}
 use Rattle.resume.specs.Lemmas.OneModel.{one_model}
-use Rattle.resume.specs.Lemmas.Standing.{nodes_from, stored_take}
+use Rattle.event_core.specs.Lemmas.Frames.{nodes_from}
+use Rattle.resume.specs.Lemmas.Standing.{stored_take}
+use Rattle.node_tree.specs.Limits.{most_nodes}
 
 -- ---- payloads that stand for a problem
 pub same_payloads : (ps qs : List (List ℕ)) (r : Records) → r ≡ Holds ps → r ≡ Holds qs → qs ≡ ps
@@ -80,12 +82,12 @@ module _ (law : CodesTellApart) (p : Problem) (es : List Entry) (read : IsReadAs
   legal_there = subst (λ (w : Option ℕ). IsLegal (state_of p (take k es)) w found.0.event) stored.worker
       (legal_back (first_state p) (take k es) (found.0 ∷ found.1) (subst (λ (l : List Entry). AreLegal p l) found.3 read.legal)).0
 
-  few_there : length (after (state_of p (take k es)) None found.0.event).nodes ≤ node_limit
+  few_there : length (after (state_of p (take k es)) None found.0.event).nodes ≤ most_nodes
   few_there =
-      let all : length (state_of p (take k es ++ found.0 ∷ found.1)).nodes ≤ node_limit = subst (λ (l : List Entry). length (state_of p l).nodes ≤ node_limit) found.3 read.few in
-      let split : length (state_from (after (state_of p (take k es)) found.0.worker found.0.event) found.1).nodes ≤ node_limit = subst (λ (s : State). length s.nodes ≤ node_limit) (state_from-append (first_state p) (take k es) (found.0 ∷ found.1)) all in
-      let here : length (after (state_of p (take k es)) found.0.worker found.0.event).nodes ≤ node_limit = omega (arith, split, nodes_from (after (state_of p (take k es)) found.0.worker found.0.event) found.1) in
-      subst (λ (w : Option ℕ). length (after (state_of p (take k es)) w found.0.event).nodes ≤ node_limit) stored.worker here
+      let all : length (state_of p (take k es ++ found.0 ∷ found.1)).nodes ≤ most_nodes = subst (λ (l : List Entry). length (state_of p l).nodes ≤ most_nodes) found.3 read.few in
+      let split : length (state_from (after (state_of p (take k es)) found.0.worker found.0.event) found.1).nodes ≤ most_nodes = subst (λ (s : State). length s.nodes ≤ most_nodes) (state_from-append (first_state p) (take k es) (found.0 ∷ found.1)) all in
+      let here : length (after (state_of p (take k es)) found.0.worker found.0.event).nodes ≤ most_nodes = omega (arith, split, nodes_from (after (state_of p (take k es)) found.0.worker found.0.event) found.1) in
+      subst (λ (w : Option ℕ). length (after (state_of p (take k es)) w found.0.event).nodes ≤ most_nodes) stored.worker here
 
   next_there : IsNextEvent (state_of p (take k es)) (get_or (codes es) k []) found.0.event
   next_there = record { codable = stored.codable; typed = stored.typed; written = found.2; legal = legal_there; few = few_there }

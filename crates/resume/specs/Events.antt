@@ -12,10 +12,7 @@ use Rattle.event_core.specs.Histories.{IsLegal, AreLegal, state_of}
 use Rattle.event_core.specs.Rooms.{Recorded}
 use Rattle.node_pool.specs.Payloads.{codes}
 use Rattle.node_pool.specs.Stored.{IsStored}
-
--- how many nodes a tree may have
-abbrev pub node_limit : ℕ
-node_limit = 1_000_000_000
+use Rattle.node_tree.specs.Limits.{most_nodes}
 
 -- an event of no worker, as it is read from a journal
 abbrev pub read_entry : Event → Entry
@@ -27,7 +24,7 @@ pub record IsReadAs (p : Problem) (payloads : List (List ℕ)) (es : List Entry)
   pub written : payloads ≡ codes es
   pub stored : AllByRecursion IsStored es
   pub legal : AreLegal p es
-  pub few : length (state_of p es).nodes ≤ node_limit
+  pub few : length (state_of p es).nodes ≤ most_nodes
 
 -- the payload is the code of this event, which is legal in this state without a worker, and after which the tree has no more nodes than it may have
 pub record IsNextEvent (s : State) (payload : List ℕ) (e : Event) : Type 0 where
@@ -35,7 +32,7 @@ pub record IsNextEvent (s : State) (payload : List ℕ) (e : Event) : Type 0 whe
   pub typed : IsEvent e
   pub written : payload ≡ code e
   pub legal : IsLegal s None e
-  pub few : length (after s None e).nodes ≤ node_limit
+  pub few : length (after s None e).nodes ≤ most_nodes
 
 -- the payload is the code of no such event
 abbrev pub IsNoEvent : State → List ℕ → Type 0

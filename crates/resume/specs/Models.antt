@@ -10,7 +10,7 @@ abbrev pub bound_of : Option ℤ → Option ℕ
 bound_of None = None
 bound_of (Some z) = Some (nat_abs z)
 
--- the text with this upper bound, from 0 to 10^9, reads as the problem
+-- the text with this upper bound, from 0 to the largest bound, reads as the problem
 pub record IsTextOf (text : List ℕ) (upper : Option ℤ) (p : Problem) : Type 0 where
   pub bounded : ForSome upper IsUpper
   pub reads : Reads text (bound_of upper) p

@@ -13,10 +13,10 @@ ghost use Rattle.node_journal.specs.Whole.{payloads_in};
 ghost use Rattle.node_pool.specs.Payloads.{codes, IsJournalOf};
 ghost use Rattle.node_pool.specs.Stored.{IsStored};
 ghost use Rattle.resume.specs.Models.{IsTextOf};
-ghost use Rattle.resume.specs.Events.{node_limit};
 ghost use Rattle.resume.specs.Journals.{StandsFor, StandsForSome, IsFreshOrOf, IsReadFrom, IsReplayed};
 ghost use Rattle.resume.specs.Refusals.{Refuses, RefusesPayloads, RefusesPayloadsFor, is_disk, is_refusal};
 ghost use Rattle.resume.specs.Crashes.{IsAsBefore, IsAsBeforeOrBegun, LeavesHistory};
+ghost use Rattle.node_tree.specs.Limits.{most_nodes};
 
 use crate::ResumeFault;
 use crate::reading::{read_search, read_search_of};
@@ -36,7 +36,7 @@ fn make_pool<D: Disk>(
     journal: Journal<D>,
     budget: u32,
 ) -> Result<Pool<D>, (ResumeFault, D)>
-    requires few { budget ≤ node_limit }
+    requires few { budget ≤ most_nodes }
     requires unheld { state.state.holds ≡ [] }
     requires sound { journal.fault ≡ None }
     requires counted { journal.count ≡ length (journaled state.history) + 1 }
@@ -65,7 +65,7 @@ fn continue_journal<D: Disk>(
     state: State,
     budget: u32,
 ) -> Result<Pool<D>, (ResumeFault, D)>
-    requires few { budget ≤ node_limit }
+    requires few { budget ≤ most_nodes }
     requires scanned { D.tells ≡ true → IsScanOf (D.now disk).seen scanned }
     requires read { IsReplayed (payloads_of scanned) state }
     ensures state { IfOk result (λ p. p.state ≡ state) }
@@ -136,7 +136,7 @@ fn begin_search<D: Disk>(
     problem: Problem,
     budget: u32,
 ) -> Result<Pool<D>, (ResumeFault, D)>
-    requires few { budget ≤ node_limit }
+    requires few { budget ≤ most_nodes }
     requires scanned { D.tells ≡ true → IsScanOf (D.now disk).seen scanned }
     requires none { payloads_of scanned ≡ [] }
     requires small { length model.now < 2 ^ 32 }
@@ -175,7 +175,7 @@ pub fn open_any<B: BuildHasher + Drop, D: Disk>(
     disk: D,
     budget: u32,
 ) -> Result<Pool<D>, (ResumeFault, D)>
-    requires { budget ≤ node_limit }
+    requires { budget ≤ most_nodes }
     // The journal held these payloads, and it still does.
     ensures held { D.tells ≡ true → IfOk result (λ p. records (D.now disk).seen ≡ Holds (payloads_in (D.now p.journal.disk))) }
     ensures stands { D.tells ≡ true → IfOk result (λ p. StandsFor p.state.state.problem (payloads_in (D.now p.journal.disk)) p.state.history) }
@@ -215,7 +215,7 @@ pub fn open_any<B: BuildHasher + Drop, D: Disk>(
 }
 
 /// The pool of the search of this model: the one that the journal on a disk stands for, or on an empty disk one in its first state, whose journal
-/// has the model's record alone. The problem is the one that the text reads as with this upper bound, which is 0 to 10^9.
+/// has the model's record alone. The problem is the one that the text reads as with this upper bound, which is 0 to `LARGEST_BOUND`.
 ///
 /// The journal is read and checked whole before anything is written. `NotAJournal`, `Damaged` and `OtherModel` come exactly where the content calls
 /// for them, and leave the disk as it is; `Disk` comes only where the disk failed and counted it. The disk comes back with each of them.
@@ -228,7 +228,7 @@ pub fn open_pool<B: BuildHasher + Drop, D: Disk>(
     upper: Option<i64>,
     budget: u32,
 ) -> Result<Pool<D>, (ResumeFault, D)>
-    requires few { budget ≤ node_limit }
+    requires few { budget ≤ most_nodes }
     requires model { IsTextOf text.now upper problem }
     // The journal held these payloads and still does, or it held none.
     ensures held { D.tells ≡ true → IfOk result (λ p. (records (D.now disk).seen ≡ Holds (payloads_in (D.now p.journal.disk))) ⊎ ((records (D.now disk).seen ≡ Holds []) × (p.state.history ≡ []))) }

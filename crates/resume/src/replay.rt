@@ -3,10 +3,11 @@ ghost use Rattle.std.specs.Prelude.{◌≡◌, ◌+◌, ◌≤◌, ◌<◌, [], 
 ghost use Rattle.event_core.specs.Rooms.{HasNumbers};
 ghost use Rattle.node_journal.specs.Views.{payloads_of};
 ghost use Rattle.resume.specs.Models.{IsModelOf};
-ghost use Rattle.resume.specs.Events.{node_limit, IsNoEvent, IsApplied};
+ghost use Rattle.resume.specs.Events.{IsNoEvent, IsApplied};
 ghost use Rattle.node_pool.specs.Payloads.{model_in};
 ghost use Rattle.resume.specs.Journals.{IsReplayed};
 ghost use Rattle.resume.specs.Refusals.{RefusesEvents};
+ghost use Rattle.node_tree.specs.Limits.{most_nodes};
 
 use crate::ResumeFault;
 use crate::fault::PayloadFault;
@@ -14,18 +15,16 @@ use event_codec::{CodecError, decode};
 use event_core::{Admit, State};
 use node_events::Event;
 use node_journal::Scanned;
+use node_tree::MOST_NODES;
 use problem::Problem;
 use std::alloc::Global;
-
-/// How many nodes a tree may have.
-const NODE_LIMIT: usize = 1_000_000_000;
 
 /// Whether the tree has few enough nodes for the event.
 fn has_numbers(state: &State, event: &Event) -> bool
     ensures { IsTrue result ↔ HasNumbers state.now.state event.now }
 {
     match event {
-        Event::Split { .. } => state.tree().len() <= NODE_LIMIT - 2,
+        Event::Split { .. } => state.tree().len() <= MOST_NODES as usize - 2,
         _ => true,
     }
 }
@@ -34,7 +33,7 @@ fn has_numbers(state: &State, event: &Event) -> bool
 /// one by which the tree has too many nodes.
 fn apply_payload(alloc: Global, state: &mut State, payload: &[u8]) -> Result<(), PayloadFault>
     requires unheld { state.old.state.holds ≡ [] }
-    requires few { length state.old.state.nodes ≤ node_limit }
+    requires few { length state.old.state.nodes ≤ most_nodes }
     ensures applied { OnOk result (IsApplied state.old payload.now state.new) }
     ensures damaged { IsErrOf result PayloadFault.Damaged → IsNoEvent state.old.state payload.now }
 {

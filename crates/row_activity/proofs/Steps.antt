@@ -1,5 +1,5 @@
 -- One more term in a sum over ends of spans.
-use Rattle.std.specs.Prelude.{◌≡◌, ◌<◌, ◌≤◌, ◌+◌, ◌*◌, ◌^◌, ℕ, ℤ, pos, nat_abs, int_lt, Bool, true, false, cond, List, drop, length, Some, slice_get}
+use Rattle.std.specs.Prelude.{◌≡◌, ◌<◌, ◌≤◌, ◌+◌, ◌*◌, ℕ, ℤ, pos, nat_abs, int_lt, Bool, true, false, cond, List, drop, length, Some, slice_get}
 use Rattle.std.proofs.Common.{sym, ap, ◌∙◌, subst, arith, get_or}
 use Rattle.std.proofs.lemmas.List.{at_drop_more, at_drop_all}
 use Rattle.std.proofs.lemmas.List.Elements.{All-get_or}
@@ -9,24 +9,25 @@ use Rattle.fraction.specs.Lemmas.Rational.{+ℚ_assoc, zero-+ℚ}
 use Rattle.fraction.specs.Lemmas.Ring.{+ℚ-zero}
 use Rattle.problem_box.specs.declared.span.Span.{Span}
 use Rattle.problem.specs.Modest.{IsModest}
-use Rattle.problem.specs.Lemmas.Modest.{IsSumOf, whole_within, product_fits, sum_fits, sum_within}
+use Rattle.problem.specs.Lemmas.Modest.{largest_term, IsSumOf, whole_within, product_fits, sum_fits, sum_within}
 use Rattle.problem.specs.Limited.{IsModestSpan, AreLimited}
 use Rattle.problem.specs.Lemmas.Limited.{are_modest}
+use Rattle.problem.specs.Limits.{most_columns, largest_bound}
 use Rattle.row_activity.specs.declared.activity.Aim.{Aim}
 use Rattle.row_activity.specs.declared.activity.Aim.TheVariants.{Least, Greatest}
 use Rattle.row_activity.specs.Activity.{span_at, end_for, sum_of_ends, IsLimitedBox}
 use Rattle.row_activity.specs.Fitting.{FitsWithProduct}
 
 -- an end of a modest span is modest
-modest_end : (a : Aim) (c : ℚ) (s : Span) → IsModestSpan s → nat_abs (end_for a c s) ≤ 10 ^ 9
+modest_end : (a : Aim) (c : ℚ) (s : Span) → IsModestSpan s → nat_abs (end_for a c s) ≤ largest_bound
 modest_end Least c s h = step (int_lt (pos 0) c.num)
   where
-    step : (b : Bool) → nat_abs (cond b s.lo s.hi) ≤ 10 ^ 9
+    step : (b : Bool) → nat_abs (cond b s.lo s.hi) ≤ largest_bound
     step true = h.0
     step false = h.1
 modest_end Greatest c s h = step (int_lt (pos 0) c.num)
   where
-    step : (b : Bool) → nat_abs (cond b s.hi s.lo) ≤ 10 ^ 9
+    step : (b : Bool) → nat_abs (cond b s.hi s.lo) ≤ largest_bound
     step true = h.1
     step false = h.0
 
@@ -38,7 +39,7 @@ pub record IsTotal (a : Aim) (ss : List Span) (ts us : List (ℕ × ℚ)) (i : �
 -- the total of no terms
 pub no_terms : (a : Aim) (ss : List Span) (ts us : List (ℕ × ℚ)) (total : ℚ) → us ≡ ts → total ≡ whole (pos 0) → IsTotal a ss ts us 0 total
 no_terms a ss ts us total items e = record {
-  size = subst (IsSumOf 0) (sym e) (whole_within (pos 0) (0 * 10 ^ 33) (omega arith));
+  size = subst (IsSumOf 0) (sym e) (whole_within (pos 0) (0 * largest_term) (omega arith));
   rest = (λ i. e i +ℚ sum_of_ends (end_for a) ss (items i)) ∙ zero-+ℚ _;
 }
 
@@ -69,10 +70,10 @@ module _ {a : Aim} {ss : List Span} {ts us : List (ℕ × ℚ)} {i : ℕ} {total
       let l : i < length ts = omega (arith, n.within, ap length n.items) in
       subst (λ (v : ℕ × ℚ). IsModest v.1) (sym (item ∙ ap (λ vs. get_or vs i t) n.items)) (All-get_or (λ (v : ℕ × ℚ). IsModest v.1) ts i t l n.limited.modest)
 
-  bounded : nat_abs z ≤ 10 ^ 9
+  bounded : nat_abs z ≤ largest_bound
   bounded = modest_end a t.1 s (subst IsModestSpan (get_or_from_slice_get ss t.0 s s n.there) (All-get_or IsModestSpan ss t.0 s (slice_get_within ss t.0 s n.there) n.area.modest))
 
-  few : i < 1000
+  few : i < most_columns
   few = omega (arith, n.within, ap length n.items, (are_modest (length ss) ts n.area.few_columns n.limited).few)
 
   pub room : FitsWithProduct total t.1 z

@@ -4,6 +4,7 @@ use Rattle.fraction.specs.Rational.{ℚ, whole, ◌+ℚ◌, ◌*ℚ◌}
 use Rattle.problem_box.specs.declared.span.Span.{Span}
 use Rattle.problem.specs.Limited.{IsModestSpan}
 use Rattle.problem.specs.Linear.{Terms}
+use Rattle.problem.specs.Limits.{most_columns}
 use Rattle.row_activity.specs.declared.activity.Aim.{Aim}
 use Rattle.row_activity.specs.declared.activity.Aim.TheVariants.{Least, Greatest}
 
@@ -19,6 +20,7 @@ low_end c s = if int_lt (pos 0) c.num then s.lo else s.hi
 abbrev pub high_end : ℚ → Span → ℤ
 high_end c s = if int_lt (pos 0) c.num then s.hi else s.lo
 
+-- the bound of a span at which a term has its least or its greatest value
 abbrev pub end_for : Aim → ℚ → Span → ℤ
 end_for Least = low_end
 end_for Greatest = high_end
@@ -40,8 +42,8 @@ high_of ss ts = sum_of_ends high_end ss ts
 abbrev pub IsNonempty : List Span → Type 0
 IsNonempty ss = All (λ s. s.lo ≤ℤ s.hi) ss
 
--- a box that isn't empty, of at most 1,000 columns and with bounds of size at most 10^9
+-- a box that isn't empty, of no more columns than a problem may have, with modest bounds
 pub record IsLimitedBox (ss : List Span) : Type 0 where
-  pub few_columns : length ss ≤ 1000
+  pub few_columns : length ss ≤ most_columns
   pub modest : All IsModestSpan ss
   pub nonempty : IsNonempty ss

@@ -54,6 +54,7 @@ pub record IsOpen (ss : List Span) : Type 0 where
   pub nonempty : IsNonempty ss
   pub free : IsFixed ss → ⊥
 
+-- what a verdict says of the box
 abbrev pub Tells : Problem → List Span → Option ℚ → Verdict → Type 0
 Tells p ss cutoff (Empty j) = IsFirstEmpty ss j × HasNoPoint ss
 Tells p ss cutoff (Refuted i s) = IsRefuted p ss i s

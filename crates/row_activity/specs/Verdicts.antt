@@ -17,6 +17,7 @@ use Rattle.row_activity.specs.declared.verdict.Verdict.TheVariants.{Empty, Refut
 use Rattle.row_activity.specs.Activity.{low_of, high_of}
 use Rattle.problem.specs.Rows.{Rows}
 
+-- the one is below the other
 abbrev pub is_less : ℚ → ℚ → Bool
 is_less x y = is_lt (compare x y)
 
@@ -56,5 +57,6 @@ first_of_all None None true fixed = Priced
 first_of_all None None false true = Point
 first_of_all None None false false = Unsettled
 
+-- the verdict on a box: the first of an empty column, a row that no point satisfies, an objective that reaches the cutoff, and a single point
 abbrev pub verdict : Problem → List Span → Option ℚ → Verdict
 verdict p ss cutoff = first_of_all (first_empty ss) (refuted_from 0 ss p.rows) (reaches (low_of ss p.objective) cutoff) (is_fixed ss)

@@ -123,7 +123,7 @@ fn reaches(value: Frac, cutoff: Option<Frac>) -> bool
 
 /// The verdict on a node's box: the first that holds of empty, refuted, priced, point, and otherwise unsettled.
 ///
-/// The box has a span for each column of the problem, and its bounds have a size of at most 10^9: the problem's own box is such a
+/// The box has a span for each column of the problem, and its bounds have a size of at most `LARGEST_BOUND`: the problem's own box is such a
 /// one, and so is each that is cut from it. The entries of the rows and of the objective are gone through once at most. It takes no
 /// memory.
 pub fn box_verdict(problem: &Problem, node: &IntBox, cutoff: Option<Frac>) -> Verdict

@@ -1,6 +1,8 @@
 //! Searches that go on with a greater budget, without cuts and with them: one with an optimum, and one without a point.
 
 ghost use Rattle.std.specs.Prelude.{◌≡◌, ◌≤◌, [], None};
+ghost use Rattle.problem.specs.Limits.{most_cuts};
+ghost use Rattle.node_tree.specs.Limits.{most_nodes};
 
 use anyhow::Result;
 use case_pools::{into_state, memory_pool, with_budget};
@@ -42,7 +44,7 @@ fn show_search<R: Print + Alloc<A = Global>>(
     pool: &mut Pool<MemDisk>,
     cuts: u32,
 ) -> io::Result<()>
-    requires few_cuts { cuts ≤ 256 }
+    requires few_cuts { cuts ≤ most_cuts }
     requires unheld { pool.old.state.state.holds ≡ [] }
     requires sound { pool.old.halt ≡ None }
     ensures { pool.new.state.state.holds ≡ [] }
@@ -68,8 +70,8 @@ fn searched<R: Print + Alloc<A = Global>>(
     budget: u32,
     cuts: u32,
 ) -> Result<State>
-    requires few { budget ≤ 1_000_000_000 }
-    requires few_cuts { cuts ≤ 256 }
+    requires few { budget ≤ most_nodes }
+    requires few_cuts { cuts ≤ most_cuts }
 {
     let problem = problem_of(rt.alloc(), model)?;
     let mut pool = memory_pool(rt.alloc(), problem, budget)?;
@@ -86,8 +88,8 @@ fn searched_on<R: Print + Alloc<A = Global>>(
     budget: u32,
     more: u32,
 ) -> Result<State>
-    requires few { budget ≤ 1_000_000_000 }
-    requires few_more { more ≤ 1_000_000_000 }
+    requires few { budget ≤ most_nodes }
+    requires few_more { more ≤ most_nodes }
 {
     let problem = problem_of(rt.alloc(), model)?;
     let mut pool = memory_pool(rt.alloc(), problem, budget)?;

@@ -28,7 +28,7 @@ use Rattle.core_search.specs.Endings.{IsSpent}
 use Rattle.core_search.specs.Pools.{IsHaltOf, is_disk}
 use Rattle.vipr_print.specs.Unique.{IsWord}
 use Rattle.resume.specs.Models.{IsModelOf}
-use Rattle.resume.specs.Events.{node_limit, IsReadAs}
+use Rattle.resume.specs.Events.{IsReadAs}
 use Rattle.resume.specs.Journals.{IsReadFrom, StandsFor}
 use Rattle.solve_top.specs.declared.request.Request.{Request}
 use Rattle.solve_top.specs.Requests.{limits_in}
@@ -40,13 +40,14 @@ use Rattle.solve_top.specs.Begun.{IsEnded, IsReady}
 use Rattle.solve_top.specs.Steps.{IsWithin}
 use Rattle.resume.specs.Lemmas.Standing.{given_read, journal_stands, prefix_stands}
 use Rattle.solve_top.proofs.Uniqueness.{names_are_words}
+use Rattle.node_tree.specs.Limits.{most_nodes}
 
 -- ---- what was read
 pub read_names : (c : Recorded) → IsReadFrom c → All IsWord c.state.problem.names
 read_names c read = names_are_words _ _ c.state.problem read.1.model.is.reads
 
-pub read_few : (c : Recorded) → c.state ≡ state_of c.state.problem c.history → IsReadFrom c → length c.state.nodes ≤ node_limit
-read_few c stands read = subst (λ (s : State). length s.nodes ≤ node_limit) (sym stands) read.1.read.few
+pub read_few : (c : Recorded) → c.state ≡ state_of c.state.problem c.history → IsReadFrom c → length c.state.nodes ≤ most_nodes
+read_few c stands read = subst (λ (s : State). length s.nodes ≤ most_nodes) (sym stands) read.1.read.few
 
 if_some : (n : ℕ) (w : Option ℕ) (a b : List Entry) → IsSomeAnd w (λ k. k < n) → (if is_none w then a else b) ≡ b
 if_some n None a b some = absurd some
@@ -97,7 +98,7 @@ within_limits q old new begins read goes same stands legal nodes cuts = record {
         ∙ ap (λ (l : List Entry). state_of new.state.problem l) (read_first (limits_in q).workers old.history goes.entries read.1.read.stored goes.of_workers)
         ∙ ap (λ (p : Problem). state_of p old.history) same ∙ sym begins
 
-most : (limit n k : ℕ) → limit ≤ node_limit → n ≤ node_limit → k ≤ max limit n → k ≤ node_limit
+most : (limit n k : ℕ) → limit ≤ most_nodes → n ≤ most_nodes → k ≤ max limit n → k ≤ most_nodes
 most limit n k few begun within = grind arith
 
 -- ---- faults
@@ -137,7 +138,7 @@ kept_by opened p d es h extends history prefixes leaves model given rests = reco
 module _ {D : Type 0} (tells : Bool) (past : D → List Moment) (now : D → Moment) (count : D → ℕ) (a b e : D) (same_disk : e ≡ b) (old new last : Recorded) (same_state : last ≡ new)
     (same_problem : new.state.problem ≡ old.state.problem) (begins : old.state ≡ state_of old.state.problem old.history) (read : IsReadFrom old)
     (stands : last.state ≡ state_of last.state.problem last.history) (legal : AreLegal last.state.problem last.history) (problem : Problem) (problem_is : problem ≡ last.state.problem) (law : JournalsAreLegal problem)
-    (stored : AllByRecursion IsStored (journaled new.history)) (limit : ℕ) (few : limit ≤ node_limit) (within : length new.state.nodes ≤ max limit (length old.state.nodes)) where
+    (stored : AllByRecursion IsStored (journaled new.history)) (limit : ℕ) (few : limit ≤ most_nodes) (within : length new.state.nodes ≤ max limit (length old.state.nodes)) where
   abbrev p : Problem
   p = old.state.problem
 
@@ -153,10 +154,10 @@ module _ {D : Type 0} (tells : Bool) (past : D → List Moment) (now : D → Mom
   law_there : JournalsAreLegal p
   law_there = subst JournalsAreLegal (problem_is ∙ problem_at_end) law
 
-  few_there : length new.state.nodes ≤ node_limit
+  few_there : length new.state.nodes ≤ most_nodes
   few_there = most limit (length old.state.nodes) (length new.state.nodes) few (read_few old begins read) within
 
-  module _ (faults budget : ℕ) (fault : Option ℕ) (h : Option Halt) (halted : IsHalt faults budget (count b) fault new.state h) (within_budget : budget ≤ node_limit)
+  module _ (faults budget : ℕ) (fault : Option ℕ) (h : Option Halt) (halted : IsHalt faults budget (count b) fault new.state h) (within_budget : budget ≤ most_nodes)
       (ending : Ending) (of : IsHaltOf ending h) where
     given : (fs : List Entry) × (codes_given new.history h ≡ codes fs) × IsReadAs p (codes fs) fs
     given = given_read p new.history new.state stands_there legal_there law_there stored few_there faults budget (count b) fault h halted within_budget

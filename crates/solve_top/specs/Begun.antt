@@ -26,6 +26,7 @@ use Rattle.solve_top.specs.Requests.{limits_in}
 use Rattle.solve_top.specs.Searchers.{SearchesOn}
 use Rattle.solve_top.specs.Searches.{Search, events_read, search_of}
 use Rattle.solve_top.specs.Steps.{IsPerformed, IsSolution, IsWithin, fails_by_disk, without_disk}
+use Rattle.node_tree.specs.Limits.{most_nodes}
 
 -- What came of a command: it is performed, and its journal is kept.
 pub record IsCarriedOut (q : Request) (m : SourceChange) (d : DiskChange) (cert : SinkChange) (last : Option Search) (o : Result Answer Refusal) : Type 0 where
@@ -37,7 +38,7 @@ module _ {D : Type 0} {d : Ghosts D} where
   -- the pool of a journal that was read, in which a search can begin: nobody holds a node, and it isn't halted
   pub record IsReady (q : Request) (pool : Pool D d) : Type 0 where
     pub budget : pool.budget ≡ (limits_in q).nodes
-    pub few : pool.budget ≤ 1000000000
+    pub few : pool.budget ≤ most_nodes
     pub unheld : pool.state.state.holds ≡ []
     pub sound : pool.halt ≡ None
     pub read : IsReadFrom pool.state

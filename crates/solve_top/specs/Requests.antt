@@ -2,8 +2,10 @@
 use Rattle.std.specs.Prelude.{ℕ, ◌≤◌, List, Option, option_map, IfSome}
 use Rattle.command_words.specs.Commands.{Asked, AreInRange, command_of, solve, resume, show, drill}
 use Rattle.command_words.specs.declared.limits.Limits.{Limits}
+use Rattle.command_words.specs.Limits.{default_nodes, default_workers}
 use Rattle.solve_top.specs.declared.request.Request.{Request}
 use Rattle.solve_top.specs.declared.request.Request.TheVariants as request
+use Rattle.problem.specs.Limits.{most_cuts, largest_bound}
 
 abbrev pub without_paths : Asked → Request
 without_paths (solve model journal cert limits upper) = request.Solve limits upper
@@ -19,12 +21,12 @@ requested words = option_map without_paths (command_of words)
 abbrev pub limits_in : Request → Limits
 limits_in (request.Solve limits upper) = limits
 limits_in (request.Resume limits) = limits
-limits_in request.Show = record { nodes = 1000000; cuts = 256; workers = 1 }
+limits_in request.Show = record { nodes = default_nodes; cuts = most_cuts; workers = default_workers }
 limits_in (request.Drill seed limits) = limits
 
 -- its numbers are in their ranges
 abbrev pub HasRanges : Request → Type 0
-HasRanges (request.Solve limits upper) = AreInRange limits × IfSome upper (λ u. u ≤ 1000000000)
+HasRanges (request.Solve limits upper) = AreInRange limits × IfSome upper (λ u. u ≤ largest_bound)
 HasRanges (request.Resume limits) = AreInRange limits
 HasRanges request.Show = Unit {0}
 HasRanges (request.Drill seed limits) = AreInRange limits

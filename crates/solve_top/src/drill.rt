@@ -4,6 +4,7 @@ ghost use Rattle.mps_reader.specs.Reading.{Reads};
 ghost use Rattle.resume.specs.Journals.{IsReadFrom};
 ghost use Rattle.drill_instance.specs.Texts.{generated};
 ghost use Rattle.solve_top.specs.Steps.{IsRefusedDrill};
+ghost use Rattle.node_tree.specs.Limits.{most_nodes};
 
 use crate::model::{Model, problem_of};
 use crate::opening::open_of;
@@ -33,7 +34,7 @@ pub fn drilled_pool<B: BuildHasher + Clone + Drop>(
     seed: u32,
     nodes: u32,
 ) -> Result<Pool<MemDisk>, Refusal>
-    requires few { nodes ≤ 1_000_000_000 }
+    requires few { nodes ≤ most_nodes }
     ensures read { IfOk result (λ p. IsReadFrom p.state) }
     ensures problem { IfOk result (λ p. Reads (generated seed) None p.state.state.problem) }
     ensures fresh { IfOk result (λ p. p.state.history ≡ []) }

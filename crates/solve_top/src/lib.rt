@@ -32,4 +32,5 @@ mod top_call;
 pub use command_words::{Paths, Words, WordsFault, paths_of};
 pub use event_core::State;
 pub use status::Status;
+pub use telling::tell_no_place;
 pub use top_call::{Ran, run, run_one};

@@ -11,6 +11,7 @@ ghost use Rattle.resume.specs.Refusals.{Refuses, RefusesPayloads, RefusesPayload
 ghost use Rattle.solve_top.specs.Changes.{IsUntouched, disk_change};
 ghost use Rattle.solve_top.specs.Journals.{IsKeptUnopened, IsOpened, IsUnopened};
 ghost use Rattle.solve_top.specs.Models.{StandsWith, record_of};
+ghost use Rattle.node_tree.specs.Limits.{most_nodes};
 
 use crate::model::Model;
 use crate::outcome::Refusal;
@@ -39,7 +40,7 @@ pub fn open_of<B: BuildHasher + Drop, D: Disk>(
     upper: Option<u32>,
     nodes: u32,
 ) -> Result<Pool<D>, (Refusal, D)>
-    requires few { nodes ≤ 1_000_000_000 }
+    requires few { nodes ≤ most_nodes }
     requires modest { IsModestUpper upper }
     requires reads { Reads model.text.items upper model.problem }
     ensures read { IfOk result (λ p. IsReadFrom p.state) }
@@ -70,7 +71,7 @@ pub fn open_kept<B: BuildHasher + Drop, D: Disk>(
     disk: D,
     nodes: u32,
 ) -> Result<Pool<D>, (Refusal, D)>
-    requires few { nodes ≤ 1_000_000_000 }
+    requires few { nodes ≤ most_nodes }
     ensures read { IfOk result (λ p. IsReadFrom p.state) }
     ensures unheld { IfOk result (λ p. p.state.state.holds ≡ []) }
     ensures budget { IfOk result (λ p. p.budget ≡ nodes) }

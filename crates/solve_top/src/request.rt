@@ -5,14 +5,15 @@ ghost use Rattle.solve_top.specs.Requests.{HasRanges, limits_in, requested, with
 ghost use Rattle.solve_top.specs.Steps.{RefusesWords};
 
 use crate::outcome::Refusal;
-use command_words::{Command, Limits, Words, WordsFault, parse};
+use command_words::{Command, DEFAULT_NODES, DEFAULT_WORKERS, Limits, Words, WordsFault, parse};
+use problem::MOST_CUTS;
 use std::alloc::Global;
 
 // The limits of a search where there is none.
 const DEFAULT: Limits = Limits {
-    nodes: 1_000_000,
-    cuts: 256,
-    workers: 1,
+    nodes: DEFAULT_NODES,
+    cuts: MOST_CUTS,
+    workers: DEFAULT_WORKERS,
 };
 
 /// What a command asks for, without its paths.

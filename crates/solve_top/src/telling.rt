@@ -49,6 +49,15 @@ fn tell_answer<O: Sink>(answer: Answer, out: &mut O) -> Status
     }
 }
 
+/// Tells that no certificate may be written where one is to go, and gives the status of a run that ends so. Who finds that before a run tells it by
+/// this.
+pub fn tell_no_place<O: Sink>(out: &mut O) -> Status
+    ensures { IsToldAs (sink_change O.tells O.taken O.kept O.faults out.old out.new) (Err Refusal.Sink) result }
+{
+    tell(out, b"fault sink\n");
+    Status::Sink
+}
+
 // Tells why there is no answer, and gives the status of the run. Want of memory for the line is a status of its own.
 fn tell_refusal<O: Sink>(alloc: Global, refusal: Refusal, out: &mut O) -> Status
     ensures { IsToldAs (sink_change O.tells O.taken O.kept O.faults out.old out.new) (Err refusal) result }
@@ -70,10 +79,7 @@ fn tell_refusal<O: Sink>(alloc: Global, refusal: Refusal, out: &mut O) -> Status
             tell(out, b"fault disk\n");
             Status::Disk
         }
-        Refusal::Sink => {
-            tell(out, b"fault sink\n");
-            Status::Sink
-        }
+        Refusal::Sink => tell_no_place(out),
         Refusal::Memory => {
             tell(out, b"no memory\n");
             Status::Memory

@@ -14,6 +14,7 @@ use Rattle.problem.specs.declared.row.Row.{Row}
 use Rattle.problem.specs.Linear.{Terms}
 use Rattle.problem.specs.Rows.{Rows}
 use Rattle.problem.specs.Problem.{Problem}
+use Rattle.problem.specs.Limits.{most_columns}
 use Rattle.tableau.specs.Elimination.{Coefficients}
 use Rattle.tableau.specs.Lemmas.Started.{length-coefficients}
 use Rattle.tableau.specs.Lemmas.Programs.{program-with_row, numbers_more}
@@ -66,7 +67,7 @@ pub all_rows : (p : Problem) (spans : List Span) (i : ℕ) → length p.rows ≡
 all_rows p spans i e = λ j. program_of p.objective ((ap (λ n. take n p.rows) (sym e) ∙ take_all (length p.rows) p.rows (omega arith) ∙ sym (append-nil p.rows)) j) ((ap (numbers_from 0) (sym e) ∙ sym (append-nil (numbers_from 0 (length p.rows)))) j) spans
 
 -- ---- the sizes of a linear program without rows
-pub first_sizes : (objective : Terms) (spans : List Span) (rows : List Coefficients) (costs : Coefficients) (bs : List Bounds) (ns : List ℕ) (k : ℕ) → length spans ≤ 1000 → k ≡ length spans
+pub first_sizes : (objective : Terms) (spans : List Span) (rows : List Coefficients) (costs : Coefficients) (bs : List Bounds) (ns : List ℕ) (k : ℕ) → length spans ≤ most_columns → k ≡ length spans
     → rows ≡ [] → ns ≡ [] → costs ≡ coefficients_from 0 k objective → bs ≡ map span_bounds spans
     → (length bs ≡ length costs + length rows) × (length ns ≡ length rows) × All (λ (r : Coefficients). length r ≡ length costs) rows × (length rows + 2 * length costs < 2 ^ 32)
 first_sizes objective spans rows costs bs ns k l e f g h m =

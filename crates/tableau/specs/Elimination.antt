@@ -9,6 +9,7 @@ use Rattle.fraction.specs.Checked.{add_checked, mul_checked, div_checked}
 abbrev pub Coefficients : Type 0
 Coefficients = List ℚ
 
+-- the fraction 0
 abbrev pub zero_ℚ : ℚ
 zero_ℚ = whole (pos 0)
 
@@ -30,6 +31,7 @@ add_multiple_of_row q (t ∷ ts) (s ∷ ss) = option_and_then (λ d. option_map 
 abbrev pub substituted : ℕ → Coefficients → Coefficients → Option Coefficients
 substituted c new row = add_multiple_of_row (entry row c) (slice_set row c zero_ℚ) new
 
+-- each row, with the entering column replaced by its solution
 abbrev pub all_substituted : ℕ → Coefficients → List Coefficients → Option (List Coefficients)
 all_substituted c new [] = Some []
 all_substituted c new (row ∷ rows) = option_and_then (λ r. option_map (λ rs. r ∷ rs) (all_substituted c new rows)) (substituted c new row)
@@ -44,6 +46,7 @@ others_substituted r c rows =
 abbrev pub negative_quotient : ℚ → ℚ → Option ℚ
 negative_quotient p t = div_checked (neg_ℚ t) p
 
+-- the numbers, each divided by the pivot, with the other sign
 abbrev pub negative_quotients : ℚ → Coefficients → Option Coefficients
 negative_quotients p [] = Some []
 negative_quotients p (t ∷ ts) = option_and_then (λ d. option_map (λ ds. d ∷ ds) (negative_quotients p ts)) (negative_quotient p t)

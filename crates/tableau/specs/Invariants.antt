@@ -15,6 +15,7 @@ use Rattle.tableau.specs.Run.{RunEnd}
 use Rattle.tableau.specs.LinearProgram.{LinearProgram}
 
 -- ---- nonbasic variables are at bounds
+-- the variable is at one of its bounds
 abbrev pub IsNonbasic : BasisStatus → Type 0
 IsNonbasic Basic = ⊥
 IsNonbasic AtLower = Unit {0}
@@ -26,6 +27,7 @@ IsAtBound b Basic q = q ≡ zero_ℚ
 IsAtBound b AtLower q = b.lower ≡ Some q
 IsAtBound b AtUpper q = b.upper ≡ Some q
 
+-- each variable that is not in the basis has the value of the bound at which it is
 abbrev pub AreAtBounds : ℕ → Tableau → Type 0
 AreAtBounds n t = (i : ℕ) → i < n → IsAtBound (bounds_of t i) (status_of t i) (nonbasic_value_of t i)
 
@@ -35,6 +37,7 @@ pub record IsCanonicalRow (n : ℕ) (t : Tableau) (row : Coefficients) : Type 0 
   pub full : length row ≡ n
   pub clear : (j : ℕ) → j < n → status_of t j ≡ Basic → entry row j ≡ zero_ℚ
 
+-- each row, and that of the reduced costs, has numbers in columns of variables outside the basis alone
 pub record IsCanonical (n : ℕ) (t : Tableau) : Type 0 where
   pub rows : (i : ℕ) → i < n → status_of t i ≡ Basic → IsCanonicalRow n t (row_of t i)
   pub costs : IsCanonicalRow n t t.reduced_costs
@@ -49,6 +52,7 @@ Solves n t x = (i : ℕ) → i < n → status_of t i ≡ Basic → dot_value (ro
 abbrev pub SolvesRows : LinearProgram → List ℚ → Type 0
 SolvesRows p x = (i : ℕ) → i < length p.rows → dot_value (slice_index_or p.rows i []) x ≡ entry x (length p.costs + i)
 
+-- what satisfies the rows of the linear program satisfies those of the tableau, and the reverse
 pub record HasSameSolutions (n : ℕ) (p : LinearProgram) (t : Tableau) : Type 0 where
   pub to : (x : List ℚ) → length x ≡ n → SolvesRows p x → Solves n t x
   pub back : (x : List ℚ) → length x ≡ n → Solves n t x → SolvesRows p x
@@ -64,15 +68,18 @@ HasDualSign b Basic d = Unit {0}
 HasDualSign b AtLower d = bounds_differ b ≡ true → zero_ℚ ≤ℚ d
 HasDualSign b AtUpper d = bounds_differ b ≡ true → d ≤ℚ zero_ℚ
 
+-- each reduced cost has the sign that the bound of its variable asks for
 abbrev pub IsDualFeasible : ℕ → Tableau → Type 0
 IsDualFeasible n t = (i : ℕ) → i < n → HasDualSign (bounds_of t i) (status_of t i) (reduced_cost_of t i)
 
 -- ---- values
+-- each value is the one that is computed of its row
 abbrev pub HasComputedValues : ℕ → Tableau → Type 0
 HasComputedValues n t =
     (i : ℕ) → i < n → computed_value t.nonbasic_values (status_of t i) (nonbasic_value_of t i) (row_of t i) ≡ Some (value_of t i)
 
 -- ---- all of it, with n variables
+-- all that holds of a tableau of this linear program
 pub record IsTableauOf (n : ℕ) (p : LinearProgram) (t : Tableau) : Type 0 where
   pub size : HasSize n t
   pub columns : t.columns ≡ length p.costs

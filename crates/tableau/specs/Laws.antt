@@ -4,6 +4,7 @@ use Rattle.problem_box.specs.declared.span.Span.{Span}
 use Rattle.problem.specs.Rows.{Rows}
 use Rattle.problem.specs.Problem.{Problem}
 use Rattle.problem.specs.Limited.{IsLimited, IsModestSpan}
+use Rattle.problem.specs.Limits.{most_cuts}
 use Rattle.tableau.specs.declared.place.Place.TheVariants.{Pivot}
 use Rattle.tableau.specs.Tableau.{Tableau, HasSize}
 use Rattle.tableau.specs.Place.{place, IsPivotThere}
@@ -13,11 +14,11 @@ use Rattle.tableau.specs.Start.{started}
 use Rattle.tableau.specs.Invariants.{IsTableauOf, EndsWithTableauOf}
 use Rattle.tableau.specs.WellFormed.{IsCutRow, IsWellFormed}
 
--- for a problem within the limits, at most 256 cuts and a box of the limits the start is never cramped
+-- for a problem within the limits, few cuts and a box of the limits the start is never cramped
 abbrev pub StartsAreThere : Type 0
 StartsAreThere =
     (p : Problem) (cuts : Rows) (spans : List Span)
-    → IsLimited p → All IsCutRow cuts → length cuts ≤ 256 → length spans ≡ length p.spans → All IsModestSpan spans
+    → IsLimited p → All IsCutRow cuts → length cuts ≤ most_cuts → length spans ≡ length p.spans → All IsModestSpan spans
     → IsSome (started (relaxation p cuts spans))
 
 -- the start is a tableau of its linear program

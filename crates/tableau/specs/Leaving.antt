@@ -15,10 +15,12 @@ abbrev pub unbounded : Bounds
 unbounded = record { lower = None; upper = None }
 
 -- ---- bounds
+-- there is a lower bound, and the value is below it
 abbrev pub is_below : ℚ → Option ℚ → Bool
 is_below v None = false
 is_below v (Some l) = is_lt (compare v l)
 
+-- there is an upper bound, and the value is above it
 abbrev pub is_above : ℚ → Option ℚ → Bool
 is_above v None = false
 is_above v (Some u) = is_lt (compare u v)
@@ -32,6 +34,7 @@ abbrev pub violated_bound : Direction → Bounds → ℚ
 violated_bound Rise b = unwrap_or b.lower (whole (pos 0))
 violated_bound Fall b = unwrap_or b.upper (whole (pos 0))
 
+-- the two bounds are not one number
 abbrev pub ends_differ : Option ℚ → Option ℚ → Bool
 ends_differ None u = true
 ends_differ (Some l) None = true
@@ -42,11 +45,13 @@ abbrev pub bounds_differ : Bounds → Bool
 bounds_differ b = ends_differ b.lower b.upper
 
 -- ---- the leaving variable
+-- the direction in which a basic variable is outside its bounds; none of another one
 abbrev pub leaving_at : BasisStatus → Bounds → ℚ → Option Direction
 leaving_at Basic b v = violation b v
 leaving_at AtLower b v = None
 leaving_at AtUpper b v = None
 
+-- variable i with its direction, where there is one, else the others
 abbrev pub found_or : ℕ → Option Direction → Option (ℕ × Direction) → Option (ℕ × Direction)
 found_or i None others = others
 found_or i (Some w) others = Some (i, w)

@@ -31,6 +31,7 @@ abbrev pub coefficients_from : ℕ → ℕ → Terms → Coefficients
 coefficients_from j zero ts = []
 coefficients_from j (suc k) ts = coefficient ts j ∷ coefficients_from (j + 1) k ts
 
+-- the two bounds of a span
 abbrev pub span_bounds : Span → Bounds
 span_bounds s = record { lower = Some (whole s.lo); upper = Some (whole s.hi) }
 
@@ -40,6 +41,7 @@ sense_bounds G rhs = record { lower = Some rhs; upper = None }
 sense_bounds L rhs = record { lower = None; upper = Some rhs }
 sense_bounds E rhs = record { lower = Some rhs; upper = Some rhs }
 
+-- the bounds of a row's variable
 abbrev pub row_bounds : Row → Bounds
 row_bounds r = sense_bounds r.sense r.rhs
 

@@ -57,6 +57,7 @@ basis_exchanged r c w t = record t {
   rows = swap t.rows r c;
 }
 
+-- the tableau after a pivot on row r and column c; none where a step is cramped
 abbrev pub exchanged : ℕ → ℕ → Direction → Tableau → Option Tableau
 exchanged r c w t = option_and_then (λ u. revalued (basis_exchanged r c w u)) (eliminated r c t)
 

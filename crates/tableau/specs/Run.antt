@@ -22,12 +22,14 @@ abbrev pub after_pivot : Tableau → Option Tableau → RunEnd ⊎ Tableau
 after_pivot t None = inl record { place = Cramped; pivots = t.pivots; tableau = None }
 after_pivot t (Some u) = inr u
 
+-- the end of the run at this place, or the tableau after its pivot
 abbrev pub step_at : Tableau → Place → RunEnd ⊎ Tableau
 step_at t Done = inl (ends_at t Done)
 step_at t (NoColumn r) = inl (ends_at t (NoColumn r))
 step_at t Cramped = inl (ends_at t Cramped)
 step_at t (Pivot r c) = after_pivot t (pivoted r c t)
 
+-- the end, or what comes of the next tableau
 abbrev pub continued : (Tableau → RunEnd) → RunEnd ⊎ Tableau → RunEnd
 continued f (inl e) = e
 continued f (inr t) = f t

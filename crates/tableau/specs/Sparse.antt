@@ -16,6 +16,7 @@ abbrev pub nonzeros : ℕ → Coefficients → Terms
 nonzeros j [] = []
 nonzeros j (t ∷ ts) = with_entry j t (nonzeros (j + 1) ts)
 
+-- the number of the entry fits
 abbrev pub HasFraction : ℕ × ℚ → Type 0
 HasFraction e = FitsFraction e.1
 
@@ -40,6 +41,7 @@ abbrev pub before_variable : ℕ → Terms → Terms
 before_variable k [] = []
 before_variable k (e ∷ es) = if nat_lt e.0 k then e ∷ before_variable k es else []
 
+-- the entries of the variables from k on
 abbrev pub from_variable : ℕ → Terms → Terms
 from_variable k [] = []
 from_variable k (e ∷ es) = if nat_lt e.0 k then from_variable k es else e ∷ es

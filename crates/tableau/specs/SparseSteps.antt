@@ -60,6 +60,7 @@ merged w q [] = products_below q w (λ ss. Some [])
 merged w q (t ∷ ts) = products_below q t.0 (met q t (merged w q ts))
 
 -- ---- the quotients of a solved row
+-- the entries, each divided by the pivot, with the other sign
 abbrev pub entry_quotients : ℚ → Terms → Option Terms
 entry_quotients p [] = Some []
 entry_quotients p (e ∷ es) = entry_then e.0 (negative_quotient p e.1) (entry_quotients p es)
@@ -71,6 +72,7 @@ sum_over_entries s [] xs = Some s
 sum_over_entries s (e ∷ es) xs = option_and_then (λ t. sum_over_entries t es xs) (add_multiple e.1 s (entry xs e.0))
 
 -- ---- the ratio test
+-- the ratio test over the entries of the leaving row alone
 abbrev pub entering_by_entries : Direction → Option (ℕ × ℚ) → List BasisStatus → List Bounds → Coefficients → Terms → Option (Option (ℕ × ℚ))
 entering_by_entries w best ss bs ds [] = Some best
 entering_by_entries w best ss bs ds (e ∷ es) =

@@ -14,9 +14,11 @@ use Rattle.tableau.specs.LinearProgram.{LinearProgram}
 abbrev pub start_status : ℚ → BasisStatus
 start_status cost = if int_lt cost.num (pos 0) then AtUpper else AtLower
 
+-- the bound at which a column starts: the one that its cost asks for
 abbrev pub start_value : ℚ → Bounds → ℚ
 start_value cost b = if int_lt cost.num (pos 0) then unwrap_or b.upper zero_ℚ else unwrap_or b.lower zero_ℚ
 
+-- the bounds at which the columns start
 abbrev pub start_values : List ℚ → List Bounds → List ℚ
 start_values [] bs = []
 start_values (d ∷ ds) [] = []

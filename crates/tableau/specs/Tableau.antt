@@ -26,21 +26,27 @@ pub record Tableau : Type 0 where
   pub pivots : ℕ
 
 -- ---- what it says of one variable
+-- the bounds of variable i
 abbrev pub bounds_of : Tableau → ℕ → Bounds
 bounds_of t i = slice_index_or t.bounds i unbounded
 
+-- the status of variable i
 abbrev pub status_of : Tableau → ℕ → BasisStatus
 status_of t i = slice_index_or t.statuses i Basic
 
+-- the bound at which variable i is, outside the basis
 abbrev pub nonbasic_value_of : Tableau → ℕ → ℚ
 nonbasic_value_of t i = slice_index_or t.nonbasic_values i zero_ℚ
 
+-- the row of variable i
 abbrev pub row_of : Tableau → ℕ → Coefficients
 row_of t i = slice_index_or t.rows i []
 
+-- the reduced cost of variable i
 abbrev pub reduced_cost_of : Tableau → ℕ → ℚ
 reduced_cost_of t i = slice_index_or t.reduced_costs i zero_ℚ
 
+-- the value of variable i
 abbrev pub value_of : Tableau → ℕ → ℚ
 value_of t i = slice_index_or t.values i zero_ℚ
 

@@ -1,9 +1,10 @@
 -- Which linear programs and which cuts a tableau is made for.
-use Rattle.std.specs.Prelude.{◌≡◌, ◌<◌, ◌≤◌, ◌^◌, ℕ, nat_abs, [], length, All, Some, IfSome, slice_index_or}
+use Rattle.std.specs.Prelude.{◌≡◌, ◌<◌, ◌≤◌, ℕ, nat_abs, [], length, All, Some, IfSome, slice_index_or}
 use Rattle.fraction.specs.Rational.{ℚ}
 use Rattle.fraction.specs.Whole.{IsWhole}
 use Rattle.problem.specs.declared.row.Row.{Row}
 use Rattle.problem.specs.Rising.{AreRising}
+use Rattle.problem.specs.Limits.{largest_cut_coefficient}
 use Rattle.tableau.specs.declared.bounds.Bounds.{Bounds}
 use Rattle.tableau.specs.Leaving.{unbounded}
 use Rattle.tableau.specs.LinearProgram.{LinearProgram, variables}
@@ -33,7 +34,7 @@ pub record IsIntegral (p : LinearProgram) : Type 0 where
   pub costs : All IsWhole p.costs
   pub bounds : All HasWholeBounds p.bounds
 
--- rising columns, with whole coefficients of size at most 2^40
+-- rising columns, with whole coefficients of at most the largest size
 pub record IsCutRow (r : Row) : Type 0 where
   pub rising : AreRising r.terms
-  pub coefficients : All (λ t. IsWhole t.1 × (nat_abs t.1.num ≤ 2 ^ 40)) r.terms
+  pub coefficients : All (λ t. IsWhole t.1 × (nat_abs t.1.num ≤ largest_cut_coefficient)) r.terms

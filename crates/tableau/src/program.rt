@@ -2,6 +2,7 @@
 
 ghost use Rattle.std.specs.Prelude.{◌≡◌, ◌<◌, ◌≤◌, ◌+◌, ◌*◌, ◌^◌, [], length, map, slice_index_or, IfOk, OnOk, OnErr};
 ghost use Rattle.problem.specs.Rising.{AreRising};
+ghost use Rattle.problem.specs.Limits.{most_columns};
 ghost use Rattle.tableau.specs.LinearProgram.{span_bounds, row_bounds, program_of, relaxation, with_row, with_cut};
 
 use crate::bounds::Bounds;
@@ -98,7 +99,7 @@ impl LinearProgram {
         area: &IntBox,
     ) -> Result<LinearProgram, AllocError>
         requires rising { AreRising objective.now }
-        requires few { length area.now ≤ 1000 }
+        requires few { length area.now ≤ most_columns }
         ensures { IfOk result (λ p. p ≡ program_of objective.now [] [] area.now) }
     {
         let costs = SparseRow::of_terms(alloc, area.len(), objective)?;

@@ -1,10 +1,14 @@
-//! Times the turn lock. With no word it lets two threads push 100 numbers each and prints how many entries the list has. With a word:
-//! `alone` times turns that nobody waits for, `four` the turns of four threads, and `long` has four threads each keep a turn for long.
+//! The turn lock under threads. With no word passes and threads push numbers in turn, and the gate compares what it prints of them with `stdout`. With
+//! a word it times the lock: `alone` times turns that nobody waits for, `four` the turns of four threads, and `long` has four threads each keep a turn
+//! for long.
 #![tactic(auto)]
+
+mod pushes;
 
 ghost use Rattle.std.specs.Prelude.{◌≡◌, [], ◌∷◌, Some, Contains, IsSomeAnd};
 ghost use Rattle.turn_lock.specs.Passes.{IsPassOf, names_of};
 
+use pushes::{Pushed, Pushes};
 use std::alloc::{AllocError, Global};
 use std::rt::Runtime;
 use std::sync::Wait;
@@ -19,31 +23,6 @@ const TURNS: u32 = 1_000_000;
 /// Steps of a turn that is kept for long.
 const LONG: u32 = 100_000_000;
 
-/// A number, and the name of the pass that pushed it.
-#[derive(Drop)]
-pub struct Pushed {
-    pub name: u64,
-    pub value: u64,
-}
-
-/// Numbers in the order in which they were pushed.
-#[derive(Drop)]
-pub struct Pushes {
-    pub items: Vec<Pushed>,
-}
-
-impl Kept for Pushes {
-    type Entry = Pushed;
-
-    ghost list = { λ pushes. pushes.items.items };
-
-    ghost name = { λ push. Some push.name };
-
-    fn len(&self) -> u64 {
-        self.items.len() as u64
-    }
-}
-
 /// What a thread does with its turns.
 #[derive(Clone, Copy)]
 enum Task {
@@ -56,6 +35,24 @@ enum Task {
 }
 
 // Where memory runs out nothing is pushed.
+fn push<R: Wait>(
+    rt: &R,
+    lock: &TurnLock<Pushes>,
+    pass: Pass<Pushes>,
+    name: u64,
+    value: u64,
+) -> Pass<Pushes>
+    requires own { IsPassOf lock.now pass }
+    requires named { Contains (names_of pass) name }
+    ensures own { IsPassOf lock.now result }
+    ensures names { names_of result ≡ names_of pass }
+{
+    let mut turn = lock.enter(rt, pass);
+    let pushed = turn.value_mut().items.push(Pushed { name, value });
+    drop(pushed);
+    lock.leave(turn)
+}
+
 fn push_all<R: Wait>(
     rt: &R,
     lock: &TurnLock<Pushes>,
@@ -69,10 +66,7 @@ fn push_all<R: Wait>(
     ensures names { names_of result ≡ names_of pass }
 {
     for value in 0..count {
-        let mut turn = lock.enter(rt, pass);
-        let pushed = turn.value_mut().items.push(Pushed { name, value });
-        drop(pushed);
-        pass = lock.leave(turn);
+        pass = push(rt, lock, pass, name, value);
     }
     pass
 }
@@ -246,11 +240,48 @@ fn alone<R: Wait>(rt: &R, alloc: Global) -> Result<Pushes, AllocError> {
     Ok(lock.close(whole))
 }
 
+/// The entries after two passes pushed in turn, and what the second one saw before.
+fn by_passes<R: Wait>(rt: &R, alloc: Global) -> Result<(Option<u64>, Pushes), AllocError> {
+    let none = Pushes {
+        items: Vec::new(alloc),
+    };
+    let (lock, whole) = match TurnLock::make(alloc, none, 3) {
+        Ok(made) => made,
+        Err((error, _)) => return Err(error),
+    };
+    let (one, rest) = lock.split(whole);
+    let one = push(rt, &lock, one, 2, 7);
+    let turn = lock.enter(rt, rest);
+    let seen = turn.value().value_at(0);
+    let rest = push(rt, &lock, lock.leave(turn), 0, 8);
+    let whole = lock.join(one, rest);
+    Ok((seen, lock.close(whole)))
+}
+
+/// Prints what two passes pushed in turn.
+fn show_passes<R: Wait + Print>(rt: &R, alloc: Global) -> io::Result<()> {
+    let (seen, pushes) = by_passes(rt, alloc)?;
+    let (first, second) = (pushes.value_at(0), pushes.value_at(1));
+    println!(rt; "two passes: seen {seen:?}, pushed {first:?} {second:?}")
+}
+
+/// Prints whether each of so many threads pushed so many numbers in its own order.
+fn show_order<R: Print>(rt: &R, pushes: &Pushes, threads: u64, count: u64) -> io::Result<()> {
+    let (entries, in_order) = (pushes.len(), pushes.count_up(threads, count));
+    println!(rt; "{threads} threads: entries {entries}, each in its own order {in_order}")
+}
+
+/// Prints what passes and threads push.
+fn show<R: Threads + Wait + Sync + Print>(rt: &R, alloc: Global) -> io::Result<()> {
+    show_passes(rt, alloc)?;
+    show_order(rt, &by_two(rt, alloc, Task::Push(100))?, 2, 100)?;
+    show_order(rt, &by_four(rt, alloc, Task::Push(1000))?, 4, 1000)
+}
+
 fn main(rt: HostRuntime) -> io::Result<()> {
     let alloc = rt.alloc();
     let Some(word) = env::args(&rt)?.nth(1) else {
-        let pushes = by_two(&rt, alloc, Task::Push(100))?;
-        return println!(rt; "entries {}", pushes.len());
+        return show(&rt, alloc);
     };
     let start = Instant::now(&rt)?;
     let pushes = match word.as_str() {

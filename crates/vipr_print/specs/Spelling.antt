@@ -20,6 +20,7 @@ use Rattle.problem.specs.Linear.{Terms, Point}
 abbrev pub spelled_number : ℚ → List ℕ
 spelled_number x = fraction_text x
 
+-- a number and a fraction, with a blank before each
 abbrev pub spelled_term : ℕ × ℚ → List ℕ
 spelled_term t = codes " " ++ decimal t.0 ++ codes " " ++ spelled_number t.1
 
@@ -27,6 +28,7 @@ spelled_term t = codes " " ++ decimal t.0 ++ codes " " ++ spelled_number t.1
 abbrev pub spelled_terms : Terms → List ℕ
 spelled_terms ts = decimal (length ts) ++ flat_map spelled_term ts
 
+-- the letter of a sense, between blanks
 abbrev pub spelled_sense : Sense → List ℕ
 spelled_sense G = codes " G "
 spelled_sense L = codes " L "
@@ -36,6 +38,7 @@ spelled_sense E = codes " E "
 abbrev pub spelled_row : CertRow → List ℕ
 spelled_row r = r.label ++ spelled_sense r.sense ++ spelled_number r.rhs ++ codes " " ++ spelled_terms r.terms
 
+-- the reason of a derived line (VIPR 1.0: asm, lin, rnd, uns)
 abbrev pub spelled_why : Why → List ℕ
 spelled_why Asm = codes "asm"
 spelled_why (Lin mult) = codes "lin " ++ spelled_terms mult
@@ -50,6 +53,7 @@ row_line r = spelled_row r ++ codes "\n"
 abbrev pub derived_line : CertRow × Why → List ℕ
 derived_line d = spelled_row d.0 ++ codes " { " ++ spelled_why d.1 ++ codes " } -1\n"
 
+-- what the certificate claims (VIPR 1.0, RTP)
 abbrev pub claim_line : Goal → List ℕ
 claim_line Infeas = codes "RTP infeas\n"
 claim_line (Range lb ub) = codes "RTP range " ++ spelled_number lb ++ codes " " ++ spelled_number ub ++ codes "\n"
@@ -58,6 +62,7 @@ claim_line (Range lb ub) = codes "RTP range " ++ spelled_number lb ++ codes " " 
 abbrev pub nonzero : ℤ → ℕ
 nonzero x = if int_eq x (pos 0) then 0 else 1
 
+-- how many numbers of a point are not 0
 abbrev pub count_nonzero : Point → ℕ
 count_nonzero [] = 0
 count_nonzero (x ∷ xs) = nonzero x + count_nonzero xs
@@ -99,9 +104,11 @@ integer_line (suc j) = column_numbers (suc j) ++ codes "\n"
 abbrev pub count_line : List ℕ → ℕ → List ℕ
 count_line word k = word ++ decimal k ++ codes "\n"
 
+-- a column's name
 abbrev pub name_line : List ℕ → List ℕ
 name_line name = name ++ codes "\n"
 
+-- the objective's terms
 abbrev pub objective_line : Terms → List ℕ
 objective_line ts = spelled_terms ts ++ codes "\n"
 
@@ -110,6 +117,7 @@ abbrev pub constraint_line : ℕ → ℕ → List ℕ
 constraint_line m n = codes "CON " ++ decimal m ++ codes " " ++ decimal (2 * n) ++ codes "\n"
 
 -- ---- the sections
+-- the version, and the columns by their names (VIPR 1.0, VAR)
 abbrev pub names_text : List (List ℕ) → List ℕ
 names_text names = codes "VER 1.0\n" ++ (count_line (codes "VAR ") (length names) ++ flat_map name_line names)
 
@@ -117,15 +125,19 @@ names_text names = codes "VER 1.0\n" ++ (count_line (codes "VAR ") (length names
 abbrev pub integers_text : ℕ → List ℕ
 integers_text n = count_line (codes "INT ") n ++ integer_line n
 
+-- the objective and the rows (VIPR 1.0, OBJ and CON)
 abbrev pub rows_text : Part → List ℕ
 rows_text p = codes "OBJ min\n" ++ (objective_line p.objective ++ (constraint_line (length p.rows) (length p.names) ++ flat_map row_line p.rows))
 
+-- the problem: its names, which columns are whole, its objective and rows
 abbrev pub problem_text : Part → List ℕ
 problem_text p = names_text p.names ++ (integers_text (length p.names) ++ rows_text p)
 
+-- the claim and the points that are listed (VIPR 1.0, RTP and SOL)
 abbrev pub claim_text : Goal → List Point → List ℕ
 claim_text claim points = claim_line claim ++ (count_line (codes "SOL ") (length points) ++ point_lines 0 points)
 
+-- the derived lines (VIPR 1.0, DER)
 abbrev pub derived_text : List (CertRow × Why) → List ℕ
 derived_text lines = count_line (codes "DER ") (length lines) ++ flat_map derived_line lines
 

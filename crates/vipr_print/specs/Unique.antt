@@ -20,36 +20,44 @@ IsWord text = All (λ b. 32 < b) text
 abbrev pub IsShort : ℕ → Type 0
 IsShort n = n < 10 ^ 64
 
+-- both its numbers are short
 pub record IsShortFraction (x : ℚ) : Type 0 where
   pub num : IsShort (nat_abs x.num)
   pub den : IsShort x.den
 
+-- its number and its factor are short
 pub record IsShortTerm (t : ℕ × ℚ) : Type 0 where
   pub number : IsShort t.0
   pub factor : IsShortFraction t.1
 
+-- its terms are short, and their count is
 pub record IsShortList (ts : Terms) : Type 0 where
   pub count : IsShort (length ts)
   pub terms : All IsShortTerm ts
 
+-- its right side and its terms are short
 pub record IsShortRow (r : CertRow) : Type 0 where
   pub rhs : IsShortFraction r.rhs
   pub terms : IsShortList r.terms
 
+-- its numbers are short
 abbrev pub IsShortReason : Why → Type 0
 IsShortReason Asm = Unit {0}
 IsShortReason (Lin mult) = IsShortList mult
 IsShortReason (Rnd mult) = IsShortList mult
 IsShortReason (Uns i1 l1 i2 l2) = IsShort i1 × IsShort l1 × IsShort i2 × IsShort l2
 
+-- its row and its reason are short
 pub record IsShortLine (d : CertRow × Why) : Type 0 where
   pub row : IsShortRow d.0
   pub reason : IsShortReason d.1
 
+-- its numbers are short
 abbrev pub IsShortClaim : Goal → Type 0
 IsShortClaim Infeas = Unit {0}
 IsShortClaim (Range lb ub) = IsShortFraction lb × IsShortFraction ub
 
+-- its numbers are short
 abbrev pub IsShortPoint : Point → Type 0
 IsShortPoint x = All (λ z. IsShort (nat_abs z)) x
 

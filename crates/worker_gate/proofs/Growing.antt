@@ -1,18 +1,14 @@
 -- How lists of entries grow, and stay legal.
-use Rattle.std.specs.Prelude.{◌≡◌, ◌≤◌, ◌+◌, max, ℕ, false, List, [], ◌∷◌, ◌++◌, length, take, drop, All, Option, Some, None, nat_lt, refl}
+use Rattle.std.specs.Prelude.{◌≡◌, ◌≤◌, ◌+◌, max, ℕ, false, List, [], ◌∷◌, ◌++◌, length, take, drop, All, Option, Some, None, nat_lt, refl, cond, Bool, true, ◌&&◌}
 use Rattle.std.proofs.Common.{sym, ap, ◌∙◌, subst, arith}
 use Rattle.std.proofs.lemmas.List.{append_assoc, drop-append-le, take-append-le}
 use Rattle.std.proofs.lemmas.List.Elements.{All-append}
 use Rattle.std.proofs.Math.Seq.{drop-length}
 use Rattle.node_events.specs.declared.event.Event.{Event}
-use Rattle.node_events.specs.declared.event.Event.TheVariants.{Claim, Release, Cut, Offer, Split, Close}
 use Rattle.event_core.specs.declared.entry.Entry.{Entry}
-use Rattle.event_core.specs.States.{State, tree_of}
-use Rattle.event_core.specs.After.{after, after_cut}
+use Rattle.event_core.specs.States.{State}
+use Rattle.event_core.specs.After.{after}
 use Rattle.event_core.specs.Histories.{state_from, AreLegalFrom}
-use Rattle.problem.specs.declared.row.Row.{Row}
-use Rattle.derivation_book.specs.Rounded.{rounded_row}
-use Rattle.node_tree.specs.Lemmas.Splitting.{length-split}
 use Rattle.node_pool.specs.Halting.{passes_budget}
 use Rattle.node_pool.specs.declared.halt.Halt.{Halt}
 use Rattle.worker_gate.specs.declared.entry.Opening.{Opening}
@@ -23,6 +19,8 @@ use Rattle.worker_gate.specs.Legal.{IsByOneOf, IsRecorded, IsLegalList}
 use Rattle.worker_gate.specs.Limits.{cuts_limit}
 use Rattle.worker_gate.specs.Kins.{entries_with}
 use Rattle.worker_gate.specs.Lemmas.Lists.{events-append, opening-append, opened-append, state-append, happened-append}
+use Rattle.event_core.specs.Frames.{is_split}
+use Rattle.event_core.specs.Lemmas.Frames.{keeps_frame}
 
 -- ---- entries
 pub entries-grow : (first stop : ℕ) (h : Option Halt) (history es : List Entry) → first ≤ stop → stop ≤ length history
@@ -44,19 +42,17 @@ entries-halt first stop c history =
 
 -- ---- nodes
 pub nodes_within : (budget : ℕ) (s : State) (o : Option ℕ) (e : Event) → passes_budget budget (length s.nodes) e ≡ false → length (after s o e).nodes ≤ max budget (length s.nodes)
-nodes_within budget s o (Claim i) h = grind arith
-nodes_within budget s o (Release i) h = grind arith
-nodes_within budget s o (Cut mult) h = same (rounded_row s.problem s.cuts mult)
-  where
-    same : (r : Option Row) → length (after_cut s mult r).nodes ≤ max budget (length s.nodes)
-    same None = grind arith
-    same (Some r) = grind arith
-nodes_within budget s o (Offer x) h = grind arith
-nodes_within budget s o (Split i j b r) h = few (length (after s o (Split i j b r)).nodes) (length s.nodes) (length-split (tree_of s) i j b) h
+nodes_within budget s o e h = step (is_split e) (keeps_frame s o e).node_count h
   where
     few : (m n : ℕ) → m ≡ n + 2 → nat_lt budget (n + 2) ≡ false → m ≤ max budget n
     few m n e f = grind arith
-nodes_within budget s o (Close i proof) h = grind arith
+
+    same : (m n : ℕ) → m ≡ n + 0 → m ≤ max budget n
+    same m n e = grind arith
+
+    step : (b : Bool) → length (after s o e).nodes ≡ length s.nodes + cond b 2 0 → (b && nat_lt budget (length s.nodes + 2)) ≡ false → length (after s o e).nodes ≤ max budget (length s.nodes)
+    step true n w = few (length (after s o e).nodes) (length s.nodes) n w
+    step false n w = same (length (after s o e).nodes) (length s.nodes) n
 
 -- one after the other
 pub joined_most : (limit a b c : ℕ) → b ≤ max limit a → c ≤ max limit b → c ≤ max limit a

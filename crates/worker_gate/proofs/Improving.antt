@@ -51,7 +51,7 @@ module _ (w node : ℕ) (x : Point) (proof : Proof) (at : List PoolEntry) (legal
 
     pub close_fails : (new : List PoolEntry) (f : CommitFault) → Makes w mid new (MakesOf close (Err f) mid) → Makes w at new (MakesOf (offer ++ close) (Err f) at)
     close_fails new f n = made_both w at mid new (MakesOf offer (Ok r) at) (MakesOf close (Err f) mid) (MakesOf (offer ++ close) (Err f) at) m n
-        (λ xs ys is one other. then_fails offer close r at mid xs ys is one (All-cons IsUnended (entry_by w (Offer x)) [] refl (All-nil IsUnended)) f other)
+        (λ xs ys is one other. then_fails offer close r at mid xs ys is one (All-cons IsUnended (entry_by w (Offer x)) [] refl (All-nil IsUnended)) (omega arith) f other)
 
     pub closed_then : (new : List PoolEntry) (q : Receipt) → Makes w mid new (MakesOf close (Ok q) mid) → Makes w at new (MakesOf (offer ++ close) (Ok (record { first = r.first; count = 2 })) at)
     closed_then new q n = made_both w at mid new (MakesOf offer (Ok r) at) (MakesOf close (Ok q) mid) (MakesOf (offer ++ close) (Ok (record { first = r.first; count = 2 })) at) m n
@@ -60,4 +60,4 @@ module _ (w node : ℕ) (x : Point) (proof : Proof) (at : List PoolEntry) (legal
 -- no event, for want of memory
 pub nothing_made : (w : ℕ) (at : List PoolEntry) → IsLegalList at → halt_in at ≡ None → (all : List Entry) → Makes w at at (AreFirstMade all at)
 nothing_made w at legal unhalted all =
-    made_nothing w at at (AreFirstMade all at) refl legal record { events = []; left = all; unhalted = unhalted; firsts = record { parted = refl; unended = All-nil IsUnended }; made = refl }
+    made_nothing w at at (AreFirstMade all at) refl legal record { events = []; left = all; unhalted = unhalted; firsts = record { parted = refl; unended = All-nil IsUnended }; some_left = λ some. omega (arith, some); made = refl }

@@ -25,6 +25,7 @@ use Rattle.worker_gate.specs.Kins.{entries_with, opening_of, list_of, IsPoolOf, 
 use Rattle.worker_gate.specs.Lemmas.Lists.{events-happened, opening-append, halt-first, halt-none, halt-happened, state-append, history-append}
 use Rattle.worker_gate.proofs.Following.{Follows}
 use Rattle.worker_gate.proofs.Growing.{entries-grow, entries-halt, nodes_within, joined_most, still_legal}
+use Rattle.problem.specs.Limits.{most_cuts}
 
 -- ---- halts
 halt_same : (list : List PoolEntry) (es : List Entry) → halt_in (list ++ happened es) ≡ halt_in list
@@ -63,7 +64,7 @@ module _ {D : Type 0} {d : Ghosts D} where
       faults = refl;
     }
 
-    pub kept_begins : cuts ≤ 256 → IsRecorded pool.state → IsKept pool pool n n cuts workers
+    pub kept_begins : cuts ≤ most_cuts → IsRecorded pool.state → IsKept pool pool n n cuts workers
     kept_begins few h = record {
       counted = counted;
       after = omega arith;

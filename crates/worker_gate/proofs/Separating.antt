@@ -104,7 +104,7 @@ module _ (w : ℕ) (at now : List PoolEntry) (opened : IsLegalList at) (mults : 
         subst (λ (es : List Entry). Makes w at new (MakesOf es (Err f) at)) (sym (ap (cuts_by w) together ∙ cuts_append w (h.done ++ mult ∷ []) left ∙ ap (λ (es : List Entry). es ++ cuts_by w left) (cuts_append w h.done (mult ∷ []))))
         (made_both w at now new (AreAllMade (cuts_by w h.done) (record { first = first; count = count }) at) (MakesOf (entry_by w (Cut mult) ∷ []) (Err f) now) _ h.makes m
         (λ xs ys is one other. more_fails (cuts_by w h.done ++ cuts_by w (mult ∷ [])) (cuts_by w left) at (xs ++ ys) f
-        (then_fails (cuts_by w h.done) (cuts_by w (mult ∷ [])) (record { first = first; count = count }) at now xs ys is one (unended w h.done) f other)))
+        (then_fails (cuts_by w h.done) (cuts_by w (mult ∷ [])) (record { first = first; count = count }) at now xs ys is one (unended w h.done) (omega arith) f other)))
 
     pub cut_made : (new : List PoolEntry) (r : Receipt) → Makes w now new (MakesOf (entry_by w (Cut mult) ∷ []) (Ok r) now) → AreSomeMade w at new mults left first (count + 1)
     cut_made new r m = record {

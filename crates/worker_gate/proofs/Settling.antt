@@ -1,5 +1,5 @@
 -- How a finding settles a node, by a pool's list.
-use Rattle.std.specs.Prelude.{◌≡◌, ◌≤◌, ◌+◌, ◌-◌, ◌^◌, ℕ, pos, nat_abs, true, List, length, take, Some, Result, Ok, Err, IfOk, slice_get, slice_index_or, refl}
+use Rattle.std.specs.Prelude.{◌≡◌, ◌≤◌, ◌+◌, ◌-◌, ℕ, pos, nat_abs, true, List, length, take, Some, Result, Ok, Err, IfOk, slice_get, slice_index_or, refl}
 use Rattle.std.specs.declared.alloc.AllocError.{AllocError}
 use Rattle.std.proofs.Common.{sym, ap, ◌∙◌, subst, arith, to_z, of_z, w64}
 use Rattle.std.proofs.lemmas.Int.{ints}
@@ -8,6 +8,7 @@ use Rattle.std.proofs.lemmas.List.Elements.{All-get_or}
 use Rattle.std.proofs.lemmas.Option.{slice_get-get_or}
 use Rattle.problem_box.specs.declared.span.Span.{Span}
 use Rattle.problem.specs.Limited.{IsModestSpan, IsLimited}
+use Rattle.problem.specs.Limits.{largest_bound}
 use Rattle.node_events.specs.declared.proof.Proof.{Proof}
 use Rattle.node_events.specs.declared.event.Event.TheVariants as event
 use Rattle.node_tree.specs.Nodes.{Tree}
@@ -95,7 +96,7 @@ module _ (at : List PoolEntry) (legal : IsLegalList at) (w node : ℕ) (here : H
     abbrev no_span : Span
     no_span = record { lo = pos 0; hi = pos 0 }
 
-    at_most : nat_abs b.place.bound ≤ 10 ^ 9
+    at_most : nat_abs b.place.bound ≤ largest_bound
     at_most =
         let j = b.place.column in
         let ss = box_of s node in

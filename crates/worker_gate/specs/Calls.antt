@@ -1,12 +1,14 @@
 -- What each call answers, and which entries it makes, by the list that it finds.
-use Rattle.std.specs.Prelude.{◌≡◌, ℕ, Bool, true, false, List, [], ◌∷◌, ◌++◌, length, drop, All, Option, Some, None, IsSome, Result, Ok, Err}
+use Rattle.std.specs.Prelude.{◌≡◌, ◌<◌, ℕ, Bool, true, false, List, [], ◌∷◌, ◌++◌, length, drop, All, Option, Some, None, IsSome, Result, Ok, Err, is_some}
 use Rattle.std.specs.declared.alloc.AllocError.{AllocError}
 use Rattle.node_events.specs.declared.event.Event.{Event}
 use Rattle.node_events.specs.declared.event.Event.TheVariants as event
 use Rattle.node_tree.specs.Nodes.{branch_at}
 use Rattle.event_core.specs.declared.entry.Entry.{Entry}
 use Rattle.event_core.specs.States.{State, tree_of, box_of, cutoff}
+use Rattle.outside.specs.Faults.{Rose}
 use Rattle.node_pool.specs.Answers.{IsClaim}
+use Rattle.node_pool.specs.Halting.{passes_budget}
 use Rattle.node_pool.specs.declared.halt.Halt.{Halt}
 use Rattle.node_pool.specs.declared.halt.Halt.TheVariants as halt
 use Rattle.node_pool.specs.declared.answers.Claim.{Claim}
@@ -22,6 +24,7 @@ use Rattle.worker_gate.specs.declared.entry.PoolEntry.{PoolEntry}
 use Rattle.worker_gate.specs.declared.entry.PoolEntry.TheVariants.{Happened, Halted}
 use Rattle.worker_gate.specs.declared.glance.Glance.{Glance}
 use Rattle.worker_gate.specs.Entries.{happened, opening_in, halt_in, state_in, payloads_of}
+use Rattle.event_core.specs.Frames.{ended_by}
 
 -- an event of the worker
 abbrev pub entry_by : ℕ → Event → Entry
@@ -58,12 +61,7 @@ settling w node f at = entries_of w (events_of node (settled (state_in at) (box_
 
 -- the event is the last one of its node
 abbrev pub ends_node : Event → Bool
-ends_node (event.Claim i) = false
-ends_node (event.Release i) = false
-ends_node (event.Cut mult) = false
-ends_node (event.Offer x) = false
-ends_node (event.Split i j b reason) = true
-ends_node (event.Close i proof) = true
+ends_node e = is_some (ended_by e)
 
 -- of all these events the first were made, none of which ends the node
 pub record AreFirstOf (all made left : List Entry) : Type 0 where
@@ -77,20 +75,22 @@ pub record AreAllMade (all : List Entry) (r : Receipt) (at own : List PoolEntry)
   pub first : r.first ≡ payloads_of at
   pub count : r.count ≡ length all
 
--- the first were made, and there was no memory for the next
+-- the first were made, and there was no memory for the next; where there was none for the settlement, nothing was made
 pub record AreFirstMade (all : List Entry) (at own : List PoolEntry) : Type 0 where
   pub events : List Entry
   pub left : List Entry
   pub unhalted : halt_in at ≡ None
   pub firsts : AreFirstOf all events left
+  pub some_left : 0 < length events → 0 < length left
   pub made : own ≡ happened events
 
--- the halt by a fault at this event
-abbrev pub IsHaltBy : CommitFault → Event → Halt → Type 0
-IsHaltBy fault.Disk e h = (n : ℕ) × (h ≡ halt.Disk n e)
-IsHaltBy fault.Budget e h = h ≡ halt.Budget e
-IsHaltBy fault.Memory e h = ⊥
-IsHaltBy fault.Halted e h = ⊥
+-- The halt by a fault at this event, behind these entries: the disk's count of faults rose to this number, or the event splits a node, and the two
+-- children would pass the budget.
+abbrev pub IsHaltBy : CommitFault → Event → Halt → List PoolEntry → Type 0
+IsHaltBy fault.Disk e h at = (n : ℕ) × (h ≡ halt.Disk n e) × Rose (opening_in at).faults n
+IsHaltBy fault.Budget e h at = (h ≡ halt.Budget e) × (passes_budget (opening_in at).budget (length (state_in at).nodes) e ≡ true)
+IsHaltBy fault.Memory e h at = ⊥
+IsHaltBy fault.Halted e h at = ⊥
 
 -- the first were made, and the pool was halted by a fault at the next
 pub record AreHalted (all : List Entry) (f : CommitFault) (at own : List PoolEntry) : Type 0 where
@@ -100,7 +100,7 @@ pub record AreHalted (all : List Entry) (f : CommitFault) (at own : List PoolEnt
   pub halt : Halt
   pub unhalted : halt_in at ≡ None
   pub firsts : AreFirstOf all events (next ∷ left)
-  pub cause : IsHaltBy f next.event halt
+  pub cause : IsHaltBy f next.event halt (at ++ happened events)
   pub made : own ≡ happened events ++ Halted halt ∷ []
 
 -- which of these events a commit makes

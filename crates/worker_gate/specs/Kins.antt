@@ -13,6 +13,7 @@ use Rattle.worker_gate.specs.declared.entry.PoolEntry.{PoolEntry}
 use Rattle.worker_gate.specs.declared.entry.PoolEntry.TheVariants.{Opened, Halted}
 use Rattle.worker_gate.specs.Entries.{happened, opening_in, halt_in, state_in, history_in}
 use Rattle.worker_gate.specs.Legal.{IsLegalList}
+use Rattle.problem.specs.Limits.{most_cuts}
 
 -- events behind the first so many, with the halt behind the first `stop` of all
 abbrev pub entries_with : ℕ → Option Halt → ℕ → List Entry → List PoolEntry
@@ -61,6 +62,6 @@ module _ {D : Type 0} {d : Ghosts D} where
     pub counted : count ≡ length first.state.history
     pub after : count ≤ stop
     pub before : stop ≤ length pool.state.history
-    pub few : cuts ≤ 256
+    pub few : cuts ≤ most_cuts
     pub legal : IsLegalList (list_of first pool stop cuts workers)
     pub same : IsPoolOf (list_of first pool stop cuts workers) pool

@@ -32,7 +32,9 @@ impl<D: Disk> Kin<D> {
         ensures { Makes worker self.old self.new (MakesOf (entry_by worker event ∷ []) result self.old) }
     {
         self.stop = self.pool.state().history().len();
-        self.pool.commit(alloc, worker, event)
+        let answer = self.pool.commit(alloc, worker, event);
+        self.pool.history_holds();
+        answer
     }
 
     /// How many payloads the journal has.

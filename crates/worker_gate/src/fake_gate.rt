@@ -8,6 +8,7 @@ use node_pool::{Claim, CommitFault, Receipt};
 use outside::Disk;
 use std::alloc::{AllocError, Global};
 use std::sync::Wait;
+use turn_lock::Traffic;
 
 /// A gate to a pool that nobody else asks.
 pub struct FakeGate<D: Disk> {
@@ -43,6 +44,10 @@ impl<D: Disk> PoolGate for FakeGate<D> {
     ghost worker = { λ g. g.worker };
 
     ghost seen = { λ g. g.kin };
+
+    fn traffic(&self) -> Traffic {
+        Traffic::none()
+    }
 
     fn claim<R: Wait>(&mut self, _rt: &R, alloc: Global) -> Result<Claim, AllocError> {
         self.kin.is_legal_now();

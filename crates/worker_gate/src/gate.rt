@@ -5,6 +5,7 @@ use expand::Finding;
 use node_pool::{Claim, CommitFault, Receipt};
 use std::alloc::{AllocError, Global};
 use std::sync::Wait;
+use turn_lock::Traffic;
 
 /// What a worker may ask of a pool.
 ///
@@ -27,6 +28,9 @@ pub trait PoolGate {
 
     /// The list that the gate has seen.
     ghost seen: { Self → List PoolEntry };
+
+    /// How often the gate's calls met those of others. It is a hint: no contract says what it is.
+    fn traffic(&self) -> Traffic;
 
     /// Asks for a node, as `Pool::claim` gives it. The one error is want of memory.
     fn claim<R: Wait>(&mut self, rt: &R, alloc: Global) -> Result<Claim, AllocError>

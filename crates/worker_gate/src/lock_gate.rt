@@ -11,7 +11,7 @@ use outside::Disk;
 use std::alloc::{AllocError, Global};
 use std::mem;
 use std::sync::Wait;
-use turn_lock::{Pass, TurnLock};
+use turn_lock::{Pass, Traffic, TurnLock};
 
 /// A gate to the pool under a lock. Between two calls it has a pass and no turn. It has to be ended by `into_pass`.
 pub struct LockGate<'a, D: Disk> {
@@ -39,13 +39,6 @@ impl<'a, D: Disk> LockGate<'a, D> {
         }
     }
 
-    /// The worker's number.
-    pub fn worker(&self) -> u32
-        ensures { result ≡ self.now.worker }
-    {
-        self.worker
-    }
-
     /// The pass.
     pub fn into_pass(self) -> Pass<Kin<D>>
         ensures pass { IsGatePass self.entry.lock.now self.entry.worker result }
@@ -71,6 +64,13 @@ impl<'a, D: Disk> PoolGate for LockGate<'a, D> {
     ghost worker = { λ g. g.worker };
 
     ghost seen = { λ g. seen_in g.pass };
+
+    fn traffic(&self) -> Traffic {
+        match &self.pass {
+            Some(pass) => pass.traffic(),
+            None => Traffic::none(),
+        }
+    }
 
     fn claim<R: Wait>(&mut self, rt: &R, alloc: Global) -> Result<Claim, AllocError> {
         let Some(pass) = mem::replace(&mut self.pass, None) else {

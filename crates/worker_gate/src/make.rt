@@ -2,6 +2,7 @@
 ghost use Rattle.std.specs.Prelude.{◌≡◌, ◌≤◌, ◌∷◌, [], None};
 ghost use Rattle.worker_gate.specs.Kins.{opening_of, IsPoolOf};
 ghost use Rattle.worker_gate.specs.Legal.{IsLegalList};
+ghost use Rattle.problem.specs.Limits.{most_cuts};
 
 use crate::{Kin, PoolEntry};
 use node_pool::Pool;
@@ -9,11 +10,11 @@ use outside::Disk;
 use std::snapshot::Snapshot;
 
 impl<D: Disk> Kin<D> {
-    /// A pool that isn't halted, with a list that begins now. The book takes at most `cuts` cuts, 0 to 256, or as many as it has already. Workers 0 to
+    /// A pool that isn't halted, with a list that begins now. The book takes at most `cuts` cuts, 0 to `MOST_CUTS`, or as many as it has already. Workers 0 to
     /// `workers - 1` may ask.
     pub fn make(pool: Pool<D>, cuts: u32, workers: u32) -> Kin<D>
         requires sound { pool.halt ≡ None }
-        requires few { cuts ≤ 256 }
+        requires few { cuts ≤ most_cuts }
         ensures list { result ≡ PoolEntry.Opened (opening_of pool cuts workers) ∷ [] }
         ensures legal { IsLegalList result }
     {

@@ -17,6 +17,7 @@ use Rattle.node_tree.specs.Nodes.{children_at}
 use Rattle.node_tree.specs.Paths.{box_at}
 use Rattle.node_tree.specs.Laws.{IsSplitAt}
 use Rattle.node_tree.specs.Lemmas.Splitting.{other_node, this_node, same_or_not, split_at, length-split}
+use Rattle.node_tree.specs.Limits.{most_nodes}
 use Rattle.node_events.specs.declared.proof.Proof.{Proof}
 use Rattle.node_events.specs.declared.reason.Reason.{Reason}
 use Rattle.node_events.specs.declared.event.Event.{Event}
@@ -228,5 +229,5 @@ pub of_problem : (p : Problem) (es : List Entry) → (state_of p es).problem ≡
 of_problem p es = from-problem (first_state p) es
 
 -- ---- numbers of lines
-pub is_numbered : (s : State) → IsSound s → IsLimited s.problem → length s.nodes ≤ 1_000_000_000 → IsNumbered s
+pub is_numbered : (s : State) → IsSound s → IsLimited s.problem → length s.nodes ≤ most_nodes → IsNumbered s
 is_numbered s h l n = omega (arith, h.few_cuts, l.few_columns, l.few_rows, n)

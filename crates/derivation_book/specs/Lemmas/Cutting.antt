@@ -1,9 +1,9 @@
 -- Lemmas: rounded rows follow by rounding, cuts hold at feasible points, and legal proofs close boxes.
-use Rattle.std.specs.Prelude.{◌≡◌, ◌⊎◌, ◌<◌, ◌≤◌, ◌+◌, ◌^◌, ℕ, zero, suc, ℤ, pos, ◌≤ℤ◌, ◌<ℤ◌, nat_abs, Bool, true, false, IsTrue, nat_le, nat_eq, List, [], ◌∷◌, ◌++◌, map, length, All, slice_get, slice_index_or, Option, Some, None, refl}
+use Rattle.std.specs.Prelude.{◌≡◌, ◌⊎◌, ◌<◌, ◌≤◌, ◌+◌, ℕ, zero, suc, ℤ, pos, ◌≤ℤ◌, ◌<ℤ◌, nat_abs, Bool, true, false, IsTrue, nat_le, nat_eq, List, [], ◌∷◌, ◌++◌, map, length, All, slice_get, slice_index_or, Option, Some, None, refl}
 use Rattle.std.specs.List.{list_all}
 use Rattle.std.proofs.Common.{sym, ap, ◌∙◌, subst, inl, inr, arith}
 use Rattle.std.proofs.lemmas.Int.{ints}
-use Rattle.std.proofs.lemmas.Bool.{eqb-true}
+use Rattle.std.proofs.lemmas.Bool.{eqb-true, and_parts}
 use Rattle.std.proofs.lemmas.List.Elements.{All-nil, All-cons, All-head, All-tail, All-append, All-push, All-map, All-weaker}
 use Rattle.fraction.specs.Rational.{ℚ, whole, ceil, ◌≤ℚ◌}
 use Rattle.fraction.specs.Lemmas.Rational.{≤ℚ_refl, ≤ℚ_trans, zero-+ℚ, ceil_least}
@@ -20,6 +20,7 @@ use Rattle.problem.specs.Rows.{Satisfies}
 use Rattle.problem.specs.Problem.{Problem}
 use Rattle.problem.specs.Feasible.{IsFeasible, objective_at}
 use Rattle.problem.specs.Limited.{IsLimited, IsLimitedRow}
+use Rattle.problem.specs.Limits.{largest_cut_coefficient}
 use Rattle.cert_rows.specs.Lines.{CertLine, row_at, no_cert_line}
 use Rattle.cert_rows.specs.Combination.{combination, combined_terms, combined_rhs}
 use Rattle.cert_rows.specs.Validity.{IsRounded, rounded, lower_row, upper_row, bound_rows}
@@ -32,7 +33,6 @@ use Rattle.derivation_book.specs.Known.{known_rows, known_lines}
 use Rattle.derivation_book.specs.Rounded.{is_cut_coefficient, nonzero_terms, rounded_row}
 use Rattle.derivation_book.specs.Cuts.{AreCutsAfter, AreCutsOf}
 use Rattle.derivation_book.specs.Legal.{IsLegalProof, rounded_if}
-use Rattle.derivation_book.specs.Lemmas.Steps.{both}
 use Rattle.derivation_book.specs.Lemmas.Combining.{combined_length}
 use Rattle.derivation_book.specs.Lemmas.Price.{has_sums}
 use Rattle.derivation_book.specs.Lemmas.Rounded.{IsBelow, terms_below, made_from}
@@ -98,8 +98,8 @@ module _ (p : Problem) (cs : List Cut) (mult : List (ℕ × ℚ)) (limited : IsL
 
   all_whole : (qs : List ℚ) → list_all is_cut_coefficient qs ≡ true → (i : ℕ) → IsWhole (slice_index_or qs i (whole (pos 0)))
   all_whole [] h i = (whole_parts (pos 0)).1
-  all_whole (a ∷ qs) h zero = eqb-true a.den 1 (both (nat_eq a.den 1) (nat_le (nat_abs a.num) (2 ^ 40)) (both (is_cut_coefficient a) (list_all is_cut_coefficient qs) h).0).0
-  all_whole (a ∷ qs) h (suc i) = all_whole qs (both (is_cut_coefficient a) (list_all is_cut_coefficient qs) h).1 i
+  all_whole (a ∷ qs) h zero = eqb-true a.den 1 (and_parts (nat_eq a.den 1) (nat_le (nat_abs a.num) largest_cut_coefficient) (and_parts (is_cut_coefficient a) (list_all is_cut_coefficient qs) h).0).0
+  all_whole (a ∷ qs) h (suc i) = all_whole qs (and_parts (is_cut_coefficient a) (list_all is_cut_coefficient qs) h).1 i
 
   past_end : (qs : List ℚ) (i : ℕ) → length qs ≤ i → slice_index_or qs i (whole (pos 0)) ≡ whole (pos 0)
   past_end [] i l = refl

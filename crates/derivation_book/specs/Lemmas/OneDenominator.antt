@@ -12,7 +12,7 @@ use Rattle.fraction.specs.Lemmas.Gcd.{gcd_is, lcm_dvd}
 use Rattle.fraction.specs.Lemmas.Lowest.{abs-div}
 use Rattle.fraction.specs.Lemmas.Integers.{is_diff, diff-pos, diff-mul, diff-add, diff-same, cancel_ℤ, add-mul_ℤ}
 use Rattle.fraction.specs.Lemmas.Rational.{lit_one, frac_is, frac_den, frac_same, frac-+ℚ, frac-*ℚ}
-use Rattle.fraction.specs.Lemmas.Bounds.{add_is, mul_is, mul_fits_small, is_small_from}
+use Rattle.fraction.specs.Lemmas.Bounds.{add_is, mul_is, mul_fits_small, is_small_from, frac-num_le, small_product}
 
 pub zero_over : (d : ℕ) → 0 < d → whole (pos 0) ≡ frac (pos 0) d
 zero_over d o = frac_same (pos 0) (pos 0) 1 d lit_one o (omega (arith, ints))
@@ -67,24 +67,17 @@ add_over a b d o h k l m =
     ∙ ap Some (frac-+ℚ a b d d o o ∙ frac_same _ _ _ _ (mul-pos o o) o (summed a b d))
 
 -- ---- products
-pub num_le : (z : ℤ) (d : ℕ) → 0 < d → nat_abs (frac z d).num ≤ nat_abs z
-unfolding frac
-num_le z zero o = absurd (omega arith)
-num_le z (suc n) o = rw (abs-div z _) (div-le_self (nat_abs z) _)
-
-small_product : (m n a b : ℕ) → m ≤ a → n ≤ b → a * b < 2 ^ 127 → m * n < 2 ^ 127
-small_product m n a b h k l = omega (arith, mul-le-mul h k)
 
 pub mul_over : (z x : ℤ) (d : ℕ) → 0 < d → d < 2 ^ 127 → nat_abs (z *ℤ x) < 2 ^ 127 → mul_checked (frac z d) (whole x) ≡ Some (frac (z *ℤ x) d)
 mul_over z x d o h k =
     mul_is _ _ (mul_fits_small (frac z d) (whole x)
-    (small_product _ _ _ _ (num_le z d o) (num_le x 1 lit_one) (let w : nat_abs z * nat_abs x < 2 ^ 127 = omega (arith, k, unsigned_abs-mul z x) in w))
+    (small_product _ _ _ _ (frac-num_le z d o) (frac-num_le x 1 lit_one) (let w : nat_abs z * nat_abs x < 2 ^ 127 = omega (arith, k, unsigned_abs-mul z x) in w))
     (small_product _ _ d 1 (le_of_dvd o (frac_den z d o)) (le_of_dvd lit_one (frac_den x 1 lit_one)) (omega (arith, h))))
     ∙ ap Some (frac-*ℚ z x d 1 o lit_one ∙ ap (frac (z *ℤ x)) (mul-one d))
 
 pub times_over : (x z : ℤ) (d : ℕ) → 0 < d → d < 2 ^ 127 → nat_abs (x *ℤ z) < 2 ^ 127 → mul_checked (whole x) (frac z d) ≡ Some (frac (x *ℤ z) d)
 times_over x z d o h k =
     mul_is _ _ (mul_fits_small (whole x) (frac z d)
-    (small_product _ _ _ _ (num_le x 1 lit_one) (num_le z d o) (let w : nat_abs x * nat_abs z < 2 ^ 127 = omega (arith, k, unsigned_abs-mul x z) in w))
+    (small_product _ _ _ _ (frac-num_le x 1 lit_one) (frac-num_le z d o) (let w : nat_abs x * nat_abs z < 2 ^ 127 = omega (arith, k, unsigned_abs-mul x z) in w))
     (small_product _ _ 1 d (le_of_dvd lit_one (frac_den x 1 lit_one)) (le_of_dvd o (frac_den z d o)) (omega (arith, h))))
     ∙ ap Some (frac-*ℚ x z 1 d lit_one o ∙ ap (frac (x *ℤ z)) (let e : 1 * d ≡ d = omega arith in e))

@@ -9,12 +9,6 @@ pub was_mapped : {A B : Type 0} (f : A → B) (o : Option A) (t : B) → option_
 was_mapped f None t e = cc
 was_mapped f (Some v) t e = (v, refl, (cc))
 
--- both tests
-pub both : (a b : Bool) → (a && b) ≡ true → (a ≡ true) × (b ≡ true)
-both true true e = (refl, refl)
-both true false e = cc
-both false b e = cc
-
 -- steps one after another, in two orders
 pub nothing_left : {A B : Type 0} (o : Option A) → option_and_then {T = A} {U = B} (λ a. None) o ≡ None
 nothing_left None = refl

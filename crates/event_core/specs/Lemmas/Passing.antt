@@ -4,6 +4,7 @@ use Rattle.std.proofs.lemmas.Bool.{ltb-true}
 use Rattle.fraction.specs.Rational.{ℚ}
 use Rattle.problem.specs.declared.row.Row.{Row}
 use Rattle.problem.specs.Feasible.{objective_at}
+use Rattle.problem.specs.Limits.{most_cuts}
 use Rattle.node_events.specs.declared.proof.Proof.{Proof}
 use Rattle.node_events.specs.declared.reason.Reason.{Reason}
 use Rattle.derivation_book.specs.Rounded.{rounded_row}
@@ -52,7 +53,7 @@ release_passed s w i e =
     record { opened = a.holds; yours = b.holds }
 
 pub record IsPassedCut (s : State) (mult : List (ℕ × ℚ)) : Type 0 where
-  pub few : length s.cuts < 256
+  pub few : length s.cuts < most_cuts
   pub row : Row
   pub rounded : rounded_row s.problem s.cuts mult ≡ Some row
 
@@ -62,7 +63,7 @@ row_there (Some r) e = (r, refl)
 
 pub cut_passed : (s : State) (mult : List (ℕ × ℚ)) → judged_cut s mult ≡ Yes → IsPassedCut s mult
 cut_passed s mult e =
-    let a = passes (nat_lt (length s.cuts) 256) Full _ (λ q. cc) e in
+    let a = passes (nat_lt (length s.cuts) most_cuts) Full _ (λ q. cc) e in
     let b = passes (has_row (rounded_row s.problem s.cuts mult)) BadCut Yes (λ q. cc) a.rest in
     let r = row_there (rounded_row s.problem s.cuts mult) b.holds in
     record { few = ltb-true _ _ a.holds; row = r.0; rounded = r.1 }

@@ -10,6 +10,7 @@ use Rattle.fraction.specs.Rational.{ℚ}
 use Rattle.problem.specs.declared.row.Row.{Row}
 use Rattle.problem.specs.Problem.{Problem}
 use Rattle.problem.specs.Feasible.{objective_at}
+use Rattle.problem.specs.Limits.{most_cuts}
 use Rattle.node_tree.specs.Nodes.{node_at}
 use Rattle.node_tree.specs.Paths.{path_at}
 use Rattle.node_tree.specs.Splits.{with_split}
@@ -84,7 +85,7 @@ pub record IsKept (s : State) : Type 0 where
   pub tree : IsTree (tree_of s)
   pub leaves : AreLeaves s.ended s.nodes
   pub cuts : AreCutsOf s.problem s.cuts
-  pub few_cuts : length s.cuts ≤ 256
+  pub few_cuts : length s.cuts ≤ most_cuts
   pub incumbent : IsIncumbentOf s.problem s.incumbent
   pub holds_open : All (HoldsOpen s.ended) s.holds
   pub apart : AreApart s.holds
@@ -120,7 +121,7 @@ kept_claim s (Some w) i k l =
       apart = AreApart-push s.holds (record { worker = w; node = i }) k.apart n.1 n.0;
     }
 
-kept_cut : (s : State) (mult : List (ℕ × ℚ)) (o : Option Row) → rounded_row s.problem s.cuts mult ≡ o → length s.cuts < 256 → IsKept s → IsKept (after_cut s mult o)
+kept_cut : (s : State) (mult : List (ℕ × ℚ)) (o : Option Row) → rounded_row s.problem s.cuts mult ≡ o → length s.cuts < most_cuts → IsKept s → IsKept (after_cut s mult o)
 kept_cut s mult None e f k = k
 kept_cut s mult (Some r) e f k = record {
   tree = k.tree;

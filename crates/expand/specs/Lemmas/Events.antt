@@ -7,6 +7,7 @@ use Rattle.std.proofs.lemmas.List.Elements.{All-head, All-tail, All-weaker}
 use Rattle.problem.specs.declared.row.Row.{Row}
 use Rattle.problem.specs.Linear.{Point, Multipliers}
 use Rattle.problem.specs.Feasible.{IsFeasible, objective_at}
+use Rattle.problem.specs.Limits.{most_cuts}
 use Rattle.node_events.specs.declared.proof.Proof.{Proof}
 use Rattle.node_events.specs.declared.reason.Reason.{Reason}
 use Rattle.node_events.specs.declared.event.Event.TheVariants.{Cut, Offer, Split, Close}
@@ -40,9 +41,9 @@ offer_legal s w x feasible better = record {
   stands = tt;
 }
 
-pub cut_legal : (s : State) (w : ℕ) (mult : Multipliers) → length s.cuts < 256 → HasRow s.problem s.cuts mult → IsLegal s (Some w) (Cut mult)
+pub cut_legal : (s : State) (w : ℕ) (mult : Multipliers) → length s.cuts < most_cuts → HasRow s.problem s.cuts mult → IsLegal s (Some w) (Cut mult)
 cut_legal s w mult few row = record {
-  admitted = passing (nat_lt (length s.cuts) 256) Full _ ((Decides-ltb (length s.cuts) 256).1 few) (passing (has_row (rounded_row s.problem s.cuts mult)) BadCut Yes (ap has_row row.1) refl);
+  admitted = passing (nat_lt (length s.cuts) most_cuts) Full _ ((Decides-ltb (length s.cuts) most_cuts).1 few) (passing (has_row (rounded_row s.problem s.cuts mult)) BadCut Yes (ap has_row row.1) refl);
   stands = tt;
 }
 
@@ -71,7 +72,7 @@ module _ (s : State) (mult : Multipliers) (mults : List Multipliers) (h : AreNew
   abbrev made : MadeCut
   made = record { row = row.0; mult = mult }
 
-  pub first_few : length s.cuts < 256
+  pub first_few : length s.cuts < most_cuts
   first_few = let k = h.few in omega (arith, k)
 
   pub first_row : HasRow s.problem s.cuts mult

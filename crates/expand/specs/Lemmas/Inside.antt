@@ -1,5 +1,5 @@
 -- Lemmas: the boxes of a tree's nodes lie in the root's box.
-use Rattle.std.specs.Prelude.{◌≡◌, ◌^◌, ℕ, zero, suc, ℤ, List, [], ◌∷◌, All, length, slice_get, refl}
+use Rattle.std.specs.Prelude.{◌≡◌, ℕ, zero, suc, ℤ, List, [], ◌∷◌, All, length, slice_get, refl}
 use Rattle.std.specs.Option.{ForSome}
 use Rattle.std.proofs.Common.{subst, arith}
 use Rattle.std.proofs.lemmas.Int.{ints}
@@ -7,6 +7,7 @@ use Rattle.problem_box.specs.declared.span.Span.{Span}
 use Rattle.problem_box.specs.Boxes.{IsInBox}
 use Rattle.problem_box.specs.Changes.{cut_low, cut_high}
 use Rattle.problem.specs.Limited.{IsModestSpan, IsLimited}
+use Rattle.problem.specs.Limits.{largest_bound}
 use Rattle.node_tree.specs.declared.branch.Side.{Side}
 use Rattle.node_tree.specs.declared.branch.Side.TheVariants.{Low, High}
 use Rattle.node_tree.specs.declared.branch.Branch.{Branch}
@@ -54,7 +55,7 @@ module _ (s : State) (tree : IsTree (tree_of s)) (i : ℕ) where
   box_columns = boxes.columns i
 
   pub box_modest : IsLimited s.problem → All IsModestSpan (box_of s i)
-  box_modest l = boxes.within (10 ^ 9) l.spans i
+  box_modest l = boxes.within largest_bound l.spans i
 
   pub box_part : IsPart s.problem (box_of s i)
   box_part = λ x k. along_in s.problem.spans (path_at (tree_of s) i) (inside_path (tree_of s) tree i) x k

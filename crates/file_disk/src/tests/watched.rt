@@ -103,7 +103,7 @@ impl Files for Watched<'_> {
         self.rt.remove_dir_all(alloc, path)
     }
 
-    fn canonicalize<B: Allocator>(&self, alloc: B, path: &str) -> io::Result<PathBuf<B>> {
-        self.rt.canonicalize(alloc, path)
+    fn read_link<B: Allocator>(&self, alloc: B, path: &str) -> io::Result<PathBuf<B>> {
+        self.rt.read_link(alloc, path)
     }
 }

@@ -142,6 +142,18 @@ whole_parts p =
     let e : whole p ≡ made p 1 (lit_one, gcd-one (nat_abs p)) = sym (ℚ_is (made p 1 (lit_one, gcd-one (nat_abs p)))) in
     (ap (λ (x : ℚ). x.num) e, ap (λ (x : ℚ). x.den) e)
 
+-- ---- the parts of a quotient, and sizes
+pub frac-num_le : (z : ℤ) (d : ℕ) → 0 < d → nat_abs (frac z d).num ≤ nat_abs z
+unfolding frac
+frac-num_le z zero o = absurd (omega arith)
+frac-num_le z (suc n) o = rw (abs-div z _) (div-le_self (nat_abs z) _)
+
+pub small_product : (m n a b : ℕ) → m ≤ a → n ≤ b → a * b < 2 ^ 127 → m * n < 2 ^ 127
+small_product m n a b h k l = omega (arith, mul-le-mul h k)
+
+pub Within-more : (n a b : ℕ) (x : ℚ) → a ≤ b → Within n a x → Within n b x
+Within-more n a b x l w = record { divides = w.divides; size = omega (arith, mul-le-mul_right x.den l, w.size) }
+
 -- a whole number that is not 0 is no fraction that is 0
 pub whole_nonzero : (z : ℤ) → (z ≡ pos 0 → ⊥) → whole z ≡ whole (pos 0) → ⊥
 whole_nonzero z n e = n (sym (whole_parts z).0 ∙ ap (λ (q : ℚ). q.num) e ∙ (whole_parts (pos 0)).0)

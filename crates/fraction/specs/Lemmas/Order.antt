@@ -4,7 +4,7 @@ use Rattle.std.specs.Prelude.{◌≡◌, ℤ, pos, ◌*ℤ◌, ◌≤ℤ◌, ◌
 use Rattle.std.proofs.lemmas.Int.{ints}
 use Rattle.std.specs.declared.cmp.Ordering.TheVariants.{Less, Equal, Greater}
 use Rattle.std.specs.declared.cmp.Ordering.{Ordering}
-use Rattle.std.specs.Ordering.{int_cmp, int_eq, is_eq}
+use Rattle.std.specs.Ordering.{int_cmp, int_eq, is_eq, is_lt}
 use Rattle.std.specs.Cmp.{IsTotalOrder}
 use Rattle.std.specs.Bool.{Decides, one_answer}
 use Rattle.std.proofs.lemmas.Cmp.{int_cmp_total, tied_itself}
@@ -101,6 +101,12 @@ pub <ℚ_trans : (x y z : ℚ) → x <ℚ y → y <ℚ z → x <ℚ z
   | inl l ↦ absurd (not_both y x (≤ℚ_trans y z x (less_at_most y z k) l) h)
   | inr l ↦ l
 ]
+
+-- the one order that passes the test
+pub less_only : (o : Ordering) → is_lt o ≡ true → Less ≡ o
+less_only Less e = refl
+less_only Equal e = cc
+less_only Greater e = cc
 
 pub less_most : (x y z : ℚ) → x <ℚ y → y ≤ℚ z → x <ℚ z
 less_most x y z h k = elim (either_order z x) [

@@ -1,8 +1,8 @@
 -- What lines without a fault keep to: the limits of a problem.
-use Rattle.std.specs.Prelude.{◌≡◌, ℕ, ◌+◌, ◌-◌, ◌*◌, ◌^◌, ◌%◌, ◌≤◌, Bool, true, ◌&&◌, ◌==◌, not, nat_abs, nat_le, nat_lt, List, ◌∷◌, Option, Some, None, length, suc, []}
+use Rattle.std.specs.Prelude.{◌≡◌, ℕ, ◌+◌, ◌-◌, ◌*◌, ◌%◌, ◌≤◌, Bool, true, ◌&&◌, ◌==◌, not, nat_abs, nat_le, nat_lt, List, ◌∷◌, Option, Some, None, length, suc, []}
 use Rattle.std.specs.List.{list_all}
 use Rattle.fraction.specs.Rational.{ℚ}
-use Rattle.mps_reader.specs.Faults.{counted, most_columns, most_rows}
+use Rattle.mps_reader.specs.Faults.{counted}
 use Rattle.mps_reader.specs.VisibleNames.{is_visible}
 use Rattle.mps_reader.specs.Meaning.{is_zero, place}
 use Rattle.mps_reader.specs.Lemmas.Placing.{placed_of, terms_in}
@@ -10,10 +10,11 @@ use Rattle.mps_reader.specs.Sections.{Sections, rows_of, Entry, entries_of, colu
 use Rattle.mps_reader.specs.Words.{value_under}
 use Rattle.mps_reader.specs.declared.kinds.Column.{Column}
 use Rattle.problem.specs.Linear.{Terms}
+use Rattle.problem.specs.Limits.{most_columns, most_rows, largest_bound, finest}
 
 -- ---- numbers and terms
 abbrev pub is_modest : ℚ → Bool
-is_modest q = nat_le q.den (10 ^ 15) && ((10 ^ 15 % q.den == 0) && nat_le (nat_abs q.num) (10 ^ 9 * q.den))
+is_modest q = nat_le q.den finest && ((finest % q.den == 0) && nat_le (nat_abs q.num) (largest_bound * q.den))
 
 -- columns below n that rise from k on, with modest numbers that are not 0
 abbrev pub limited_from : ℕ → ℕ → Terms → Bool
@@ -27,7 +28,7 @@ reach (Some q) n = n
 
 -- ---- the entries of COLUMNS
 
--- columns, the run of the last one, its name, and all entries in order: at most 1,000 columns with visible names, the last one of which is the last of
+-- columns, the run of the last one, its name, and all entries in order: no more columns than a problem may have, with visible names, the last one of which is the last of
 -- the entries; each row's terms have rising columns and modest numbers
 pub record KeepsEntries (cs : List (List ℕ × Column)) (run : List (List ℕ × ℚ)) (last : Option (List ℕ)) (ts : List (List ℕ × (ℕ × ℚ))) : Type 0 where
   pub few : length cs ≤ most_columns

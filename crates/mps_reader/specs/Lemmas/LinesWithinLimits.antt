@@ -10,7 +10,7 @@ use Rattle.std.proofs.lemmas.List.Sums.{sum_by-append}
 use Rattle.fraction.specs.Rational.{ℚ, whole}
 use Rattle.mps_lines.specs.Lines.{Line}
 use Rattle.mps_lines.specs.Infinities.{infinite}
-use Rattle.mps_reader.specs.Faults.{◌<|>◌, when, most_columns, most_rows, is_field, is_counted, counted, number_fault, typed_row_fault, row_fault, is_repeated, names_fault, entry_fault, pairs_fault, column_fault, side_fault, sides_fault, side_line_fault, limits_fields, section_fault, data_fault_in, word_fault, line_fault, differs}
+use Rattle.mps_reader.specs.Faults.{◌<|>◌, when, is_field, is_counted, counted, number_fault, typed_row_fault, row_fault, is_repeated, names_fault, entry_fault, pairs_fault, column_fault, side_fault, sides_fault, side_line_fault, limits_fields, section_fault, data_fault_in, word_fault, line_fault, differs}
 use Rattle.mps_reader.specs.Meaning.{place, is_zero}
 use Rattle.mps_reader.specs.Lemmas.Modest.{modest_number}
 use Rattle.mps_reader.specs.Lemmas.Named.{same_text, bytes_flip, value_under_push, place_push, length_push}
@@ -25,6 +25,7 @@ use Rattle.mps_reader.specs.declared.kinds.Section.{Section}
 use Rattle.mps_reader.specs.declared.kinds.Section.TheVariants as section
 use Rattle.mps_reader.specs.VisibleNames.{is_visible}
 use Rattle.mps_reader.specs.Lemmas.Limits.{is_modest, limited_from, reach, KeepsEntries, AreKept, are_modest_sides, KeepsLimits}
+use Rattle.problem.specs.Limits.{most_columns, most_rows}
 
 -- ---- tests
 lt_of : (a b : ℕ) → nat_lt a b ≡ true → a < b

@@ -17,6 +17,7 @@ use Rattle.mps_lines.specs.declared.decimals.NumFault.TheVariants as num
 use Rattle.mps_reader.specs.Faults.{number_fault, fault_of_number}
 use Rattle.mps_reader.specs.Sections.{number, amount_in}
 use Rattle.mps_reader.specs.Lemmas.Limits.{is_modest}
+use Rattle.problem.specs.Limits.{largest_bound, finest}
 
 over_ℕ : (z w : ℤ) (d e : ℕ) → z *ℤ pos d ≡ w *ℤ pos e → nat_abs z * d ≡ nat_abs w * e
 over_ℕ z w d e h = sym (unsigned_abs-mul z (pos d)) ∙ ap nat_abs h ∙ unsigned_abs-mul w (pos e)
@@ -36,18 +37,18 @@ abs_sign true size = omega (arith, ints)
 abs_sign false size = refl
 
 -- a number that is modest by its parts
-modest_by : (q : ℚ) → q.den ∣ 10 ^ 15 → nat_abs q.num ≤ 10 ^ 9 * q.den → is_modest q ≡ true
+modest_by : (q : ℚ) → q.den ∣ finest → nat_abs q.num ≤ largest_bound * q.den → is_modest q ≡ true
 modest_by q d s =
-    let small : nat_le q.den (10 ^ 15) ≡ true = (let l : q.den ≤ 10 ^ 15 = le_of_dvd (omega arith) d in grind arith) in
-    let divides : (10 ^ 15 % q.den == 0) ≡ true = ap (λ n. n == 0) (mod-eq-zero_of_dvd q.den d) in
-    let size : nat_le (nat_abs q.num) (10 ^ 9 * q.den) ≡ true = grind arith in
+    let small : nat_le q.den finest ≡ true = (let l : q.den ≤ finest = le_of_dvd (omega arith) d in grind arith) in
+    let divides : (finest % q.den == 0) ≡ true = ap (λ n. n == 0) (mod-eq-zero_of_dvd q.den d) in
+    let size : nat_le (nat_abs q.num) (largest_bound * q.den) ≡ true = grind arith in
     and_from _ _ small (and_from _ _ divides size)
 
-modest_frac : (negative : Bool) (size unit : ℕ) → 0 < unit → size ≤ 10 ^ 9 * unit → size * 10 ^ 15 % unit ≡ 0 → is_modest (frac (with_sign negative size) unit) ≡ true
+modest_frac : (negative : Bool) (size unit : ℕ) → 0 < unit → size ≤ largest_bound * unit → size * finest % unit ≡ 0 → is_modest (frac (with_sign negative size) unit) ≡ true
 modest_frac negative size unit o s m =
     let q = frac (with_sign negative size) unit in
     let h : nat_abs q.num * unit ≡ size * q.den = over_ℕ q.num (with_sign negative size) unit q.den (frac_is (with_sign negative size) unit o) ∙ ap (λ n. n * q.den) (abs_sign negative size) in
-    modest_by q (lowest_divides _ q.den size unit (10 ^ 15) o (omega arith) q.lowest.1 h m) (lowest_size _ q.den size unit (10 ^ 9) o h s)
+    modest_by q (lowest_divides _ q.den size unit finest o (omega arith) q.lowest.1 h m) (lowest_size _ q.den size unit largest_bound o h s)
 
 ok_if : (b : Bool) (e : NumFault) (p q : ℚ) → cond b (Ok p) (Err e) ≡ Ok q → (b ≡ true) × (p ≡ q)
 ok_if true e p q h = (refl, same_ok p q h)
@@ -58,13 +59,13 @@ ok_if false e p q h = cc
 
 modest_limits : (negative : Bool) (size unit : ℕ) (q : ℚ) → 0 < unit → within_limits negative size unit ≡ Ok q → is_modest q ≡ true
 unfolding within_limits
-modest_limits negative size unit q o h = step (nat_lt (10 ^ 9 * unit) size) refl h
+modest_limits negative size unit q o h = step (nat_lt (largest_bound * unit) size) refl h
   where
-    step : (b : Bool) → nat_lt (10 ^ 9 * unit) size ≡ b → cond b (Err num.TooLarge) (cond (size * 10 ^ 15 % unit == 0) (Ok (frac (with_sign negative size) unit)) (Err num.TooFine)) ≡ Ok q → is_modest q ≡ true
+    step : (b : Bool) → nat_lt (largest_bound * unit) size ≡ b → cond b (Err num.TooLarge) (cond (size * finest % unit == 0) (Ok (frac (with_sign negative size) unit)) (Err num.TooFine)) ≡ Ok q → is_modest q ≡ true
     step true e h = cc
     step false e h =
-        let k = ok_if (size * 10 ^ 15 % unit == 0) num.TooFine (frac (with_sign negative size) unit) q h in
-        let s : size ≤ 10 ^ 9 * unit = grind arith in
+        let k = ok_if (size * finest % unit == 0) num.TooFine (frac (with_sign negative size) unit) q h in
+        let s : size ≤ largest_bound * unit = grind arith in
         subst (λ (p : ℚ). is_modest p ≡ true) k.1 (modest_frac negative size unit o s (eqb-true _ 0 k.0))
 
 modest_amount : (s : Spelt) (q : ℚ) → amount s ≡ Ok q → is_modest q ≡ true
@@ -91,7 +92,7 @@ pub modest_number : (field : List ℕ) → is_some (number_fault field) ≡ fals
 modest_number field h = modest_result (decimal field) (modest_decimal field) h
 
 pub modest_zero : is_modest (whole (pos 0)) ≡ true
-modest_zero = modest_by (whole (pos 0)) (subst (λ d. d ∣ 10 ^ 15) (sym (whole_parts (pos 0)).1) one_divides) (subst (λ z. nat_abs z ≤ 10 ^ 9 * (whole (pos 0)).den) (sym (whole_parts (pos 0)).0) (omega arith))
+modest_zero = modest_by (whole (pos 0)) (subst (λ d. d ∣ finest) (sym (whole_parts (pos 0)).1) one_divides) (subst (λ z. nat_abs z ≤ largest_bound * (whole (pos 0)).den) (sym (whole_parts (pos 0)).0) (omega arith))
   where
-    one_divides : 1 ∣ 10 ^ 15
+    one_divides : 1 ∣ finest
     one_divides = dvd_of_mod-eq-zero 1 refl

@@ -73,10 +73,10 @@ module _ (t : Tree) (i j : ℕ) (b : ℤ) where
     | inr n ↦ ap (λ (n : Node). n.branch) (other_node k h n)
   ]
 
-  branch_left : branch_at (with_split t i j b) (length t.nodes) ≡ Some (left_branch i j b)
+  pub branch_left : branch_at (with_split t i j b) (length t.nodes) ≡ Some (left_branch i j b)
   branch_left = ap (λ (n : Node). n.branch) left_node
 
-  branch_right : branch_at (with_split t i j b) (length t.nodes + 1) ≡ Some (right_branch i j b)
+  pub branch_right : branch_at (with_split t i j b) (length t.nodes + 1) ≡ Some (right_branch i j b)
   branch_right = ap (λ (n : Node). n.branch) right_node
 
   module _ (tree : IsTree t) (there : i < length t.nodes) where

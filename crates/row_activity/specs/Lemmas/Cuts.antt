@@ -1,5 +1,5 @@
 -- Boxes that are cut from a modest box are modest.
-use Rattle.std.specs.Prelude.{◌≡◌, ◌≤◌, ◌^◌, ℕ, zero, suc, ℤ, ◌≤ℤ◌, ◌<ℤ◌, nat_abs, List, [], ◌∷◌, All, length, slice_get, refl}
+use Rattle.std.specs.Prelude.{◌≡◌, ◌≤◌, ℕ, zero, suc, ℤ, ◌≤ℤ◌, ◌<ℤ◌, nat_abs, List, [], ◌∷◌, All, length, slice_get, refl}
 use Rattle.std.specs.Option.{ForSome}
 use Rattle.std.proofs.Common.{arith}
 use Rattle.std.proofs.lemmas.Int.{ints}
@@ -7,6 +7,7 @@ use Rattle.std.proofs.lemmas.List.Elements.{All-cons, All-head, All-tail}
 use Rattle.problem_box.specs.declared.span.Span.{Span}
 use Rattle.problem_box.specs.Changes.{cut_high, cut_low}
 use Rattle.problem.specs.Limited.{IsModestSpan}
+use Rattle.problem.specs.Limits.{largest_bound}
 
 pub length-cut_high : (ss : List Span) (j : ℕ) (b : ℤ) → length (cut_high ss j b) ≡ length ss
 length-cut_high [] j b = refl
@@ -18,7 +19,7 @@ length-cut_low [] j b = refl
 length-cut_low (s ∷ ss) zero b = omega arith
 length-cut_low (s ∷ ss) (suc j) b = omega (arith, length-cut_low ss j b)
 
-between : (lo hi b : ℤ) → nat_abs lo ≤ 10 ^ 9 → nat_abs hi ≤ 10 ^ 9 → lo ≤ℤ b → b ≤ℤ hi → nat_abs b ≤ 10 ^ 9
+between : (lo hi b : ℤ) → nat_abs lo ≤ largest_bound → nat_abs hi ≤ largest_bound → lo ≤ℤ b → b ≤ℤ hi → nat_abs b ≤ largest_bound
 between lo hi b h k l m = omega (arith, ints, h, k, l, m)
 
 pub modest-cut_high : (ss : List Span) (j : ℕ) (b : ℤ) → All IsModestSpan ss → ForSome (slice_get ss j) (λ s. (s.lo ≤ℤ b) × (b <ℤ s.hi)) → All IsModestSpan (cut_high ss j b)

@@ -15,7 +15,7 @@ use Rattle.std.proofs.lemmas.Option.{slice_get_within, get_or_from_slice_get}
 use Rattle.fraction.specs.Rational.{ℚ, whole, ◌+ℚ◌, ◌*ℚ◌, ◌≤ℚ◌}
 use Rattle.fraction.specs.Lemmas.Rational.{≤ℚ_trans, ≤ℚ_antisymm}
 use Rattle.fraction.specs.Order.{◌<ℚ◌}
-use Rattle.fraction.specs.Lemmas.Order.{less, equal, greater, less_at_most, not_both, same_le}
+use Rattle.fraction.specs.Lemmas.Order.{less, equal, greater, less_at_most, not_both, same_le, less_only}
 use Rattle.fraction.specs.Checked.{compare}
 use Rattle.problem_box.specs.declared.span.Span.{Span}
 use Rattle.problem_box.specs.Boxes.{IsWithin, IsInBox}
@@ -35,13 +35,9 @@ use Rattle.row_activity.specs.Verdicts.{is_less, sign_of, refuting_sign, refuted
 use Rattle.row_activity.specs.Meaning.{HasNoPoint, IsMissed, IsRefuted, IsPriced, IsOnePoint, IsOpen, Tells}
 
 -- ---- comparisons
-lt_only : (o : Ordering) → is_lt o ≡ true → Less ≡ o
-lt_only Less e = refl
-lt_only Equal e = cc
-lt_only Greater e = cc
 
 pub is_less_tells : (x y : ℚ) → is_less x y ≡ true → x <ℚ y
-is_less_tells x y e = less x y (lt_only (compare x y) e)
+is_less_tells x y e = less x y (less_only (compare x y) e)
 
 pub not_less_tells : (x y : ℚ) → is_less x y ≡ false → y ≤ℚ x
 not_less_tells x y e = step (compare x y) refl e

@@ -9,7 +9,7 @@ use Rattle.std.proofs.lemmas.Int.{ints}
 use Rattle.std.proofs.lemmas.Bool.{cases_Bool}
 use Rattle.fraction.specs.Checked.{compare}
 use Rattle.fraction.specs.Lemmas.Bounds.{whole_parts}
-use Rattle.fraction.specs.Lemmas.Order.{along, compare_equal, less, zero_from_num}
+use Rattle.fraction.specs.Lemmas.Order.{along, compare_equal, less, zero_from_num, less_only}
 use Rattle.fraction.specs.Lemmas.Ring.{*ℚ-zero}
 use Rattle.fraction.specs.Order.{◌<ℚ◌}
 use Rattle.fraction.specs.Rational.{neg_ℚ, whole, ℚ, ◌*ℚ◌, ◌≤ℚ◌}
@@ -163,18 +163,14 @@ lean_fall b u h = record { above = λ e. absurd (at minus_one.num minus_num e); 
     at z e h = grind (arith, ints)
 
 -- ---- bounds that are violated, or not
-lt_is : (o : Ordering) → is_lt o ≡ true → Less ≡ o
-lt_is Less e = refl
-lt_is Equal e = cc
-lt_is Greater e = cc
 
 pub below_is : (v : ℚ) (o : Option ℚ) → is_below v o ≡ true → v <ℚ unwrap_or o zero_ℚ
 below_is v None e = cc
-below_is v (Some l) e = less v l (lt_is _ e)
+below_is v (Some l) e = less v l (less_only _ e)
 
 pub above_is : (v : ℚ) (o : Option ℚ) → is_above v o ≡ true → unwrap_or o zero_ℚ <ℚ v
 above_is v None e = cc
-above_is v (Some u) e = less u v (lt_is _ e)
+above_is v (Some u) e = less u v (less_only _ e)
 
 -- the bound that the leaving variable violates
 pub record IsViolated (b : Bounds) (v : ℚ) (w : Direction) : Type 0 where

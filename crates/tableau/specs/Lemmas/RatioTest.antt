@@ -8,7 +8,7 @@ use Rattle.std.specs.Ordering.{is_lt}
 use Rattle.std.specs.Option.{option_map, ForSome}
 use Rattle.std.proofs.lemmas.Bool.{and_parts}
 use Rattle.fraction.specs.Checked.{abs_ℚ, compare, div_checked}
-use Rattle.fraction.specs.Lemmas.Order.{equal, greater, less, less_at_most, same_le}
+use Rattle.fraction.specs.Lemmas.Order.{equal, greater, less, less_at_most, same_le, less_only}
 use Rattle.fraction.specs.Lemmas.Rational.{≤ℚ_refl, ≤ℚ_trans}
 use Rattle.fraction.specs.Rational.{ℚ, ◌≤ℚ◌}
 use Rattle.tableau.specs.Elimination.{zero_ℚ}
@@ -36,11 +36,6 @@ pub record IsLeast (j : ℕ) (w : Direction) (best : Option (ℕ × ℚ)) (ss : 
   pub before : ForSome best (λ b. q ≤ℚ b.1)
   pub least : (i : ℕ) → i < length ss → IsNotLess w (get_or ss i Basic) (get_or bs i unbounded) (get_or ds i zero_ℚ) (get_or row (j + i) zero_ℚ) q
 
-lt_is : (o : Ordering) → is_lt o ≡ true → Less ≡ o
-lt_is Less e = refl
-lt_is Equal e = cc
-lt_is Greater e = cc
-
 pub not_lt : (x y : ℚ) → is_lt (compare x y) ≡ false → y ≤ℚ x
 not_lt x y e = step (compare x y) refl e
   where
@@ -62,7 +57,7 @@ better_is j k None = record { it = (j, k); there = refl; either = inl refl; new 
 better_is j k (Some b) = at (is_lt (compare k b.1)) refl
   where
     at : (t : Bool) → is_lt (compare k b.1) ≡ t → IsBetter j k (Some b) (if t then Some (j, k) else Some b)
-    at true e = record { it = (j, k); there = refl; either = inl refl; new = ≤ℚ_refl k; old = λ a f. let g : b ≡ a = cc in subst (λ (a : ℕ × ℚ). k ≤ℚ a.1) g (less_at_most k b.1 (less k b.1 (lt_is _ e))) }
+    at true e = record { it = (j, k); there = refl; either = inl refl; new = ≤ℚ_refl k; old = λ a f. let g : b ≡ a = cc in subst (λ (a : ℕ × ℚ). k ≤ℚ a.1) g (less_at_most k b.1 (less k b.1 (less_only _ e))) }
     at false e = record { it = b; there = refl; either = inr refl; new = not_lt k b.1 e; old = λ a f. let g : b ≡ a = cc in subst (λ (a : ℕ × ℚ). b.1 ≤ℚ a.1) g (≤ℚ_refl b.1) }
 
 -- one variable taken into account

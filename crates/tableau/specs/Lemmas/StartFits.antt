@@ -21,6 +21,7 @@ use Rattle.problem.specs.Modest.{IsModest}
 use Rattle.problem.specs.Problem.{Problem}
 use Rattle.problem.specs.Rising.{AreRising, RiseFrom}
 use Rattle.problem.specs.declared.row.Row.{Row}
+use Rattle.problem.specs.Limits.{most_columns, most_rows, most_cuts, largest_bound, finest, largest_cut_coefficient}
 use Rattle.problem_box.specs.declared.span.Span.{Span}
 use Rattle.tableau.specs.Elimination.{zero_ℚ}
 use Rattle.tableau.specs.Invariants.{IsNonbasic}
@@ -86,10 +87,10 @@ there_map : {A B : Type 0} (f : A → B) (o : Option A) → IsThere o → IsTher
 there_map f o h = record { it = f h.it; is = ap (option_map f) h.is }
 
 -- ---- rows of small numbers
--- coefficients that are multiples of 10^-15 of size at most 10^9, or whole numbers of size at most 2^40
+-- modest coefficients, or whole numbers of at most the size of a cut's
 pub record HasSmallNumbers (r : Row) : Type 0 where
   pub rising : AreRising r.terms
-  pub small : All (λ t. IsModest t.1) r.terms ⊎ All (λ t. Within 1 (2 ^ 40) t.1) r.terms
+  pub small : All (λ t. IsModest t.1) r.terms ⊎ All (λ t. Within 1 largest_cut_coefficient t.1) r.terms
 
 pub before_first : (j k : ℕ) (ts : List (ℕ × ℚ)) → j < k → RiseFrom k ts → coefficient ts j ≡ zero_ℚ
 before_first j k [] l h = refl
@@ -117,30 +118,30 @@ padded_hold : (P : ℚ → Type 0) (r : Row) (n m : ℕ) → P zero_ℚ → AreR
 padded_hold P r n m z k h =
     All-append P (coefficients_from 0 n r.terms) (replicate m zero_ℚ) (coefficients_hold P r.terms 0 n (λ j. coefficient_holds P 0 r.terms j z k h)) (All-replicate P m zero_ℚ z)
 
-row_sum : (r : Row) (n m : ℕ) (ys : List ℚ) → n ≤ 1000 → m ≤ 1256 → HasSmallNumbers r → All (IsWholeTo (10 ^ 9)) ys → IsThere (dot_checked (padded m (coefficients_from 0 n r.terms)) ys)
+row_sum : (r : Row) (n m : ℕ) (ys : List ℚ) → n ≤ most_columns → m ≤ most_rows + most_cuts → HasSmallNumbers r → All (IsWholeTo largest_bound) ys → IsThere (dot_checked (padded m (coefficients_from 0 n r.terms)) ys)
 row_sum r n m ys ln lm h k =
     let l : length (padded m (coefficients_from 0 n r.terms)) ≡ n + m = length-append (coefficients_from 0 n r.terms) (replicate m zero_ℚ) ∙ (λ i. length-coefficients 0 n r.terms i + length-replicate m zero_ℚ i) in
     elim h.small [
       | inl s ↦ record {
         it = _;
-        is = dot_is (10 ^ 15) (10 ^ 24) (10 ^ 9) (10 ^ 33) 0 zero_ℚ _ ys (omega arith) (omega arith) refl (zero_within (10 ^ 15) 0) (omega (arith, l))
-            (padded_hold IsModest r n m (zero_within (10 ^ 15) (10 ^ 24)) h.rising s) k;
+        is = dot_is finest (largest_bound * finest) largest_bound (largest_bound * (largest_bound * finest)) 0 zero_ℚ _ ys (omega arith) (omega arith) refl (zero_within finest 0) (omega (arith, l))
+            (padded_hold IsModest r n m (zero_within finest (largest_bound * finest)) h.rising s) k;
       }
       | inr s ↦ record {
         it = _;
-        is = dot_is 1 (2 ^ 40) (10 ^ 9) (2 ^ 40 * 10 ^ 9) 0 zero_ℚ _ ys (omega arith) (omega arith) refl (zero_within 1 0) (omega (arith, l))
-            (padded_hold (Within 1 (2 ^ 40)) r n m (zero_within 1 (2 ^ 40)) h.rising s) k;
+        is = dot_is 1 largest_cut_coefficient largest_bound (largest_cut_coefficient * largest_bound) 0 zero_ℚ _ ys (omega arith) (omega arith) refl (zero_within 1 0) (omega (arith, l))
+            (padded_hold (Within 1 largest_cut_coefficient) r n m (zero_within 1 largest_cut_coefficient) h.rising s) k;
       }
     ]
 
 -- ---- the start
-rests_small : (ds : List ℚ) (ss : List Span) (bs : List Bounds) → length ds ≡ length ss → All IsModestSpan ss → All (IsWholeTo (10 ^ 9)) (start_values ds (map span_bounds ss ++ bs))
-rests_small [] ss bs l h = All-nil (IsWholeTo (10 ^ 9))
+rests_small : (ds : List ℚ) (ss : List Span) (bs : List Bounds) → length ds ≡ length ss → All IsModestSpan ss → All (IsWholeTo largest_bound) (start_values ds (map span_bounds ss ++ bs))
+rests_small [] ss bs l h = All-nil (IsWholeTo largest_bound)
 rests_small (d ∷ ds) [] bs l h = absurd (omega arith)
 rests_small (d ∷ ds) (s ∷ ss) bs l h =
-    All-cons (IsWholeTo (10 ^ 9)) (start_value d (span_bounds s)) (start_values ds (map span_bounds ss ++ bs)) (at (int_lt d.num (pos 0)) (All-head IsModestSpan s ss h)) (rests_small ds ss bs (omega arith) (All-tail IsModestSpan s ss h))
+    All-cons (IsWholeTo largest_bound) (start_value d (span_bounds s)) (start_values ds (map span_bounds ss ++ bs)) (at (int_lt d.num (pos 0)) (All-head IsModestSpan s ss h)) (rests_small ds ss bs (omega arith) (All-tail IsModestSpan s ss h))
   where
-    at : (x : Bool) → IsModestSpan s → IsWholeTo (10 ^ 9) (if x then whole s.hi else whole s.lo)
+    at : (x : Bool) → IsModestSpan s → IsWholeTo largest_bound (if x then whole s.hi else whole s.lo)
     at true m = record { whole_number = s.hi; is = refl; size = m.1 }
     at false m = record { whole_number = s.lo; is = refl; size = m.0 }
 
@@ -163,10 +164,10 @@ module _ (objective : Terms) (rows : Rows) (numbers : List ℕ) (spans : List Sp
   row_count : length program.rows ≡ length rows
   row_count = length-map rows dense
 
-  start_values_whole : All IsModestSpan spans → All (IsWholeTo (10 ^ 9)) (slack_basis program).nonbasic_values
-  start_values_whole h = All-append (IsWholeTo (10 ^ 9)) (start_values program.costs program.bounds) (replicate (length program.rows) zero_ℚ) (rests_small program.costs spans (map row_bounds rows) columns h) (All-replicate (IsWholeTo (10 ^ 9)) (length program.rows) zero_ℚ (zero_to (10 ^ 9)))
+  start_values_whole : All IsModestSpan spans → All (IsWholeTo largest_bound) (slack_basis program).nonbasic_values
+  start_values_whole h = All-append (IsWholeTo largest_bound) (start_values program.costs program.bounds) (replicate (length program.rows) zero_ℚ) (rests_small program.costs spans (map row_bounds rows) columns h) (All-replicate (IsWholeTo largest_bound) (length program.rows) zero_ℚ (zero_to largest_bound))
 
-  value_there : length spans ≤ 1000 → length rows ≤ 1256 → All IsModestSpan spans → All HasSmallNumbers rows → (i : ℕ) → i < length (slack_basis program).statuses
+  value_there : length spans ≤ most_columns → length rows ≤ most_rows + most_cuts → All IsModestSpan spans → All HasSmallNumbers rows → (i : ℕ) → i < length (slack_basis program).statuses
       → IsThere (computed_value (slack_basis program).nonbasic_values (get_or (slack_basis program).statuses i Basic) (get_or (slack_basis program).nonbasic_values i zero_ℚ) (get_or (slack_basis program).rows i []))
   value_there ls lr hs hr i l = elim (cases_lt i (length program.costs)) [
     | inl k ↦ outside_there (slack_basis program).nonbasic_values (get_or (slack_basis program).statuses i Basic) (get_or (slack_basis program).nonbasic_values i zero_ℚ) (get_or (slack_basis program).rows i [])
@@ -183,8 +184,8 @@ module _ (objective : Terms) (rows : Rows) (numbers : List ℕ) (spans : List Sp
         (row_sum (get_or rows (i - length program.costs) no_row) (length spans) (length program.rows) (slack_basis program).nonbasic_values ls (omega (arith, row_count)) (All-get_or HasSmallNumbers rows (i - length program.costs) no_row q hr) (start_values_whole hs)))
   ]
 
-  -- at most 1,000 columns with bounds of size at most 10^9, and at most 1,256 rows of small numbers
-  pub start_is_there : length spans ≤ 1000 → length rows ≤ 1256 → All IsModestSpan spans → All HasSmallNumbers rows → IsThere (started program)
+  -- few columns with modest bounds, and few rows and cuts of small numbers
+  pub start_is_there : length spans ≤ most_columns → length rows ≤ most_rows + most_cuts → All IsModestSpan spans → All HasSmallNumbers rows → IsThere (started program)
   start_is_there ls lr hs hr =
       there_map (λ values. record (slack_basis program) { values = values }) (computed_values (slack_basis program).nonbasic_values (slack_basis program).statuses (slack_basis program).nonbasic_values (slack_basis program).rows)
       (all_valued (slack_basis program).nonbasic_values (slack_basis program).statuses (slack_basis program).nonbasic_values (slack_basis program).rows (value_there ls lr hs hr))
@@ -196,11 +197,11 @@ limited_small n r h = record { rising = h.terms.rising; small = inl h.terms.mode
 cut_small : (r : Row) → IsCutRow r → HasSmallNumbers r
 cut_small r h = record {
   rising = h.rising;
-  small = inr (All-weaker (λ (t : ℕ × ℚ). IsWhole t.1 × (nat_abs t.1.num ≤ 2 ^ 40)) (λ (t : ℕ × ℚ). Within 1 (2 ^ 40) t.1) (λ t k. record { divides = rw k.0 (one-dvd 1); size = rw k.0 (omega (arith, k.1)) }) r.terms h.coefficients);
+  small = inr (All-weaker (λ (t : ℕ × ℚ). IsWhole t.1 × (nat_abs t.1.num ≤ largest_cut_coefficient)) (λ (t : ℕ × ℚ). Within 1 largest_cut_coefficient t.1) (λ t k. record { divides = rw k.0 (one-dvd 1); size = rw k.0 (omega (arith, k.1)) }) r.terms h.coefficients);
 }
 
--- the start for a problem within the limits, at most 256 cuts and a box of the limits
-pub relaxation_starts : (p : Problem) (cuts : Rows) (spans : List Span) → IsLimited p → All IsCutRow cuts → length cuts ≤ 256 → length spans ≡ length p.spans → All IsModestSpan spans
+-- the start for a problem within the limits, few cuts and a box of the limits
+pub relaxation_starts : (p : Problem) (cuts : Rows) (spans : List Span) → IsLimited p → All IsCutRow cuts → length cuts ≤ most_cuts → length spans ≡ length p.spans → All IsModestSpan spans
     → IsThere (started (relaxation p cuts spans))
 relaxation_starts p cuts spans h c l e m =
     start_is_there p.objective (p.rows ++ cuts) (row_numbers p (length cuts)) spans (omega (arith, h.few_columns)) (omega (arith, length-append p.rows cuts, h.few_rows)) m

@@ -3,23 +3,19 @@ use Rattle.std.specs.Prelude.{◌≡◌, ℕ, Bool, true, false, not, nat_eq, �
 use Rattle.std.specs.List.{list_any}
 use Rattle.std.proofs.Common.{sym, ap, ◌∙◌}
 use Rattle.std.proofs.lemmas.Bool.{eq-eqb, eqb-true, eqb-false}
-use Rattle.std.proofs.lemmas.List.{append-nil}
 use Rattle.std.proofs.lemmas.List.Elements.{All-head, All-tail}
 use Rattle.std.proofs.lemmas.List.Folds.{list_any-append}
-use Rattle.problem.specs.declared.row.Row.{Row}
 use Rattle.node_events.specs.declared.event.Event.{Event}
-use Rattle.node_events.specs.declared.event.Event.TheVariants.{Claim, Release, Cut, Offer, Split, Close}
-use Rattle.derivation_book.specs.Rounded.{rounded_row}
-use Rattle.problem.specs.Linear.{Multipliers}
 use Rattle.event_core.specs.declared.entry.Holder.{Holder}
 use Rattle.event_core.specs.States.{State}
 use Rattle.event_core.specs.Holds.{is_holding, holds_node, is_yours, without_hold}
-use Rattle.event_core.specs.After.{after, after_cut}
+use Rattle.event_core.specs.After.{after}
 use Rattle.event_core.specs.Histories.{IsLegal, MayStand}
 use Rattle.event_core.specs.Sound.{AreApart}
-use Rattle.event_core.specs.Lemmas.Passing.{release_passed, split_passed, close_passed}
 use Rattle.event_core.specs.Lemmas.Ended.{is_left}
 use Rattle.event_core.specs.Lemmas.Sounding.{HoldsOpen}
+use Rattle.event_core.specs.Frames.{claimed_by, freed_by, without_holds, holds_of}
+use Rattle.event_core.specs.Lemmas.Frames.{keeps_frame, freed_yours}
 
 abbrev is_of : ℕ → ℕ → Holder → Bool
 is_of w i h = nat_eq h.worker w && nat_eq h.node i
@@ -71,22 +67,21 @@ none_without w i (h ∷ hs) e = let k = both_false (is_by w h) (list_any (is_by 
     step true e r = r
     step false e r = ap (λ c. c || list_any (is_by w) (without_hold i hs)) e ∙ r
 
-cut_holds : (s : State) (mult : Multipliers) (o : Option Row) → (after_cut s mult o).holds ≡ s.holds
-cut_holds s mult None = refl
-cut_holds s mult (Some r) = refl
+none_given : (w : ℕ) (o : Option ℕ) (k : Option ℕ) → IsOther w o → list_any (is_by w) (holds_of o k) ≡ false
+none_given w o None n = refl
+none_given w None (Some i) n = refl
+none_given w (Some x) (Some i) n = ap (λ b. b || false) (other_false x w (n x refl))
 
 -- a worker who holds no node holds none after an event of another
 pub none_after : (w : ℕ) (s : State) (o : Option ℕ) (e : Event) → IsOther w o → is_holding s w ≡ false → is_holding (after s o e) w ≡ false
-none_after w s None (Claim i) n h = ap (list_any (is_by w)) (append-nil s.holds) ∙ h
-none_after w s (Some x) (Claim i) n h =
-    list_any-append (is_by w) s.holds (record { worker = x; node = i } ∷ [])
-    ∙ ap (λ b. b || (nat_eq x w || false)) h
-    ∙ ap (λ b. b || false) (other_false x w (n x refl))
-none_after w s o (Release i) n h = none_without w i s.holds h
-none_after w s o (Cut mult) n h = ap (list_any (is_by w)) (cut_holds s mult (rounded_row s.problem s.cuts mult)) ∙ h
-none_after w s o (Offer x) n h = h
-none_after w s o (Split i j b r) n h = none_without w i s.holds h
-none_after w s o (Close i proof) n h = none_without w i s.holds h
+none_after w s o e n h =
+    ap (list_any (is_by w)) (keeps_frame s o e).holds
+    ∙ (list_any-append (is_by w) (without_holds (freed_by e) s.holds) (holds_of o (claimed_by e))
+    ∙ (ap (λ b. b || list_any (is_by w) (holds_of o (claimed_by e))) (left (freed_by e)) ∙ none_given w o (claimed_by e) n))
+  where
+    left : (k : Option ℕ) → list_any (is_by w) (without_holds k s.holds) ≡ false
+    left None = h
+    left (Some i) = none_without w i s.holds h
 
 -- ---- a hold
 -- no two hold one node
@@ -136,14 +131,14 @@ still_held w node s (Some x) e i a m y n h = step (nat_eq node i) refl
 
 -- a worker who holds a node holds it after an event of another
 pub node_after : (w node : ℕ) (s : State) (o : Option ℕ) (e : Event) → AreApart s.holds → IsLegal s o e → IsOther w o → holds_node s w node ≡ true → holds_node (after s o e) w node ≡ true
-node_after w node s None (Claim i) a l n h = ap (list_any (is_of w node)) (append-nil s.holds) ∙ h
-node_after w node s (Some x) (Claim i) a l n h =
-    list_any-append (is_of w node) s.holds (record { worker = x; node = i } ∷ []) ∙ first_true (list_any (is_of w node) s.holds) _ h
-node_after w node s o (Release i) a l n h = still_held w node s o (Release i) i a l.stands (release_passed s o i l.admitted).yours n h
-node_after w node s o (Cut mult) a l n h = ap (list_any (is_of w node)) (cut_holds s mult (rounded_row s.problem s.cuts mult)) ∙ h
-node_after w node s o (Offer x) a l n h = h
-node_after w node s o (Split i j b r) a l n h = still_held w node s o (Split i j b r) i a l.stands (split_passed s o i j b r l.admitted).yours n h
-node_after w node s o (Close i proof) a l n h = still_held w node s o (Close i proof) i a l.stands (close_passed s o i proof l.admitted).yours n h
+node_after w node s o e a l n h =
+    ap (list_any (is_of w node)) (keeps_frame s o e).holds
+    ∙ (list_any-append (is_of w node) (without_holds (freed_by e) s.holds) (holds_of o (claimed_by e))
+    ∙ first_true (list_any (is_of w node) (without_holds (freed_by e) s.holds)) _ (left (freed_by e) refl))
+  where
+    left : (k : Option ℕ) → freed_by e ≡ k → list_any (is_of w node) (without_holds k s.holds) ≡ true
+    left None q = h
+    left (Some i) q = still_held w node s o e i a l.stands (freed_yours s o e i l.admitted q) n h
 
 -- ---- a node that is held is open
 pub held_open : (w i : ℕ) (es : List Bool) (hs : List Holder) → All (HoldsOpen es) hs → list_any (is_of w i) hs ≡ true → is_left es i ≡ true

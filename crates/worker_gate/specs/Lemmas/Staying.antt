@@ -1,17 +1,11 @@
 -- Lemmas: what a worker has to know before it asks, while others make entries.
-use Rattle.std.specs.Prelude.{◌≡◌, ◌<◌, ◌≤◌, ℕ, true, false, List, [], ◌∷◌, ◌++◌, length, Contains, Option, Some, None, refl}
+use Rattle.std.specs.Prelude.{◌≡◌, ◌<◌, ◌≤◌, ℕ, true, false, List, [], ◌∷◌, ◌++◌, length, Contains, refl}
 use Rattle.std.proofs.Common.{sym, subst, arith}
-use Rattle.std.proofs.lemmas.List.{length_push}
 use Rattle.std.proofs.lemmas.List.Elements.{Contains-append_right}
-use Rattle.problem.specs.declared.row.Row.{Row}
-use Rattle.problem.specs.Linear.{Multipliers}
-use Rattle.node_events.specs.declared.event.Event.{Event}
-use Rattle.node_events.specs.declared.event.Event.TheVariants.{Claim, Release, Cut, Offer, Split, Close}
-use Rattle.derivation_book.specs.Rounded.{rounded_row}
 use Rattle.event_core.specs.declared.entry.Entry.{Entry}
 use Rattle.event_core.specs.States.{State}
 use Rattle.event_core.specs.Holds.{is_holding, holds_node}
-use Rattle.event_core.specs.After.{after, after_cut}
+use Rattle.event_core.specs.After.{after}
 use Rattle.event_core.specs.Histories.{state_from, AreLegalFrom}
 use Rattle.event_core.specs.Rooms.{Recorded}
 use Rattle.event_core.specs.Sound.{IsSound}
@@ -28,6 +22,7 @@ use Rattle.worker_gate.specs.Laws.{Stays, ConditionsStay}
 use Rattle.worker_gate.specs.Lemmas.Lists.{events-append, opening-append, state-append}
 use Rattle.worker_gate.specs.Lemmas.Holding.{IsOther, none_after, node_after, held_open}
 use Rattle.worker_gate.specs.Lemmas.Findings.{HoldsAt, found_after}
+use Rattle.event_core.specs.Lemmas.Frames.{cut_count_from}
 
 -- ---- others' events
 abbrev pub AreOthers : ℕ → List Entry → Type 0
@@ -51,23 +46,6 @@ others_in w (Happened e ∷ xs) h = (
   others_in w xs (none_behind w (Happened e) xs h),
 )
 others_in w (Halted c ∷ xs) h = others_in w xs (none_behind w (Halted c) xs h)
-
--- ---- cuts
-more_cut : (s : State) (mult : Multipliers) (o : Option Row) → length s.cuts ≤ length (after_cut s mult o).cuts
-more_cut s mult None = omega arith
-more_cut s mult (Some r) = let n = length_push s.cuts (record { row = r; mult = mult }) in omega (arith, n)
-
-pub more_cuts : (s : State) (o : Option ℕ) (e : Event) → length s.cuts ≤ length (after s o e).cuts
-more_cuts s o (Claim i) = omega arith
-more_cuts s o (Release i) = omega arith
-more_cuts s o (Cut mult) = more_cut s mult (rounded_row s.problem s.cuts mult)
-more_cuts s o (Offer x) = omega arith
-more_cuts s o (Split i j b r) = omega arith
-more_cuts s o (Close i proof) = omega arith
-
-cuts_from : (s : State) (es : List Entry) → length s.cuts ≤ length (state_from s es).cuts
-cuts_from s [] = omega arith
-cuts_from s (e ∷ es) = omega (arith, more_cuts s e.worker e.event, cuts_from (after s e.worker e.event) es)
 
 -- ---- one event after another
 module _ (w : ℕ) where
@@ -132,7 +110,7 @@ module _ (w : ℕ) (old behind : List PoolEntry) (opened : is_opened old ≡ tru
   stays_behind = record {
     none = λ h. subst (λ (s : State). is_holding s w ≡ false) leads (none_from w (state_in old) (events_in behind) o h);
     node = λ node h. subst (λ (s : State). holds_node s w node ≡ true) leads (node_from w node (state_in old) (events_in behind) k l o h);
-    cuts = λ n h. subst (λ (s : State). n ≤ length s.cuts) leads (omega (arith, h, cuts_from (state_in old) (events_in behind)));
+    cuts = λ n h. subst (λ (s : State). n ≤ length s.cuts) leads (omega (arith, h, cut_count_from (state_in old) (events_in behind)));
     found = λ node f h g. subst (λ (s : State). HoldsAt node f s) leads (found_from w node f (state_in old) (events_in behind) k l o h g);
   }
 

@@ -1,14 +1,10 @@
-use Rattle.std.proofs.Common.{◌≡◌, ◌∙◌, ap, sym, length, subst, true}
+use Rattle.std.proofs.Common.{◌∙◌, ap, sym, length, subst}
 use Rattle.std.specs.Prelude.{Bool, nat_eq}
 use Rattle.std.specs.List.{list_any}
 use Rattle.event_core.specs.declared.entry.Holder.{Holder}
 use Rattle.worker_gate.specs.Conditions.{HoldsNone}
-use Rattle.worker_gate.specs.Entries.{name_of, is_opened}
-use Rattle.turn_lock.specs.Lists.{GoesOn}
 use Rattle.turn_lock.specs.Passes.{seen_by}
-use Rattle.turn_lock.specs.Names.{names_below}
-use Rattle.crew.proofs.Names.{length_below, in_below}
-use Rattle.crew.proofs.Passes.{none_goes}
+use Rattle.crew.proofs.Names.{length_below}
 use Rattle.crew.proofs.threads.close_unworked.Goals as goal
 
 pub close-kin-requires-clause-whole : goal.close-kin-requires-clause-whole
@@ -18,6 +14,4 @@ pub returns-clause-none : goal.returns-clause-none
 returns-clause-none g c = λ w h.
     let by : Holder → Bool = λ (k : Holder). nat_eq k.worker w in
     let first : HoldsNone w (seen_by c.args.pass) = subst (HoldsNone w) (sym c.requires.seen) (ap (list_any by) c.requires.unheld) in
-    ap (list_any by) c.halt.ensures.holds
-    ∙ none_goes (names_below c.args.workers) w (seen_by c.args.pass) c.close-kin.result (in_below c.args.workers w h) (subst (λ l. is_opened l ≡ true) (sym c.requires.seen) c.requires.opened) c.is_legal_now.ensures
-    (subst (λ l. GoesOn name_of l (seen_by c.args.pass) c.close-kin.result) c.requires.named c.close-kin.ensures.goes_on) first
+    ap (list_any by) c.halt.ensures.holds ∙ subst (HoldsNone w) (sym c.close-kin.ensures) first

@@ -15,4 +15,4 @@ returns-in-Idle-clause-knows g c other =
     let w = g.G.PoolGate.worker c.args.gate.now in
     let old = g.G.PoolGate.seen c.args.gate.now in
     let mid = g.G.PoolGate.seen c.take.new.gate in
-    front_knows old mid (subst (Takes w old mid) c.in-Idle.is c.take.ensures.takes).front c.requires.opened c.args.problem.now c.args.worker.now c.requires.knows
+    front_knows old mid (subst (Takes w old mid) c.in-Idle.is c.take.ensures.takes).0.front c.requires.opened c.args.problem.now c.args.worker.now c.requires.knows

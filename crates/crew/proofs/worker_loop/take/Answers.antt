@@ -3,7 +3,7 @@ use Rattle.node_pool.specs.declared.answers.Claim.{Claim}
 use Rattle.node_pool.specs.declared.answers.Claim.TheVariants as claim
 use Rattle.worker_gate.specs.Calls.{Claims, Halts}
 use Rattle.worker_gate.specs.Gates.{Stepped}
-use Rattle.crew.proofs.Calling.{claimed_holds, rests, done_over, halted_over, failed_worked}
+use Rattle.crew.proofs.Calling.{claimed_holds, rests, idle_held, done_over, halted_over, failed_worked}
 use Rattle.crew.proofs.worker_loop.take.Goals as goal
 
 pub returns-in-Ok-Node-clause-takes : goal.returns-in-Ok-Node-clause-takes
@@ -21,7 +21,7 @@ returns-in-Ok-Idle-clause-takes g c =
     let new = g.G.PoolGate.seen c.claim.new.self in
     let same : c.claim.result ≡ Ok claim.Idle = c.in-Ok-Idle.is ∙ ap (λ (x : Claim). Ok x) c.in-Ok-Idle.field-0-is in
     let step = subst (λ r. Stepped w old new (Claims w r)) same c.claim.ensures.step in
-    rests w old new (Claims w (Ok claim.Idle)) step c.requires.opened step.makes.does.1 c.requires.none
+    (rests w old new (Claims w (Ok claim.Idle)) step c.requires.opened step.makes.does.1 c.requires.none, idle_held w old new step)
 
 pub returns-in-Ok-Done-clause-takes : goal.returns-in-Ok-Done-clause-takes
 returns-in-Ok-Done-clause-takes g c =

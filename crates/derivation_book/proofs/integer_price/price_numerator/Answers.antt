@@ -1,4 +1,4 @@
-use Rattle.std.proofs.Common.{◌≡◌, ◌≤◌, ◌+◌, ◌*◌, ◌^◌, ◌∙◌, ap, sym, subst, arith, rules, drop, length}
+use Rattle.std.proofs.Common.{◌≡◌, ◌≤◌, ◌+◌, ◌*◌, ◌∙◌, ap, sym, subst, arith, rules, drop, length}
 use Rattle.std.specs.Prelude.{nat_abs, map}
 use Rattle.std.specs.Int.{w128}
 use Rattle.std.proofs.lemmas.Int.{to_z-of_z}
@@ -10,6 +10,7 @@ use Rattle.derivation_book.specs.OverOne.{over}
 use Rattle.derivation_book.specs.Price.{with_columns}
 use Rattle.derivation_book.specs.Lemmas.Price.{next_column}
 use Rattle.derivation_book.proofs.integer_price.price_numerator.Goals as goal
+use Rattle.derivation_book.specs.Sizes.{largest_addend}
 
 pub loop-column-preserved : goal.loop-column-preserved
 loop-column-preserved c =
@@ -23,7 +24,7 @@ loop-column-preserved c =
     let long : length (map (over d) cs) ≡ length cs = length-map cs (over d) in
     record {
       rising = c.wanted_at-wanted.ensures.rising;
-      small = subst (λ z. nat_abs z ≤ (j + 1 + 1) * 2 ^ 116) (sym same) (omega (arith, c.in_ok-total.ensures.small, c.loop-column.invariant.small));
+      small = subst (λ z. nat_abs z ≤ (j + 1 + 1) * largest_addend) (sym same) (omega (arith, c.in_ok-total.ensures.small, c.loop-column.invariant.small));
       left = ap (λ z. with_columns (frac z d) (drop c.wanted_at-wanted.result.1 c.args.target.now) (j + 1) (drop (j + 1) (map (over d) cs)) (drop (j + 1) c.args.area.now)) same
           ∙ next_column (map (over d) cs) c.args.area.now j (over d q) (omega (arith, long)) (ap (over d) c.index-coefficients-column.is ∙ sym (get_or-map (over d) cs j q)) (c.requires.columns ∙ sym long)
           c.span.result c.span.ensures (frac before d) c.wanted_at-wanted.result.0 (drop c.loop-column.next c.args.target.now) c.wanted_at-wanted.ensures.coefficient

@@ -1,5 +1,7 @@
-use Rattle.std.proofs.Common.{ap, sym, ◌∙◌}
+use Rattle.std.specs.Prelude.{IfSome}
+use Rattle.std.proofs.Common.{ap, sym, ◌∙◌, subst, Option}
 use Rattle.tableau.specs.Start.{started}
+use Rattle.tableau.specs.Tableau.{Tableau}
 use Rattle.dual_simplex.proofs.Ending.{run_is}
 use Rattle.dual_simplex.proofs.fraction_run.solve_by_fractions.Goals as goal
 
@@ -7,3 +9,8 @@ pub run_on-requires-clause-rest : goal.run_on-requires-clause-rest
 run_on-requires-clause-rest c =
     run_is c.args.problem.now c.args.book.now.cuts c.args.cuts c.args.area.now c.requires.few c.requires.columns c.pivot_limit-cap.result c.pivot_limit-cap.ensures.value
     c.in-Some.start (ap started (sym c.in_ok-program.ensures) ∙ sym c.in_ok-start.ensures.value ∙ c.in-Some.is)
+
+-- at a cramped start there is no tableau
+pub returns-in-None-clause-pivots : goal.returns-in-None-clause-pivots
+returns-in-None-clause-pivots c =
+    subst (λ (o : Option Tableau). IfSome o (λ t. ⊥)) (sym (ap started (sym c.in_ok-program.ensures) ∙ sym c.in_ok-start.ensures.value ∙ c.in-None.is)) tt

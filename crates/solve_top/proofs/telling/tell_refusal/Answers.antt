@@ -25,4 +25,4 @@ returns-in-Disk g c =
 
 pub returns-in-Sink : goal.returns-in-Sink
 returns-in-Sink g c =
-    told_as (sink_change g.O.Sink.tells g.O.Sink.taken g.O.Sink.kept g.O.Sink.faults c.args.out.now c.tell-in-Sink.new.out) c.args.refusal refusal.Sink _ c.in-Sink.is (refl, c.tell-in-Sink.ensures)
+    told_as (sink_change g.O.Sink.tells g.O.Sink.taken g.O.Sink.kept g.O.Sink.faults c.args.out.now c.tell_no_place.new.out) c.args.refusal refusal.Sink _ c.in-Sink.is c.tell_no_place.ensures

@@ -1,10 +1,11 @@
 use Rattle.std.proofs.Common.{List, ℕ, ◌+◌, ◌&&◌, nat_le, refl, sym, ◌∙◌}
-use Rattle.mps_reader.specs.Faults.{◌<|>◌, is_counted, most_rows, side_fault, side_number_fault, when}
+use Rattle.mps_reader.specs.Faults.{◌<|>◌, is_counted, side_fault, side_number_fault, when}
 use Rattle.mps_reader.proofs.SideLines.{fault_found}
 use Rattle.mps_reader.proofs.Stopping.{stops_same}
 use Rattle.mps_reader.specs.Tables.{table}
 use Rattle.mps_reader.specs.declared.kinds.Kind.TheVariants as kind
 use Rattle.mps_reader.proofs.sides.Sides.judged.Goals as goal
+use Rattle.problem.specs.Limits.{most_rows}
 
 pub returns-then-is_some-clause-err : goal.returns-then-is_some-clause-err
 returns-then-is_some-clause-err g c before h =

@@ -14,7 +14,8 @@ use Rattle.outside.specs.declared.moment.Moment.{Moment}
 use Rattle.node_pool.specs.declared.halt.Halt.{Halt}
 use Rattle.node_pool.specs.Payloads.{IsJournalOf, LeavesPrefixes, codes_given}
 use Rattle.node_pool.specs.Stored.{IsStored}
-use Rattle.node_pool.proofs.FreeNodes.{listed_below, added_listed, two_more}
+use Rattle.event_core.specs.Lemmas.Frames.{two_more}
+use Rattle.node_pool.proofs.FreeNodes.{listed_below, added_listed}
 use Rattle.node_pool.proofs.RisingLists.{fewer, missing}
 use Rattle.node_pool.proofs.Journaling.{journal_push, journal_same, length-journaled, next_event, stored_push}
 use Rattle.node_pool.proofs.Crashes.{leaves_sound, leaves_failed, leaves_stands, model_kept}

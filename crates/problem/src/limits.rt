@@ -1,0 +1,16 @@
+// The limits of a problem, each named once. What each of them limits is told in `specs/Limits`, where the same names stand.
+
+/// The most columns of a problem.
+pub const MOST_COLUMNS: usize = 1_000;
+
+/// The most rows of a problem.
+pub const MOST_ROWS: usize = 1_000;
+
+/// The most cuts that a search adds to a problem's rows.
+pub const MOST_CUTS: u32 = 256;
+
+/// The largest size of a column's bound, and of a coefficient.
+pub const LARGEST_BOUND: u32 = 1_000_000_000;
+
+/// The largest size of a cut's coefficient: 2^40.
+pub const LARGEST_CUT_COEFFICIENT: u128 = 1 << 40;

@@ -1,2 +1,0 @@
--- Lemmas that other crates, or the definitions themselves, stand on. Contracts cite none of them.
-pub mod Lists
