@@ -33,6 +33,7 @@ pub record StaysSound {D : Type 0} {d : Ghosts D} (old new : Pool D d) : Type 0 
 abbrev pub IsDiskHalt : Option Halt → Type 0
 IsDiskHalt h = (n : ℕ) × (e : Event) × (h ≡ Some (halt.Disk n e))
 
+-- a search that stopped because its budget of nodes was used up
 abbrev pub IsBudgetHalt : Option Halt → Type 0
 IsBudgetHalt h = (e : Event) × (h ≡ Some (halt.Budget e))
 

@@ -55,9 +55,11 @@ module _ {D : Type 0} (lock : PoolLock) where
 abbrev pub worker_at : ℕ → ℕ → ℕ
 worker_at workers i = workers - 1 - i
 
+-- one gate a worker, each before its first call, the last worker's first
 abbrev pub AreNewGates : {D : Type 0} → PoolLock → ℕ → List (LockGate D) → Type 0
 AreNewGates lock workers gates = EachAt (λ i g. IsNewGate lock (worker_at workers i) g) gates
 
+-- the same gates, each behind its last call
 abbrev pub AreDoneGates : {D : Type 0} → PoolLock → ℕ → List (LockGate D) → Type 0
 AreDoneGates lock workers gates = EachAt (λ i g. IsDoneGate lock (worker_at workers i) g) gates
 

@@ -32,6 +32,7 @@ abbrev pub run_of_start : LinearProgram → Option Tableau → RunEnd
 run_of_start lp None = record { place = CrampedRatio; pivots = 0; tableau = None }
 run_of_start lp (Some t) = run_from (pivot_limit lp) t
 
+-- the run on a linear program from its first tableau, up to the limit of pivots
 abbrev pub run : LinearProgram → RunEnd
 run lp = run_of_start lp (started lp)
 
@@ -48,6 +49,7 @@ infeasible_answer p cuts box mult = option_map (λ v. Infeasible mult) (price p 
 abbrev pub optimal_answer : Problem → List Cut → List Span → RationalPoint → Multipliers → Option Answer
 optimal_answer p cuts box x mult = if sums_fit p cuts x then option_map (λ v. Optimal x mult v) (price p cuts box p.objective mult) else None
 
+-- a sum that does not fit makes the whole run a cramped one
 abbrev pub answer_or_cramped : ℕ → Option Answer → Answer
 answer_or_cramped pivots None = Cramped pivots
 answer_or_cramped pivots (Some a) = a
@@ -60,6 +62,7 @@ answer_at p cuts box pivots (Some t) (NoColumn r) = answer_or_cramped pivots (in
 answer_at p cuts box pivots (Some t) CrampedRatio = Cramped pivots
 answer_at p cuts box pivots (Some t) (Pivot r c) = Stalled
 
+-- the answer that a run's last tableau gives
 abbrev pub answer_of_run : Problem → List Cut → List Span → RunEnd → Answer
 answer_of_run p cuts box e = answer_at p cuts box e.pivots e.tableau e.place
 

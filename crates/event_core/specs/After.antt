@@ -10,16 +10,20 @@ use Rattle.event_core.specs.States.{State, tree_of}
 use Rattle.event_core.specs.Holds.{hold_of, without_hold}
 use Rattle.problem.specs.Linear.{Multipliers, Point}
 
+-- a claim: its worker holds the node
 abbrev pub after_claim : State → Option ℕ → ℕ → State
 after_claim s w i = record s { holds = s.holds ++ hold_of w i }
 
+-- a release: nobody holds the node
 abbrev pub after_release : State → ℕ → State
 after_release s i = record s { holds = without_hold i s.holds }
 
+-- a cut stands behind those before it, where its row can be made
 abbrev pub after_cut : State → Multipliers → Option Row → State
 after_cut s mult None = s
 after_cut s mult (Some r) = record s { cuts = s.cuts ++ record { row = r; mult = mult } ∷ [] }
 
+-- an offer is the incumbent now
 abbrev pub after_offer : State → Point → State
 after_offer s x = record s { incumbent = offered s.problem x }
 
@@ -31,9 +35,11 @@ after_split s i j b = record s {
   holds = without_hold i s.holds;
 }
 
+-- a close: the node has ended, and nobody holds it
 abbrev pub after_close : State → ℕ → State
 after_close s i = record s { ended = slice_set s.ended i true; holds = without_hold i s.holds }
 
+-- the state after an event of a worker
 abbrev pub after : State → Option ℕ → Event → State
 after s w (Claim i) = after_claim s w i
 after s w (Release i) = after_release s i

@@ -17,8 +17,10 @@ stands G o = is_ge o
 stands L o = is_le o
 stands E o = is_eq o
 
+-- the test for a row at an integer point
 abbrev pub is_satisfied : Point → Row → Bool
 is_satisfied x r = stands r.sense (compare (value r.terms x) r.rhs)
 
+-- the test for a feasible point: in the box, and each row holds
 abbrev pub is_feasible : Problem → Point → Bool
 is_feasible p x = is_in_box p.spans x && list_all (is_satisfied x) p.rows

@@ -97,18 +97,22 @@ abbrev pub cut_of_row : Multipliers → Option Row → List MadeCut
 cut_of_row mult None = []
 cut_of_row mult (Some r) = record { row = r; mult = mult } ∷ []
 
+-- the cuts that an event adds: at most one
 abbrev pub cuts_of : State → Option Multipliers → List MadeCut
 cuts_of s None = []
 cuts_of s (Some mult) = cut_of_row mult (rounded_row s.problem s.cuts mult)
 
+-- the incumbent after an event that offers this point, or none
 abbrev pub incumbent_after : State → Option Point → Option Best
 incumbent_after s None = s.incumbent
 incumbent_after s (Some x) = offered s.problem x
 
+-- the holds that an event leaves
 abbrev pub without_holds : Option ℕ → List Holder → List Holder
 without_holds None holds = holds
 without_holds (Some i) holds = without_hold i holds
 
+-- the holds that an event adds
 abbrev pub holds_of : Option ℕ → Option ℕ → List Holder
 holds_of worker None = []
 holds_of worker (Some i) = hold_of worker i

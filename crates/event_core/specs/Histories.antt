@@ -28,10 +28,12 @@ pub record IsLegal (s : State) (worker : Option ℕ) (event : Event) : Type 0 wh
   pub admitted : judged s worker event ≡ Yes
   pub stands : MayStand s worker event
 
+-- the state after a list of events, from a state
 abbrev pub state_from : State → List Entry → State
 state_from s [] = s
 state_from s (e ∷ es) = state_from (after s e.worker e.event) es
 
+-- each event is legal in the state that those before it left
 abbrev pub AreLegalFrom : State → List Entry → Type 0
 AreLegalFrom s [] = Unit {0}
 AreLegalFrom s (e ∷ es) = IsLegal s e.worker e.event × AreLegalFrom (after s e.worker e.event) es

@@ -23,6 +23,7 @@ pub record AreJournaled (p : Problem) (es : List Entry) : Type 0 where
   pub legal : AreLegal p (journaled es)
   pub same : state_of p (journaled es) ≡ unheld (state_of p es)
 
+-- what a journal keeps of a legal history is one, with the same state but for the holds
 abbrev pub JournalsAreLegal : Problem → Type 0
 JournalsAreLegal p = (es : List Entry) → AreLegal p es → AreJournaled p es
 
@@ -31,9 +32,11 @@ pub record IsBeginning (p : Problem) (es more : List Entry) : Type 0 where
   pub legal : AreLegal p es
   pub ended : (i : ℕ) → slice_get (state_of p es).ended i ≡ Some true → slice_get (state_of p (es ++ more)).ended i ≡ Some true
 
+-- each beginning of a legal history is one, and what has ended stays so
 abbrev pub BeginningsAreLegal : Problem → Type 0
 BeginningsAreLegal p = (es more : List Entry) → AreLegal p (es ++ more) → IsBeginning p es more
 
+-- a legal history leads to a state that claims nothing false
 abbrev pub LegalStatesAreSound : Problem → Type 0
 LegalStatesAreSound p = (es : List Entry) → AreLegal p es → IsSound (state_of p es)
 

@@ -13,6 +13,7 @@ use Rattle.dual_simplex.specs.Relaxation.{RationalPoint}
 use Rattle.dual_simplex.specs.PointSums.{checked_sum}
 use Rattle.event_core.specs.Feasibility.{stands}
 
+-- the test for a number between a column's bounds
 abbrev pub lies_in : Span → ℚ → Bool
 lies_in s x = is_le (compare (whole s.lo) x) && is_le (compare x (whole s.hi))
 
@@ -28,6 +29,7 @@ abbrev pub sum_stands : Row → Option ℚ → Bool
 sum_stands r None = false
 sum_stands r (Some v) = stands r.sense (compare v r.rhs)
 
+-- the test for a row at a rational point; false where its sum does not fit
 abbrev pub satisfies_row : RationalPoint → Row → Bool
 satisfies_row x r = sum_stands r (checked_sum r.terms x)
 

@@ -46,6 +46,7 @@ abbrev pub HasEntryRoom : State → ℕ → Event → Type 0
 HasEntryRoom s n (Release i) = Unit {0}
 HasEntryRoom s n e = length s.holds + 2 ≤ n
 
+-- the room that an event takes is there
 abbrev pub HasRoom : Rooms → Event → Type 0
 HasRoom r (Claim i) = 0 < r.holds
 HasRoom r (Cut mult) = 0 < r.cuts

@@ -45,6 +45,8 @@ pub record IsMiddle (box : List Span) (j : ℕ) (b : ℤ) : Type 0 where
   pub free : IsFirstFree box j
   pub bound : b ≡ floor_div (free.span.lo +ℤ free.span.hi) 2
 
+-- the reason of a split holds: a point of the relaxation that lies between the two parts, or a run that was cramped or stalled, and the middle of
+-- the first free column
 abbrev pub IsGiven : Problem → List Cut → List Span → Option ℚ → ℕ → ℤ → Reason → Type 0
 IsGiven p cs box cutoff j b (Fractional k x) = IsFractional p (take k cs) box cutoff j b x
 IsGiven p cs box cutoff j b (Cramped k pivots) = (answer p (take k cs) box ≡ CrampedRun pivots) × IsMiddle box j b
@@ -61,6 +63,7 @@ pub record IsReason (p : Problem) (cs : List Cut) (box : List Span) (cutoff : Op
 abbrev pub is_between : ℚ → ℤ → Bool
 is_between x b = not (nat_eq x.den 1) && int_eq (floor x) b
 
+-- the test for a fractional reason
 abbrev pub is_fractional : Problem → List Cut → List Span → Option ℚ → ℕ → ℤ → RationalPoint → Bool
 is_fractional p cs box cutoff j b x = is_between (rational_at x j) b && is_relaxed p cs box x && is_below_cutoff p cutoff (checked_sum p.objective x)
 
@@ -75,21 +78,25 @@ abbrev pub is_half : Option Span → ℤ → Bool
 is_half None b = false
 is_half (Some s) b = int_eq b (floor_div (s.lo +ℤ s.hi) 2)
 
+-- the test for the middle of the first free column
 abbrev pub is_middle : List Span → ℕ → ℤ → Bool
 is_middle box j b = is_first_free box j && is_half (slice_get box j) b
 
+-- the test for a run that was cramped after so many pivots
 abbrev pub is_cramped : ℕ → Answer → Bool
 is_cramped n (Infeasible mult) = false
 is_cramped n (Optimal x mult v) = false
 is_cramped n (CrampedRun pivots) = nat_eq pivots n
 is_cramped n StalledRun = false
 
+-- the test for a run that stalled
 abbrev pub is_stalled : Answer → Bool
 is_stalled (Infeasible mult) = false
 is_stalled (Optimal x mult v) = false
 is_stalled (CrampedRun pivots) = false
 is_stalled StalledRun = true
 
+-- the test for a reason that holds
 abbrev pub is_given : Problem → List Cut → List Span → Option ℚ → ℕ → ℤ → Reason → Bool
 is_given p cs box cutoff j b (Fractional k x) = is_fractional p (take k cs) box cutoff j b x
 is_given p cs box cutoff j b (Cramped k pivots) = is_middle box j b && is_cramped pivots (answer p (take k cs) box)

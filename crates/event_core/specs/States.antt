@@ -25,9 +25,11 @@ pub record State : Type 0 where
 abbrev pub first_state : Problem → State
 first_state p = record { problem = p; nodes = no_node ∷ []; ended = false ∷ []; cuts = []; incumbent = None; holds = [] }
 
+-- the tree of a state, without the room that the program keeps
 abbrev pub tree_of : State → Tree
 tree_of s = record { root = s.problem.spans; nodes = s.nodes; room = 0 }
 
+-- the box of a node
 abbrev pub box_of : State → ℕ → List Span
 box_of s i = box_at (tree_of s) i
 

@@ -69,7 +69,9 @@ impl<'a, R: Files<File = File>> FileDisk<'a, R> {
     }
 
     /// What the system said of the last fault; none where there was none.
-    pub fn met(&self) -> Option<Error> {
+    pub fn met(&self) -> Option<Error>
+        ensures { result ≡ self.met }
+    {
         self.met
     }
 

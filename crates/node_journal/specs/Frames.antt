@@ -11,6 +11,7 @@ frame p = 1 ∷ to_le_bytes w32 (length p) ++ p
 abbrev pub tail_of : List ℕ → List ℕ
 tail_of p = to_le_bytes w32 (length p) ++ p ++ 0 ∷ []
 
+-- the frames of these payloads, one behind the other
 abbrev pub frames_of : List (List ℕ) → List ℕ
 frames_of [] = []
 frames_of (p ∷ ps) = frame p ++ frames_of ps

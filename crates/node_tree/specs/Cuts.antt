@@ -23,6 +23,7 @@ abbrev pub cut_on : Side → List Span → ℕ → ℤ → List Span
 cut_on Low ss j b = cut_low ss j b
 cut_on High ss j b = cut_high ss j b
 
+-- the box that a branch leaves of its parent's
 abbrev pub cut_by : Branch → List Span → List Span
 cut_by b ss = cut_on b.side ss b.column b.bound
 

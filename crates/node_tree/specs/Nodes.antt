@@ -14,6 +14,7 @@ pub record Tree : Type 0 where
 abbrev pub no_node : Node
 no_node = record { branch = None; first_child = None }
 
+-- the node of a number; one without branch and children where there is none
 abbrev pub node_at : Tree → ℕ → Node
 node_at t i = slice_index_or t.nodes i no_node
 

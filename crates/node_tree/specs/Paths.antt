@@ -16,6 +16,7 @@ path_of branch (suc steps) i = onward (branch i) (λ parent. path_of branch step
     onward None up = []
     onward (Some b) up = (i, b) ∷ up b.parent
 
+-- the test for the same bound of a column
 abbrev pub is_same_side : Side → Side → Bool
 is_same_side Low Low = true
 is_same_side High High = true
@@ -50,5 +51,6 @@ bound_on High s = s.hi
 abbrev pub path_at : Tree → ℕ → List (ℕ × Branch)
 path_at t i = path_of (branch_at t) i i
 
+-- the box of a node: that of the root, cut by each branch on the way to the node
 abbrev pub box_at : Tree → ℕ → List Span
 box_at t i = box_along (path_at t i) 0 t.root

@@ -9,6 +9,7 @@ use Rattle.node_tree.specs.Nodes.{Tree, node_at}
 abbrev pub left_branch : ℕ → ℕ → ℤ → Branch
 left_branch i j b = record { parent = i; column = j; side = High; bound = b }
 
+-- the upper part of a split of column j at b: its lower bound is b + 1
 abbrev pub right_branch : ℕ → ℕ → ℤ → Branch
 right_branch i j b = record { parent = i; column = j; side = Low; bound = b +ℤ pos 1 }
 

@@ -37,6 +37,7 @@ tightened_on side [] j b = []
 tightened_on side (s ∷ ss) zero b = tightened_span side s b ∷ ss
 tightened_on side (s ∷ ss) (suc j) b = s ∷ tightened_on side ss j b
 
+-- the box in which a branch's bound is the tighter one of the two
 abbrev pub tightened : Branch → List Span → List Span
 tightened b ss = tightened_on b.side ss b.column b.bound
 

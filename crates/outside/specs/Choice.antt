@@ -4,6 +4,7 @@ use Rattle.outside.specs.Images.{is_in_ranges}
 use Rattle.outside.specs.declared.moment.Moment.{Moment}
 use Rattle.outside.specs.declared.replayed.Replayed.{Replayed}
 
+-- the moment that a replayed disk stands for
 abbrev pub moment_of : Replayed → Moment
 moment_of r = record { seen = r.seen.items; kept = r.kept.items; ranges = r.ranges.items; least = r.least; most = r.most }
 

@@ -23,6 +23,7 @@ overwritten at bytes old = take at old ++ bytes ++ drop (at + length bytes) old
 abbrev pub moment_after_write : ℕ → List ℕ → Moment → Moment
 moment_after_write at bytes m = record { seen = overwritten at bytes m.seen; kept = m.kept; ranges = m.ranges ++ (at, length bytes) ∷ []; least = m.least; most = max m.most (at + length bytes) }
 
+-- a truncation: what lies behind the size may be gone after a crash
 abbrev pub moment_after_cut : ℕ → Moment → Moment
 moment_after_cut size m = record { seen = take size m.seen; kept = m.kept; ranges = m.ranges; least = min m.least size; most = m.most }
 
@@ -30,6 +31,7 @@ moment_after_cut size m = record { seen = take size m.seen; kept = m.kept; range
 abbrev pub resting : List ℕ → Moment
 resting bytes = record { seen = bytes; kept = bytes; ranges = []; least = length bytes; most = length bytes }
 
+-- a sync: all that was seen is kept
 abbrev pub moment_after_sync : Moment → Moment
 moment_after_sync m = resting m.seen
 

@@ -5,15 +5,19 @@ use Rattle.outside.specs.Replay.{replay, moments}
 use Rattle.outside.specs.declared.moment.Moment.{Moment}
 use Rattle.outside.specs.declared.mem_disk.MemDisk.{MemDisk}
 
+-- the moments that a disk in memory has passed
 abbrev pub disk_past : MemDisk → List Moment
 disk_past d = moments (resting d.first.items) d.calls.items
 
+-- its moment now
 abbrev pub disk_now : MemDisk → Moment
 disk_now d = replay (resting d.first.items) d.calls.items
 
+-- how many calls it has had
 abbrev pub disk_ticks : MemDisk → ℕ
 disk_ticks d = length d.calls.items
 
+-- how many faults it still makes
 abbrev pub disk_count : MemDisk → ℕ
 disk_count d = d.faults
 

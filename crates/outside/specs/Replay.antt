@@ -5,6 +5,7 @@ use Rattle.outside.specs.declared.moment.Moment.{Moment}
 use Rattle.outside.specs.declared.mem_disk.Call.{Call}
 use Rattle.outside.specs.declared.mem_disk.Call.TheVariants.{Write, Cut, Sync}
 
+-- the moment after one call
 abbrev pub moment_after_call : Moment → Call → Moment
 moment_after_call m (Write at bytes) = moment_after_write at bytes.items m
 moment_after_call m (Cut size) = moment_after_cut size m

@@ -5,6 +5,7 @@ use Rattle.outside.specs.declared.source.Got.TheVariants as got
 use Rattle.outside.specs.declared.sink.Put.{Put}
 use Rattle.outside.specs.declared.sink.Put.TheVariants as put
 
+-- the test for a read that failed
 abbrev pub failed_read : Got → Bool
 failed_read (got.Gave k) = false
 failed_read got.End = false
@@ -22,6 +23,7 @@ ReadsFrom before after buf (got.Gave k) = before ≡ take k buf ++ after
 ReadsFrom before after buf got.End = (before ≡ []) × (after ≡ [])
 ReadsFrom before after buf got.Failed = after ≡ before
 
+-- the test for a write that failed
 abbrev pub failed_write : Put → Bool
 failed_write (put.Took k) = false
 failed_write put.Failed = true

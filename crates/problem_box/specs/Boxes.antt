@@ -17,6 +17,7 @@ IsInBox (s ∷ ss) (x ∷ xs) = IsWithin s x × IsInBox ss xs
 abbrev pub is_within : Span → ℤ → Bool
 is_within s x = int_le s.lo x && int_le x s.hi
 
+-- the test for a point of the box: as many numbers as spans, each within its own
 abbrev pub is_in_box : List Span → List ℤ → Bool
 is_in_box [] [] = true
 is_in_box [] (x ∷ xs) = false

@@ -7,6 +7,7 @@ use Rattle.solve_top.specs.declared.request.Request.{Request}
 use Rattle.solve_top.specs.declared.request.Request.TheVariants as request
 use Rattle.problem.specs.Limits.{most_cuts, largest_bound}
 
+-- what a command asks for, without the paths of its files
 abbrev pub without_paths : Asked → Request
 without_paths (solve model journal cert limits upper) = request.Solve limits upper
 without_paths (resume journal cert limits) = request.Resume limits

@@ -7,6 +7,7 @@ use Rattle.turn_lock.specs.Turns.{word_of}
 use Rattle.turn_lock.specs.declared.board.View.{View}
 
 module _ {E : Type 0} where
+  -- the view of a pass that has drawn this ticket
   abbrev pub with_ticket : View E → ℕ → View E
   with_ticket v t = record { names = v.names; ticket = Some t; out = v.out; seen = v.seen; less = v.less; less_names = v.less_names }
 
@@ -22,6 +23,7 @@ module _ {E : Type 0} where
   abbrev pub others_of : View E → View E
   others_of v = record { names = without_first (greatest v.names) v.names; ticket = v.ticket; out = v.out; seen = v.seen; less = v.less; less_names = v.less_names }
 
+  -- the part of a view that has its greatest name alone
   abbrev pub greatest_of : View E → View E
   greatest_of v = record { names = greatest v.names ∷ []; ticket = None; out = false; seen = v.seen; less = v.less; less_names = v.less_names }
 
@@ -29,6 +31,7 @@ module _ {E : Type 0} where
   abbrev pub joined : View E → View E → View E
   joined v w = record { names = v.names ++ w.names; ticket = None; out = false; seen = longer v.seen w.seen; less = shorter v.seen w.seen; less_names = shorter_has v.seen w.seen v.names w.names }
 
+  -- the view of a pass that was joined to another
   abbrev pub spent : View E
   spent = record { names = []; ticket = None; out = false; seen = []; less = []; less_names = [] }
 

@@ -11,6 +11,7 @@ use Rattle.turn_lock.specs.declared.board.View.{View}
 abbrev pub word_of : ℕ → ℕ
 word_of n = n % 18446744073709551616
 
+-- 1 for true, so that a sum counts
 abbrev pub one_if : Bool → ℕ
 one_if true = 1
 one_if false = 0
@@ -31,9 +32,11 @@ module _ {E : Type 0} where
     pub ticket : (t : ℕ) → v.ticket ≡ Some t → (served ≤ t) × (t < issued) × (0 < length v.names)
     pub out : v.out ≡ true → (v.ticket ≡ Some served) × (v.seen ≡ noted)
 
+  -- how many passes wait with a ticket
   abbrev pub tickets_in : List (View E) → ℕ
   tickets_in views = sum_by (λ v. one_if (is_some v.ticket)) views
 
+  -- how many names all passes have
   abbrev pub weight_in : List (View E) → ℕ
   weight_in views = sum_by (λ v. length v.names) views
 

@@ -38,6 +38,7 @@ claimed w claim.Idle = []
 claimed w claim.Done = []
 claimed w claim.Halted = []
 
+-- a claim answers for the list as it is, and adds a claim of the node that it names
 abbrev pub Claims : ℕ → Result Claim AllocError → List PoolEntry → List PoolEntry → Type 0
 Claims w (Ok c) at own = IsClaim (halt_in at) (state_in at) c × (own ≡ claimed w c)
 Claims w (Err e) at own = own ≡ []
@@ -50,6 +51,7 @@ pub record IsGlanceOf (s : State) (node known : ℕ) (g : Glance) : Type 0 where
   pub area : g.area ≡ box_of s node
   pub branch : g.branch ≡ branch_at (tree_of s) node
 
+-- a glance tells the node in the state as it is, and adds nothing
 abbrev pub Glances : ℕ → ℕ → Result Glance AllocError → List PoolEntry → List PoolEntry → Type 0
 Glances node known (Ok g) at own = IsGlanceOf (state_in at) node known g × (own ≡ [])
 Glances node known (Err e) at own = own ≡ []
@@ -111,6 +113,7 @@ MakesOf all (Err fault.Disk) at own = AreHalted all fault.Disk at own
 MakesOf all (Err fault.Budget) at own = AreHalted all fault.Budget at own
 MakesOf all (Err fault.Halted) at own = IsSome (halt_in at) × (own ≡ [])
 
+-- a commit settles the finding in the state as it is, and adds what it answers
 abbrev pub Commits : ℕ → ℕ → Finding → Result Receipt CommitFault → List PoolEntry → List PoolEntry → Type 0
 Commits w node f r at own = MakesOf (settling w node f at) r at own
 
@@ -123,5 +126,6 @@ abbrev pub halting : Option Halt → List PoolEntry
 halting None = Halted halt.Memory ∷ []
 halting (Some h) = []
 
+-- a halt adds itself, where none stands yet
 abbrev pub Halts : List PoolEntry → List PoolEntry → Type 0
 Halts at own = own ≡ halting (halt_in at)

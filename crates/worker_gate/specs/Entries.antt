@@ -24,9 +24,11 @@ happened es = map Happened es
 abbrev pub no_problem : Problem
 no_problem = record { names = []; rows = []; objective = []; spans = [] }
 
+-- stands for the state of a list without an opening
 abbrev pub no_state : Recorded
 no_state = record { state = first_state no_problem; history = []; room = record { splits = 0; nodes = 0; cuts = 0; holds = 0 }; entries = 0; cut = None; point = None }
 
+-- stands for the opening of a list without one
 abbrev pub no_opening : Opening
 no_opening = record { state = no_state; budget = 0; faults = 0; opened = 0; moments = []; model = []; cuts = 0; workers = 0 }
 
@@ -62,6 +64,7 @@ halt_in (Halted h ∷ es) = Some h
 abbrev pub state_in : List PoolEntry → State
 state_in list = state_from (opening_in list).state.state (events_in list)
 
+-- all events of the search: those before the opening, then those of the list
 abbrev pub history_in : List PoolEntry → List Entry
 history_in list = (opening_in list).state.history ++ events_in list
 

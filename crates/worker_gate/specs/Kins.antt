@@ -25,6 +25,7 @@ module _ {D : Type 0} {d : Ghosts D} where
   abbrev pub moments_of : Pool D d → List Moment
   moments_of pool = d.past pool.journal.disk ++ d.now pool.journal.disk ∷ []
 
+  -- the model's text, as the journal has it
   abbrev pub model_of : Pool D d → List ℕ
   model_of pool = model_in (payloads_in (d.now pool.journal.disk))
 

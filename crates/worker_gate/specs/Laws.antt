@@ -14,5 +14,6 @@ pub record Stays (w : ℕ) (old at : List PoolEntry) : Type 0 where
   pub cuts : (n : ℕ) → HasCuts n old → HasCuts n at
   pub found : (node : ℕ) (f : Finding) → HoldsNode w node old → IsFound node f old → IsFound node f at
 
+-- what a worker was told of its node still holds after others' entries
 abbrev pub ConditionsStay : Type 0
 ConditionsStay = (w : ℕ) (old at : List PoolEntry) → is_opened old ≡ true → IsLegalList at → GoesOn name_of (w ∷ []) old at → Stays w old at

@@ -11,6 +11,7 @@ abbrev pub IsOneOf : ℕ → Option ℕ → Type 0
 IsOneOf n None = ⊥
 IsOneOf n (Some w) = w < n
 
+-- an event of one of the n workers
 abbrev pub IsByOneOf : ℕ → Entry → Type 0
 IsByOneOf n e = IsOneOf n e.worker
 

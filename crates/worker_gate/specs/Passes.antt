@@ -13,22 +13,27 @@ module _ {V : Type 0} where
   seen_in (Some pass) = seen_by pass
   seen_in None = []
 
+  -- the names of a pass that may be away
   abbrev pub names_in : Option (Pass V PoolEntry) → List ℕ
   names_in (Some pass) = names_of pass
   names_in None = []
 
+  -- the table that it belongs to
   abbrev pub table_in : Option (Pass V PoolEntry) → Option TableId
   table_in (Some pass) = Some pass.place.table_id
   table_in None = None
 
+  -- the ticket that it waits with
   abbrev pub ticket_in : Option (Pass V PoolEntry) → Option ℕ
   ticket_in (Some pass) = pass.place.me.0.ticket
   ticket_in None = None
 
+  -- whether its value is out, in a turn
   abbrev pub out_in : Option (Pass V PoolEntry) → Bool
   out_in (Some pass) = pass.place.me.0.out
   out_in None = false
 
+  -- how many entries it holds
   abbrev pub held_by : Option (Pass V PoolEntry) → ℕ
   held_by (Some pass) = length pass.place.me.1
   held_by None = 0
