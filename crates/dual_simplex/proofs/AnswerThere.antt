@@ -47,6 +47,7 @@ use Rattle.dual_simplex.specs.Lemmas.Prices.{mult_from, reduced_is_factor}
 use Rattle.dual_simplex.specs.Lemmas.Optimum.{point_cost}
 use Rattle.dual_simplex.specs.Lemmas.Holds.{rows_and_cuts, numbers, size, variables_are, balanced_value, cost_multipliers, point_is, costs_balanced, row_multipliers_are, row_balanced}
 use Rattle.dual_simplex.proofs.CommonDenominator.{IsThereWithin, Multiplies, whole_within, neg_within, integer_within, integer_coefficient, integer_coefficients, sum_there, columns_there, dot_there, with_columns_there}
+use Rattle.integer_tableau.specs.Range.{size_limit}
 
 abbrev row_of_cut : Cut → Row
 row_of_cut c = c.row
@@ -63,12 +64,12 @@ length-numbered (i ∷ is) (m ∷ ms) = at (int_eq m.num (pos 0)) (length-number
 
 -- the sizes over the denominator of a product, and of a sum of a product for each row and cut
 abbrev product : ℕ
-product = 2 ^ 62 * largest_integer
+product = size_limit * largest_integer
 
 abbrev sum : ℕ
-sum = (most_rows + most_small_cuts) * (2 ^ 62 * largest_integer)
+sum = (most_rows + most_small_cuts) * (size_limit * largest_integer)
 
-module _ (p : Problem) (cs : List Cut) (box : List Span) (columns : length box ≡ length p.spans) (integers : IsIntegerRelaxation p cs) (d : ℕ) (positive : 0 < d) (bounded : d < 2 ^ 62) where
+module _ (p : Problem) (cs : List Cut) (box : List Span) (columns : length box ≡ length p.spans) (integers : IsIntegerRelaxation p cs) (d : ℕ) (positive : 0 < d) (bounded : d < size_limit) where
   abbrev rows : List Row
   rows = rows_and_cuts p cs box
 
@@ -88,15 +89,15 @@ module _ (p : Problem) (cs : List Cut) (box : List Span) (columns : length box �
   number_count = length-numbers ls (numbers p cs box) rows (relaxation_rows p cs)
 
   -- ---- prices
-  module _ (modest : All IsModestSpan box) (target : Terms) (integer_target : HasIntegers target) (g u : List ℚ) (b : IsBalanced rows box p.objective target g u) (within : All (Within d (2 ^ 62)) g) where
+  module _ (modest : All IsModestSpan box) (target : Terms) (integer_target : HasIntegers target) (g u : List ℚ) (b : IsBalanced rows box p.objective target g u) (within : All (Within d size_limit) g) where
     abbrev mult : Multipliers
     mult = mult_from (length box) (numbers p cs box) g
 
     -- each multiplier is small, and so are the numbers of its line
-    multiplied : (f : Row → ℚ) → ((r : Row) → IsIntegerRow r → IsIntegerTo largest_integer (f r)) → All (Multiplies d (2 ^ 62) largest_integer product positive below refl (λ i. f (row_at ls i))) mult
-    multiplied f h = all_numbered (Multiplies d (2 ^ 62) largest_integer product positive below refl (λ i. f (row_at ls i))) (numbers p cs box) (drop (length box) g) (λ k l.
+    multiplied : (f : Row → ℚ) → ((r : Row) → IsIntegerRow r → IsIntegerTo largest_integer (f r)) → All (Multiplies d size_limit largest_integer product positive below refl (λ i. f (row_at ls i))) mult
+    multiplied f h = all_numbered (Multiplies d size_limit largest_integer product positive below refl (λ i. f (row_at ls i))) (numbers p cs box) (drop (length box) g) (λ k l.
         let i : k < length rows = omega (arith, number_count) in (
-          All-get_or (Within d (2 ^ 62)) (drop (length box) g) k zero_ℚ (omega (arith, length-drop (length box) g, b.factors)) (All-drop (Within d (2 ^ 62)) (length box) g within),
+          All-get_or (Within d size_limit) (drop (length box) g) k zero_ℚ (omega (arith, length-drop (length box) g, b.factors)) (All-drop (Within d size_limit) (length box) g within),
           h _ (subst IsIntegerRow (sym (row_there ls (numbers p cs box) rows k (relaxation_rows p cs) l).1) (All-get_or IsIntegerRow rows k no_row i all_rows)),
         ))
 
@@ -104,25 +105,25 @@ module _ (p : Problem) (cs : List Cut) (box : List Span) (columns : length box �
     few = omega (arith, length-numbered (numbers p cs box) (drop (length box) g), number_count, row_count, integers.few_rows)
 
     side : IsThereWithin d (0 + length mult * product) (combined_side ls mult)
-    side = sum_there d (2 ^ 62) largest_integer product positive below refl (side_at ls) 0 zero_ℚ mult (omega (arith, few)) (zero_within d 0) (multiplied (λ r. r.rhs) (λ r h. h.rhs))
+    side = sum_there d size_limit largest_integer product positive below refl (side_at ls) 0 zero_ℚ mult (omega (arith, few)) (zero_within d 0) (multiplied (λ r. r.rhs) (λ r h. h.rhs))
 
     coefficients : (xs : List ℚ) × (combined_columns ls mult 0 (length p.spans) ≡ Some xs) × All (Within d sum) xs × (length xs ≡ length p.spans)
-    coefficients = columns_there d (2 ^ 62) largest_integer product positive below refl ls sum mult 0 (length p.spans) (omega (arith, few)) (omega arith)
+    coefficients = columns_there d size_limit largest_integer product positive below refl ls sum mult 0 (length p.spans) (omega (arith, few)) (omega arith)
         (λ j. multiplied (λ r. coefficient r.terms j) (λ r h. integer_coefficient r.terms j h.terms))
 
     -- what is left of a column is its own multiplier
-    left : (i : ℕ) → i < length coefficients.0 → Within d (2 ^ 62) (coefficient target (0 + i) +ℚ neg_ℚ (entry coefficients.0 i))
+    left : (i : ℕ) → i < length coefficients.0 → Within d size_limit (coefficient target (0 + i) +ℚ neg_ℚ (entry coefficients.0 i))
     left i l =
         let k : i < length box = omega (arith, columns, coefficients.3) in
         let same : coefficient target (0 + i) +ℚ neg_ℚ (entry coefficients.0 i) ≡ entry g i =
         ap (λ x. coefficient target (0 + i) +ℚ neg_ℚ x) (columns_exact ls mult 0 (length p.spans) coefficients.0 coefficients.1 i l)
         ∙ ap (λ j. coefficient target j +ℚ neg_ℚ (coefficient (combined_terms ls mult) j)) (let e : 0 + i ≡ i = omega arith in e)
         ∙ reduced_is_factor ls (numbers p cs box) rows box p.objective target g u (relaxation_rows p cs) b i k in
-        subst (Within d (2 ^ 62)) (sym same) (All-get_or (Within d (2 ^ 62)) g i zero_ℚ (omega (arith, b.factors)) within)
+        subst (Within d size_limit) (sym same) (All-get_or (Within d size_limit) g i zero_ℚ (omega (arith, b.factors)) within)
 
     pub price_there : (v : ℚ) × (price p cs box target mult ≡ Some v)
     price_there =
-        let total = with_columns_there d (2 ^ 62) largest_integer product positive below refl (largest_integer * d) sum target (omega arith) (omega arith)
+        let total = with_columns_there d size_limit largest_integer product positive below refl (largest_integer * d) sum target (omega arith) (omega arith)
         (λ j. integer_within d largest_integer (coefficient target j) (integer_coefficient target j integer_target))
         (0 + length mult * product) side.it 0 coefficients.0 box
         (omega (arith, few, coefficients.3, integers.few_columns)) side.within coefficients.2 left modest in (
@@ -135,7 +136,7 @@ module _ (p : Problem) (cs : List Cut) (box : List Span) (columns : length box �
   -- ---- a tableau
   module _ (t : Tableau) (h : IsTableauOf (size p cs box) (linear_program p cs box) t) where
     -- the price of the multipliers of the costs is the objective at the point
-    pub cost_price : All IsModestSpan box → All (Within d (2 ^ 62)) t.reduced_costs → price p cs box p.objective (mult_of_cost t) ≡ Some (rational_value p.objective (point_of t))
+    pub cost_price : All IsModestSpan box → All (Within d size_limit) t.reduced_costs → price p cs box p.objective (mult_of_cost t) ≡ Some (rational_value p.objective (point_of t))
     cost_price modest within =
         let w = price_there modest p.objective integers.objective t.reduced_costs t.nonbasic_values (costs_balanced p cs box t h) within in
         let value : w.0 ≡ rational_value p.objective (point_of t) =
@@ -144,29 +145,29 @@ module _ (p : Problem) (cs : List Cut) (box : List Span) (columns : length box �
         ap (price p cs box p.objective) (cost_multipliers p cs box t h) ∙ w.1 ∙ ap Some value
 
     -- the multipliers of a row are small
-    row_within : (w : Direction) (r : ℕ) (row : List ℚ) → All (Within d (2 ^ 62)) row → All (Within d (2 ^ 62)) (row_multipliers w r row)
+    row_within : (w : Direction) (r : ℕ) (row : List ℚ) → All (Within d size_limit) row → All (Within d size_limit) (row_multipliers w r row)
     row_within Rise r row k =
-        All-set (Within d (2 ^ 62)) (map neg_ℚ row) r (whole (pos 1)) (whole_within d (2 ^ 62) (pos 1) (omega arith))
-        (All-map (Within d (2 ^ 62)) neg_ℚ row (λ i x l. neg_within d (2 ^ 62) _ positive (k i x l)))
-    row_within Fall r row k = All-set (Within d (2 ^ 62)) row r (whole (negsuc 0)) (whole_within d (2 ^ 62) (negsuc 0) (omega arith)) k
+        All-set (Within d size_limit) (map neg_ℚ row) r (whole (pos 1)) (whole_within d size_limit (pos 1) (omega arith))
+        (All-map (Within d size_limit) neg_ℚ row (λ i x l. neg_within d size_limit _ positive (k i x l)))
+    row_within Fall r row k = All-set (Within d size_limit) row r (whole (negsuc 0)) (whole_within d size_limit (negsuc 0) (omega arith)) k
 
-    pub row_price : All IsModestSpan box → (r : ℕ) → (k : IsNoColumn (size p cs box) t r) → All (Within d (2 ^ 62)) (row_of t r) → (v : ℚ) × (price p cs box [] (mult_of_row t r) ≡ Some v)
+    pub row_price : All IsModestSpan box → (r : ℕ) → (k : IsNoColumn (size p cs box) t r) → All (Within d size_limit) (row_of t r) → (v : ℚ) × (price p cs box [] (mult_of_row t r) ≡ Some v)
     row_price modest r k within =
         let w = price_there modest [] (record { rising = tt; coefficients = All-nil (λ (t : ℕ × ℚ). IsIntegerTo largest_integer t.1) }) (row_multipliers k.direction r (row_of t r)) (refuting_bounds t r k.direction)
         (row_balanced p cs box t h r k) (row_within k.direction r (row_of t r) within) in
         (w.0, ap (price p cs box []) (row_multipliers_are p cs box t h r k) ∙ w.1)
 
     -- ---- sums at the point
-    module _ (within : All (Within d (2 ^ 62)) t.values) where
-      in_point : All (Within d (2 ^ 62)) (point_of t)
-      in_point = All-take (Within d (2 ^ 62)) t.columns t.values within
+    module _ (within : All (Within d size_limit) t.values) where
+      in_point : All (Within d size_limit) (point_of t)
+      in_point = All-take (Within d size_limit) t.columns t.values within
 
       few_numbers : length (point_of t) ≤ most_columns
       few_numbers = omega (arith, ap length (point_is p cs box t h), length-take-le (length box) t.values (omega (arith, h.size.values)), columns, integers.few_columns)
 
       pub sum_at_point : (ts : Terms) → HasIntegers ts → checked_sum ts (point_of t) ≡ Some (rational_value ts (point_of t))
       sum_at_point ts k =
-          dot_there d (2 ^ 62) largest_integer product positive below refl 0 zero_ℚ (coefficients_from 0 (length (point_of t)) ts) (point_of t)
+          dot_there d size_limit largest_integer product positive below refl 0 zero_ℚ (coefficients_from 0 (length (point_of t)) ts) (point_of t)
           (omega (arith, few_numbers, length-coefficients 0 (length (point_of t)) ts)) (zero_within d 0) (integer_coefficients ts 0 (length (point_of t)) k) in_point
           ∙ ap Some (zero-+ℚ _ ∙ sym (rational_value-dot ts (point_of t)))
 
@@ -185,8 +186,8 @@ module _ (p : Problem) (cs : List Cut) (box : List Span) (columns : length box �
       sums_there = λ i. there p.objective integers.objective i && rows_there p.rows integers.rows i && cuts_there cs integers.cuts i
 
   -- ---- the answer
-  pub answer_there : All IsModestSpan box → (t : Tableau) (q : Place) → IsEnd p cs box q t → All (Within d (2 ^ 62)) t.reduced_costs → All (Within d (2 ^ 62)) t.values
-      → ((r : ℕ) → All (Within d (2 ^ 62)) (row_of t r)) → IsAnswerThere p cs box q t
+  pub answer_there : All IsModestSpan box → (t : Tableau) (q : Place) → IsEnd p cs box q t → All (Within d size_limit) t.reduced_costs → All (Within d size_limit) t.values
+      → ((r : ℕ) → All (Within d size_limit) (row_of t r)) → IsAnswerThere p cs box q t
   answer_there modest t q end costs values row = record {
     optimum = λ e.
         let h = tableau_at (λ f. let g : Done ≡ CrampedRatio = sym e ∙ f in cc) in
@@ -208,7 +209,7 @@ small_is_there p cs box columns integers t q end s =
     let h = s.over_denominator in
     answer_there p cs box columns integers s.denominator h.positive h.small s.modest t q end h.reduced_costs h.values (λ r. row t.rows r h.rows)
   where
-    row : (rs : List (List ℚ)) (r : ℕ) → All (All (Within s.denominator (2 ^ 62))) rs → All (Within s.denominator (2 ^ 62)) (get_or rs r [])
-    row [] r h = All-nil (Within s.denominator (2 ^ 62))
-    row (x ∷ rs) zero h = All-head (All (Within s.denominator (2 ^ 62))) x rs h
-    row (x ∷ rs) (suc r) h = row rs r (All-tail (All (Within s.denominator (2 ^ 62))) x rs h)
+    row : (rs : List (List ℚ)) (r : ℕ) → All (All (Within s.denominator size_limit)) rs → All (Within s.denominator size_limit) (get_or rs r [])
+    row [] r h = All-nil (Within s.denominator size_limit)
+    row (x ∷ rs) zero h = All-head (All (Within s.denominator size_limit)) x rs h
+    row (x ∷ rs) (suc r) h = row rs r (All-tail (All (Within s.denominator size_limit)) x rs h)

@@ -1,5 +1,5 @@
 -- All rows of whole numbers as the rows of fractions that they stand for, and a pivot on them.
-use Rattle.std.proofs.Common.{◌≡◌, ◌≢◌, ℕ, zero, suc, ◌+◌, ◌-◌, ◌^◌, ◌<◌, arith, refl, ap, sym, ◌∙◌, Some, List, [], ◌∷◌, ◌++◌, length, get_or, set, take, drop, drop-cons, get_or-set_same}
+use Rattle.std.proofs.Common.{◌≡◌, ◌≢◌, ℕ, zero, suc, ◌+◌, ◌-◌, ◌<◌, arith, refl, ap, sym, ◌∙◌, Some, List, [], ◌∷◌, ◌++◌, length, get_or, set, take, drop, drop-cons, get_or-set_same}
 use Rattle.std.specs.Prelude.{ℤ, pos, nat_abs}
 use Rattle.std.specs.Option.{option_and_then, option_map}
 use Rattle.std.specs.List.{swap}
@@ -9,6 +9,7 @@ use Rattle.fraction.specs.Rational.{ℚ}
 use Rattle.integer_tableau.proofs.RowsByVariable.{row_solved, row_substituted}
 use Rattle.integer_tableau.specs.IntegerTableau.{row_of_position, rows_of}
 use Rattle.integer_tableau.specs.Numbers.{IsWithin, number_at}
+use Rattle.integer_tableau.specs.Range.{size_limit}
 use Rattle.integer_tableau.specs.Positions.{IsColumnOf, coefficients}
 use Rattle.integer_tableau.proofs.Exchanges.{positions_exchanged}
 use Rattle.integer_tableau.specs.Substitution.{IsSolved, IsSubstituted}
@@ -72,10 +73,10 @@ others_each r c new xs ys e l n h =
 
 -- ---- a pivot on all rows
 module _ (positions : List Position) (r c k d : ℕ) (alone : IsColumnOf positions c k) (at_c : get_or positions c InBasis ≡ InColumn k) (at_r : get_or positions r InBasis ≡ InBasis)
-    (c_there : c < length positions) (r_there : r < length positions) (od : 0 < d) (hd : d < 2 ^ 62)
+    (c_there : c < length positions) (r_there : r < length positions) (od : 0 < d) (hd : d < size_limit)
     (rows news : List (List ℤ)) (same : length rows ≡ length positions) (same' : length news ≡ length positions)
     (long : (v : ℕ) → v < length positions → get_or positions v InBasis ≡ InBasis → k < length (get_or rows v []))
-    (small : (v : ℕ) → IsWithin (2 ^ 62 - 1) (get_or rows v [])) (small' : IsWithin (2 ^ 62 - 1) (get_or news r []))
+    (small : (v : ℕ) → IsWithin (size_limit - 1) (get_or rows v [])) (small' : IsWithin (size_limit - 1) (get_or news r []))
     (pivot : 0 < nat_abs (number_at (get_or rows r []) k))
     (turn : IsSolved (number_at (get_or rows r []) k) k d (get_or rows r []) (get_or news r []))
     (steps : (v : ℕ) → v < length positions → v ≢ r → get_or positions v InBasis ≡ InBasis
@@ -84,7 +85,7 @@ module _ (positions : List Position) (r c k d : ℕ) (alone : IsColumnOf positio
   abbrev pub e : ℕ
   e = nat_abs (number_at (get_or rows r []) k)
 
-  he : e < 2 ^ 62
+  he : e < size_limit
   he = omega (arith, small r k)
 
   abbrev before : List (List ℚ)

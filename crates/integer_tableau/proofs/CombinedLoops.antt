@@ -8,6 +8,7 @@ use Rattle.std.proofs.lemmas.Bool.Decides.{nat_tests}
 use Rattle.integer_tableau.proofs.NonzeroPlaces.{at_most}
 use Rattle.integer_tableau.specs.Combined.{combined, combined_value, numerator_of, value_numerator}
 use Rattle.integer_tableau.specs.Numbers.{ArePlaces, number_at, total_size}
+use Rattle.integer_tableau.specs.Range.{size_limit}
 use Rattle.integer_tableau.specs.declared.position.Position.{Position}
 use Rattle.integer_tableau.specs.declared.position.Position.TheVariants.{InBasis, InColumn}
 
@@ -51,7 +52,7 @@ value_size d InBasis x v h l = l
 value_size d (InColumn k) x v h l = omega (arith, unsigned_abs-mul x d, h)
 
 pub next_value : (d : ℤ) (cs : List ℤ) (ss : List Position) (xs vs : List ℤ) (j : ℕ) (total p : ℤ) → j < length cs → j < length ss → j < length xs → j < length vs
-    → nat_abs (number_at xs j) * nat_abs d < 2 ^ 63 → nat_abs (number_at vs j) ≤ 2 ^ 63 → total_size cs < 2 ^ 62
+    → nat_abs (number_at xs j) * nat_abs d < 2 ^ 63 → nat_abs (number_at vs j) ≤ 2 ^ 63 → total_size cs < size_limit
     → total +ℤ combined_value d (drop j cs) (drop j ss) (drop j xs) (drop j vs) ≡ combined_value d cs ss xs vs → nat_abs total + 2 ^ 63 * total_size (drop j cs) ≤ 2 ^ 63 * total_size cs
     → p ≡ number_at cs j *ℤ value_numerator d (get_or ss j InBasis) (number_at xs j) (number_at vs j)
     → IsNext (total +ℤ p) (combined_value d (drop (j + 1) cs) (drop (j + 1) ss) (drop (j + 1) xs) (drop (j + 1) vs)) (combined_value d cs ss xs vs) (total_size (drop (j + 1) cs)) (total_size cs) (2 ^ 63)
@@ -123,13 +124,13 @@ combined_unfolds d cs ss ls j k l m n =
     ∙ ap (λ h. number_at cs j *ℤ numerator_of d (get_or ls j []) (get_or ss j InBasis) k +ℤ combined d (drop h cs) (drop h ss) (drop h ls) k) (let e : suc j ≡ j + 1 = omega arith in e)
 
 pub next_number : (d : ℕ) (cs : List ℤ) (ss : List Position) (ls : List (List ℤ)) (j k : ℕ) (total p x : ℤ) → j < length cs → j < length ss → j < length ls
-    → nat_abs x ≤ 2 ^ 62 → total_size cs < 2 ^ 62 → x ≡ numerator_of d (get_or ls j []) (get_or ss j InBasis) k
-    → total +ℤ combined d (drop j cs) (drop j ss) (drop j ls) k ≡ combined d cs ss ls k → nat_abs total + 2 ^ 62 * total_size (drop j cs) ≤ 2 ^ 62 * total_size cs
-    → p ≡ number_at cs j *ℤ x → IsNext (total +ℤ p) (combined d (drop (j + 1) cs) (drop (j + 1) ss) (drop (j + 1) ls) k) (combined d cs ss ls k) (total_size (drop (j + 1) cs)) (total_size cs) (2 ^ 62)
+    → nat_abs x ≤ size_limit → total_size cs < size_limit → x ≡ numerator_of d (get_or ls j []) (get_or ss j InBasis) k
+    → total +ℤ combined d (drop j cs) (drop j ss) (drop j ls) k ≡ combined d cs ss ls k → nat_abs total + size_limit * total_size (drop j cs) ≤ size_limit * total_size cs
+    → p ≡ number_at cs j *ℤ x → IsNext (total +ℤ p) (combined d (drop (j + 1) cs) (drop (j + 1) ss) (drop (j + 1) ls) k) (combined d cs ss ls k) (total_size (drop (j + 1) cs)) (total_size cs) size_limit
 next_number d cs ss ls j k total p x l m n fits light x_is sum size is =
-    next_term (2 ^ 62) total p (number_at cs j) x _ (combined d cs ss ls k) (total_size (drop (j + 1) cs)) (total_size cs)
+    next_term size_limit total p (number_at cs j) x _ (combined d cs ss ls k) (total_size (drop (j + 1) cs)) (total_size cs)
     (ap (λ z. total +ℤ z) (ap (λ x. number_at cs j *ℤ x +ℤ combined d (drop (j + 1) cs) (drop (j + 1) ss) (drop (j + 1) ls) k) x_is ∙ sym (combined_unfolds d cs ss ls j k l m n)) ∙ sum)
-    (subst (λ n. nat_abs total + 2 ^ 62 * n ≤ 2 ^ 62 * total_size cs) (total_unfolds cs j l) size) fits is (omega (arith, light))
+    (subst (λ n. nat_abs total + size_limit * n ≤ size_limit * total_size cs) (total_unfolds cs j l) size) fits is (omega (arith, light))
 
 -- a column is added to the sum
 pub column_more : (d : ℕ) (cs : List ℤ) (ss : List Position) (ls : List (List ℤ)) (j k : ℕ) (old new : ℤ) (row : List ℤ) (all : ℤ) → j < length cs → j < length ss → j < length ls → row ≡ get_or ls j []

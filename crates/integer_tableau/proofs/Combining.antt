@@ -1,5 +1,5 @@
 -- Combinations of columns: a pivot's step is linear, so each combination takes it.
-use Rattle.std.proofs.Common.{◌≡◌, ◌≢◌, ℕ, zero, suc, ◌+◌, ◌-◌, ◌*◌, ◌^◌, ◌≤◌, ◌<◌, arith, refl, ap, sym, subst, ◌∙◌, Bool, true, false, List, [], ◌∷◌, length, get_or, set, inl, inr, get_or-set_other, get_or-set_same}
+use Rattle.std.proofs.Common.{◌≡◌, ◌≢◌, ℕ, zero, suc, ◌+◌, ◌-◌, ◌*◌, ◌≤◌, ◌<◌, arith, refl, ap, sym, subst, ◌∙◌, Bool, true, false, List, [], ◌∷◌, length, get_or, set, inl, inr, get_or-set_other, get_or-set_same}
 use Rattle.std.specs.Prelude.{ℤ, pos, negsuc, neg_ℤ, ◌+ℤ◌, ◌*ℤ◌, nat_abs, nat_eq, if◌then◌else◌}
 use lib.IntN.{*ℤ_comm}
 use Rattle.std.proofs.Math.Nat.{mul-le-mul_left, mul-le-mul_right}
@@ -10,6 +10,7 @@ use Rattle.std.proofs.lemmas.List.{get_or_default, get_or_past, same_lists}
 use Rattle.fraction.specs.Lemmas.Integers.{diff-add, diff-mul, diff-neg, diff-pos, diff-same, is_diff, neg-mul_ℤ}
 use Rattle.integer_tableau.specs.Combined.{combined, combined_row, numbers_from, numerator_of}
 use Rattle.integer_tableau.specs.Numbers.{IsWithin, number_at, total_size}
+use Rattle.integer_tableau.specs.Range.{size_limit}
 use Rattle.integer_tableau.specs.Substitution.{IsSolved, IsSubstituted, quotient_numerator}
 use Rattle.integer_tableau.specs.declared.position.Position.{Position}
 use Rattle.integer_tableau.specs.declared.position.Position.TheVariants.{InBasis, InColumn}
@@ -214,9 +215,9 @@ combined_row_within d most cs ss ls h k = elim (cases_lt k (length ls)) [
 
 -- its numbers are small where the weight and the numbers of the columns are
 pub combination_small : (d weight : ℕ) (cs : List ℤ) (ss : List Position) (ls : List (List ℤ)) → total_size cs ≤ weight
-    → (most : ℕ) × (d ≤ most) × ((v : ℕ) → v < length ls → IsWithin most (get_or ls v [])) × (weight * most < 2 ^ 62) → IsWithin (2 ^ 62 - 1) (combined_row d ss ls cs)
+    → (most : ℕ) × (d ≤ most) × ((v : ℕ) → v < length ls → IsWithin most (get_or ls v [])) × (weight * most < size_limit) → IsWithin (size_limit - 1) (combined_row d ss ls cs)
 combination_small d weight cs ss ls light (most, d_small, small, fits) =
-    combined_row_within d (2 ^ 62 - 1) cs ss ls (λ k. below (total_size cs) weight most (nat_abs (combined d cs ss ls k)) light fits (combined_within d most k cs ss ls d_small each))
+    combined_row_within d (size_limit - 1) cs ss ls (λ k. below (total_size cs) weight most (nat_abs (combined d cs ss ls k)) light fits (combined_within d most k cs ss ls d_small each))
   where
     each : (j : ℕ) → IsWithin most (get_or ls j [])
     each j = elim (cases_lt j (length ls)) [
@@ -224,5 +225,5 @@ combination_small d weight cs ss ls light (most, d_small, small, fits) =
       | inr l ↦ subst (IsWithin most) (sym (get_or_past ls j [] l)) (λ k. omega arith)
     ]
 
-    below : (t w m x : ℕ) → t ≤ w → w * m < 2 ^ 62 → x ≤ t * m → x ≤ 2 ^ 62 - 1
+    below : (t w m x : ℕ) → t ≤ w → w * m < size_limit → x ≤ t * m → x ≤ size_limit - 1
     below t w m x l f h = omega (arith, f, h, mul-le-mul_right m l)

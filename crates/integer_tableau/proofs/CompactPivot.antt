@@ -14,6 +14,7 @@ use Rattle.integer_tableau.specs.Combined.{IsCompact, bound_size, size_of, combi
 use Rattle.integer_tableau.specs.Consistent.{IsConsistent, row_width}
 use Rattle.integer_tableau.specs.IntegerTableau.{IntegerTableau, fraction_bounds, tableau_of}
 use Rattle.integer_tableau.specs.Numbers.{IsWithin, number_at, total_size}
+use Rattle.integer_tableau.specs.Range.{size_limit}
 use Rattle.integer_tableau.specs.Pivot.{AreSubstitutedValues, IsEliminated, IsPivotOf, IsPivoted, is_upper}
 use Rattle.integer_tableau.specs.Positions.{sum_over}
 use Rattle.integer_tableau.proofs.Exchanges.{nonbasic_values_exchanged, positions_exchanged}
@@ -51,7 +52,7 @@ module _ (ps : List (List ℤ)) (weight reach : ℕ) (w : IntegerTableau) (compa
     (quotient_numerator (number_at row k) (value -ℤ number_at row k *ℤ number_at w.nonbasic_values c -ℤ pos w.denominator *ℤ b)) (length w.reduced_costs) taken w.values values)
     (near : reach * nat_abs (number_at row k) < 2 ^ 63)
     (small : (i : ℕ) → i < length ps → get_or (positions_exchanged r c k w.positions) (length after + i) InBasis ≡ InBasis
-    → IsWithin (2 ^ 62 - 1) (combined_row (nat_abs (number_at row k)) (positions_exchanged r c k w.positions) after (get_or ps i []))) where
+    → IsWithin (size_limit - 1) (combined_row (nat_abs (number_at row k)) (positions_exchanged r c k w.positions) after (get_or ps i []))) where
   abbrev n : ℕ
   n = length w.rows
 
@@ -291,7 +292,7 @@ module _ (ps : List (List ℤ)) (weight reach : ℕ) (w : IntegerTableau) (compa
   combined_substituted : (i : ℕ) → i < length ps → n + i ≢ r → n + i ≢ c → get_or w.positions (n + i) InBasis ≡ InBasis
       → IsSubstitutedRow (pos d) (pos e) k solved (combined_row d w.positions w.rows (a_of i)) (combined_row e positions' after (a_of i))
   combined_substituted i l m o q = record {
-    before = subst (IsWithin (2 ^ 62 - 1)) (was_row i l ∙ ap (λ s. row_if_basic s (combined_row d w.positions w.rows (a_of i))) q) (cons.rows_within (n + i));
+    before = subst (IsWithin (size_limit - 1)) (was_row i l ∙ ap (λ s. row_if_basic s (combined_row d w.positions w.rows (a_of i))) q) (cons.rows_within (n + i));
     after = small i l (ap (λ m. get_or positions' (m + i) InBasis) after_many ∙ still (n + i) m o ∙ q);
     numbers = λ j.
         ap (λ z. z *ℤ pos d) (now_at (a_of i) j) ∙ step (a_of i) (compact.full i l) j
@@ -439,7 +440,7 @@ module _ (ps : List (List ℤ)) (weight reach : ℕ) (w : IntegerTableau) (compa
     ]
   ]
 
-  total_small : total_size nonbasic_values' < 2 ^ 62
+  total_small : total_size nonbasic_values' < size_limit
   total_small = omega (arith, compact.room, bounded_total w.bounds nonbasic_values' (nonbasic_many ∙ positions_many ∙ sym cons.bounds) (λ v l. bounded' v (omega (arith, l, cons.bounds, positions_many))))
 
   -- ---- all of it

@@ -1,5 +1,5 @@
 -- One denominator for all numbers of a tableau.
-use Rattle.std.proofs.Common.{◌≡◌, ℕ, zero, suc, ◌+◌, ◌-◌, ◌*◌, ◌^◌, ◌≤◌, ◌<◌, arith, ap, sym, ◌∙◌, subst, List, [], ◌∷◌, length, get_or, inl, inr}
+use Rattle.std.proofs.Common.{◌≡◌, ℕ, zero, suc, ◌+◌, ◌-◌, ◌*◌, ◌≤◌, ◌<◌, arith, ap, sym, ◌∙◌, subst, List, [], ◌∷◌, length, get_or, inl, inr}
 use Rattle.std.specs.Prelude.{ℤ, pos, ◌<ℤ◌, nat_abs, All}
 use Rattle.std.proofs.Math.Nat.{mul-one, mul-le-mul_right}
 use Rattle.std.proofs.lemmas.Int.{unsigned_abs-mul}
@@ -16,56 +16,57 @@ use Rattle.integer_tableau.specs.Combined.{IsCompact, combined_value, expanded, 
 use Rattle.integer_tableau.specs.Denominator.{HasDenominator}
 use Rattle.integer_tableau.specs.IntegerTableau.{IntegerTableau, row_of_position, rows_of, tableau_of, value, values_of}
 use Rattle.integer_tableau.specs.Numbers.{IsWithin, number_at}
+use Rattle.integer_tableau.specs.Range.{size_limit}
 use Rattle.integer_tableau.specs.Positions.{coefficient, coefficients, numerator}
 use Rattle.integer_tableau.specs.declared.position.Position.{Position}
 use Rattle.integer_tableau.specs.declared.position.Position.TheVariants.{InBasis, InColumn}
 
-over : (z : ℤ) (d : ℕ) → 0 < d → nat_abs z ≤ 2 ^ 62 → Within d (2 ^ 62) (frac z d)
-over z d o l = Within-more d (nat_abs z) (2 ^ 62) (frac z d) l
+over : (z : ℤ) (d : ℕ) → 0 < d → nat_abs z ≤ size_limit → Within d size_limit (frac z d)
+over z d o l = Within-more d (nat_abs z) size_limit (frac z d) l
     (subst (λ m. Within m (nat_abs z) (frac z d)) (mul-one d) (subst (λ m. Within (d * 1) m (frac z d)) (mul-one (nat_abs z)) (Within-frac z d 1 o)))
 
-whole_over : (z : ℤ) (d : ℕ) → nat_abs z * d ≤ 2 ^ 62 → Within d (2 ^ 62) (whole z)
-whole_over z d l = Within-more d (nat_abs z * d) (2 ^ 62) (whole z) l (subst (λ m. Within m (nat_abs z * d) (whole z)) (one_times d) (Within-frac z 1 d (omega arith)))
+whole_over : (z : ℤ) (d : ℕ) → nat_abs z * d ≤ size_limit → Within d size_limit (whole z)
+whole_over z d l = Within-more d (nat_abs z * d) size_limit (whole z) l (subst (λ m. Within m (nat_abs z * d) (whole z)) (one_times d) (Within-frac z 1 d (omega arith)))
   where
     one_times : (d : ℕ) → 1 * d ≡ d
     one_times d = omega arith
 
-value_within : (d : ℕ) (dd : ℤ) (s : Position) (x v : ℤ) → 0 < d → nat_abs dd ≡ d → nat_abs (value_numerator dd s x v) ≤ 2 ^ 62 → Within d (2 ^ 62) (value d s x v)
+value_within : (d : ℕ) (dd : ℤ) (s : Position) (x v : ℤ) → 0 < d → nat_abs dd ≡ d → nat_abs (value_numerator dd s x v) ≤ size_limit → Within d size_limit (value d s x v)
 value_within d dd InBasis x v o e l = over v d o l
-value_within d dd (InColumn k) x v o e l = whole_over x d (subst (λ n. n ≤ 2 ^ 62) (unsigned_abs-mul x dd ∙ ap (λ n. nat_abs x * n) e) l)
+value_within d dd (InColumn k) x v o e l = whole_over x d (subst (λ n. n ≤ size_limit) (unsigned_abs-mul x dd ∙ ap (λ n. nat_abs x * n) e) l)
 
 values_within : (d : ℕ) (dd : ℤ) (ss : List Position) (xs vs : List ℤ) → 0 < d → nat_abs dd ≡ d → length xs ≡ length ss → length vs ≡ length ss
-    → ((v : ℕ) → v < length ss → nat_abs (value_numerator dd (get_or ss v InBasis) (number_at xs v) (number_at vs v)) ≤ 2 ^ 62) → All (Within d (2 ^ 62)) (values_of d ss xs vs)
-values_within d dd [] xs vs o e f g h = All-nil (Within d (2 ^ 62))
+    → ((v : ℕ) → v < length ss → nat_abs (value_numerator dd (get_or ss v InBasis) (number_at xs v) (number_at vs v)) ≤ size_limit) → All (Within d size_limit) (values_of d ss xs vs)
+values_within d dd [] xs vs o e f g h = All-nil (Within d size_limit)
 values_within d dd (s ∷ ss) [] vs o e f g h = absurd (omega arith)
 values_within d dd (s ∷ ss) (x ∷ xs) [] o e f g h = absurd (omega arith)
 values_within d dd (s ∷ ss) (x ∷ xs) (v ∷ vs) o e f g h =
-    All-cons (Within d (2 ^ 62)) (value d s x v) (values_of d ss xs vs) (value_within d dd s x v o e (h zero (omega arith)))
+    All-cons (Within d size_limit) (value d s x v) (values_of d ss xs vs) (value_within d dd s x v o e (h zero (omega arith)))
     (values_within d dd ss xs vs o e (omega arith) (omega arith) (λ v l. h (suc v) (omega arith)))
 
 -- ---- rows
-coefficients_within : (d : ℕ) (row : List ℤ) (ss : List Position) → 0 < d → IsWithin (2 ^ 62 - 1) row → All (Within d (2 ^ 62)) (coefficients d ss row)
-coefficients_within d row [] o h = All-nil (Within d (2 ^ 62))
-coefficients_within d row (s ∷ ss) o h = All-cons (Within d (2 ^ 62)) (coefficient d row s) (coefficients d ss row)
-    (subst (Within d (2 ^ 62)) (sym (coefficient_is d row s o)) (over (numerator row s) d o (omega (arith, numerator_within (2 ^ 62 - 1) row s h))))
+coefficients_within : (d : ℕ) (row : List ℤ) (ss : List Position) → 0 < d → IsWithin (size_limit - 1) row → All (Within d size_limit) (coefficients d ss row)
+coefficients_within d row [] o h = All-nil (Within d size_limit)
+coefficients_within d row (s ∷ ss) o h = All-cons (Within d size_limit) (coefficient d row s) (coefficients d ss row)
+    (subst (Within d size_limit) (sym (coefficient_is d row s o)) (over (numerator row s) d o (omega (arith, numerator_within (size_limit - 1) row s h))))
     (coefficients_within d row ss o h)
 
-row_within : (d : ℕ) (all : List Position) (s : Position) (row : List ℤ) → 0 < d → IsWithin (2 ^ 62 - 1) row → All (Within d (2 ^ 62)) (row_of_position d all s row)
+row_within : (d : ℕ) (all : List Position) (s : Position) (row : List ℤ) → 0 < d → IsWithin (size_limit - 1) row → All (Within d size_limit) (row_of_position d all s row)
 row_within d all InBasis row o h = coefficients_within d row all o h
-row_within d all (InColumn k) row o h = All-nil (Within d (2 ^ 62))
+row_within d all (InColumn k) row o h = All-nil (Within d size_limit)
 
-rows_within : (d : ℕ) (all ss : List Position) (rows : List (List ℤ)) → 0 < d → ((v : ℕ) → IsWithin (2 ^ 62 - 1) (get_or rows v []))
-    → All (All (Within d (2 ^ 62))) (rows_of (row_of_position d all) ss rows)
-rows_within d all [] rows o h = All-nil (All (Within d (2 ^ 62)))
-rows_within d all (s ∷ ss) [] o h = All-nil (All (Within d (2 ^ 62)))
-rows_within d all (s ∷ ss) (row ∷ rows) o h = All-cons (All (Within d (2 ^ 62))) (row_of_position d all s row) (rows_of (row_of_position d all) ss rows)
+rows_within : (d : ℕ) (all ss : List Position) (rows : List (List ℤ)) → 0 < d → ((v : ℕ) → IsWithin (size_limit - 1) (get_or rows v []))
+    → All (All (Within d size_limit)) (rows_of (row_of_position d all) ss rows)
+rows_within d all [] rows o h = All-nil (All (Within d size_limit))
+rows_within d all (s ∷ ss) [] o h = All-nil (All (Within d size_limit))
+rows_within d all (s ∷ ss) (row ∷ rows) o h = All-cons (All (Within d size_limit)) (row_of_position d all s row) (rows_of (row_of_position d all) ss rows)
     (row_within d all s row o (h zero)) (rows_within d all ss rows o (λ v. h (suc v)))
 
 -- ---- of the whole tableau
 pub has_denominator : (columns : ℕ) (numbers : List ℕ) (ps : List (List ℤ)) (weight reach : ℕ) (w : IntegerTableau) (d : ℤ) → IsCompact ps weight reach w → pos 0 <ℤ d → nat_abs d ≡ w.denominator
-    → ((j : ℕ) → j < length w.values → nat_abs (value_numerator d (get_or w.positions j InBasis) (number_at w.nonbasic_values j) (number_at w.values j)) ≤ 2 ^ 62)
+    → ((j : ℕ) → j < length w.values → nat_abs (value_numerator d (get_or w.positions j InBasis) (number_at w.nonbasic_values j) (number_at w.values j)) ≤ size_limit)
     → ((i : ℕ) → i < length ps → nat_abs (value_numerator d (get_or w.positions (length w.values + i) InBasis) (number_at w.nonbasic_values (length w.values + i))
-    (combined_value d (get_or ps i []) w.positions w.nonbasic_values w.values)) ≤ 2 ^ 62)
+    (combined_value d (get_or ps i []) w.positions w.nonbasic_values w.values)) ≤ size_limit)
     → HasDenominator w.denominator (tableau_of columns numbers (expanded ps w))
 has_denominator columns numbers ps weight reach w d compact positive e columns_small rows_small = record {
   positive = consistent.positive;
@@ -81,11 +82,11 @@ has_denominator columns numbers ps weight reach w d compact positive e columns_s
     d_is : d ≡ pos w.denominator
     d_is = size_is d positive ∙ ap pos e
 
-    each : (v : ℕ) → v < length w.positions → nat_abs (value_numerator d (get_or w.positions v InBasis) (number_at w.nonbasic_values v) (number_at (expanded ps w).values v)) ≤ 2 ^ 62
+    each : (v : ℕ) → v < length w.positions → nat_abs (value_numerator d (get_or w.positions v InBasis) (number_at w.nonbasic_values v) (number_at (expanded ps w).values v)) ≤ size_limit
     each v l = elim (which (length w.values) (length ps) v (omega (arith, l, compact.variables, compact.values))) [
-      | inl h ↦ subst (λ z. nat_abs (value_numerator d (get_or w.positions v InBasis) (number_at w.nonbasic_values v) z) ≤ 2 ^ 62)
+      | inl h ↦ subst (λ z. nat_abs (value_numerator d (get_or w.positions v InBasis) (number_at w.nonbasic_values v) z) ≤ size_limit)
           (sym (value_of_column w.denominator ps w.positions w.nonbasic_values w.values v h)) (columns_small v h)
-      | inr z ↦ subst (λ v. nat_abs (value_numerator d (get_or w.positions v InBasis) (number_at w.nonbasic_values v) (number_at (expanded ps w).values v)) ≤ 2 ^ 62) (sym z.2)
-          (subst (λ y. nat_abs (value_numerator d (get_or w.positions (length w.values + z.0) InBasis) (number_at w.nonbasic_values (length w.values + z.0)) y) ≤ 2 ^ 62)
+      | inr z ↦ subst (λ v. nat_abs (value_numerator d (get_or w.positions v InBasis) (number_at w.nonbasic_values v) (number_at (expanded ps w).values v)) ≤ size_limit) (sym z.2)
+          (subst (λ y. nat_abs (value_numerator d (get_or w.positions (length w.values + z.0) InBasis) (number_at w.nonbasic_values (length w.values + z.0)) y) ≤ size_limit)
           (ap (λ d. combined_value d (get_or ps z.0 []) w.positions w.nonbasic_values w.values) d_is ∙ sym (value_of_row w.denominator ps w.positions w.nonbasic_values w.values z.0 z.1)) (rows_small z.0 z.1))
     ]

@@ -1,5 +1,5 @@
 -- A tableau on whole numbers as the tableau of fractions that it stands for, and a pivot of it.
-use Rattle.std.proofs.Common.{◌≡◌, ◌≢◌, ℕ, zero, suc, ◌+◌, ◌-◌, ◌^◌, ◌<◌, arith, refl, ap, sym, ◌∙◌, Bool, true, false, Some, List, [], ◌∷◌, length, get_or, set}
+use Rattle.std.proofs.Common.{◌≡◌, ◌≢◌, ℕ, zero, suc, ◌+◌, ◌-◌, ◌<◌, arith, refl, ap, sym, ◌∙◌, Bool, true, false, Some, List, [], ◌∷◌, length, get_or, set}
 use Rattle.std.specs.Prelude.{ℤ, pos, nat_abs, map}
 use Rattle.std.specs.Option.{option_and_then, option_map}
 use Rattle.std.specs.List.{swap}
@@ -12,6 +12,7 @@ use Rattle.integer_tableau.proofs.RowsByVariable.{row_substituted}
 use Rattle.integer_tableau.proofs.Sums.{value_is}
 use Rattle.integer_tableau.specs.IntegerTableau.{IntegerTableau, bound_status, fraction_bounds, row_of_position, rows_of, status, statuses_of, tableau_of, value, values_of}
 use Rattle.integer_tableau.specs.Numbers.{IsWithin, number_at, total_size}
+use Rattle.integer_tableau.specs.Range.{size_limit}
 use Rattle.integer_tableau.specs.Pivot.{is_upper}
 use Rattle.integer_tableau.specs.Positions.{IsColumnOf, coefficients, sum_over}
 use Rattle.integer_tableau.proofs.Exchanges.{nonbasic_values_exchanged, positions_exchanged}
@@ -88,7 +89,7 @@ pub record IsExactPivot (w : IntegerTableau) (r c k : ℕ) (direction : Directio
   pub c_there : c < length w.positions
   pub r_there : r < length w.positions
   pub positive : 0 < w.denominator
-  pub denominator_small : w.denominator < 2 ^ 62
+  pub denominator_small : w.denominator < size_limit
   pub as_many_rows : length w.rows ≡ length w.positions
   pub as_many_news : length news ≡ length w.positions
   pub as_many_at_upper : length w.at_upper ≡ length w.positions
@@ -96,19 +97,19 @@ pub record IsExactPivot (w : IntegerTableau) (r c k : ℕ) (direction : Directio
   pub as_many_values : length w.values ≡ length w.positions
   pub as_many_after : length values ≡ length w.positions
   pub long : (v : ℕ) → v < length w.positions → get_or w.positions v InBasis ≡ InBasis → k < length (get_or w.rows v [])
-  pub small : (v : ℕ) → IsWithin (2 ^ 62 - 1) (get_or w.rows v [])
-  pub new_small : (v : ℕ) → IsWithin (2 ^ 62 - 1) (get_or (swap news r c) v [])
-  pub source_small : IsWithin (2 ^ 62 - 1) (get_or news r [])
+  pub small : (v : ℕ) → IsWithin (size_limit - 1) (get_or w.rows v [])
+  pub new_small : (v : ℕ) → IsWithin (size_limit - 1) (get_or (swap news r c) v [])
+  pub source_small : IsWithin (size_limit - 1) (get_or news r [])
   pub pivot : 0 < nat_abs (number_at (get_or w.rows r []) k)
   pub turn : IsSolved (number_at (get_or w.rows r []) k) k w.denominator (get_or w.rows r []) (get_or news r [])
   pub steps : (v : ℕ) → v < length w.positions → v ≢ r → get_or w.positions v InBasis ≡ InBasis
       → IsSubstituted (pos w.denominator) (pos (nat_abs (number_at (get_or w.rows r []) k))) (number_at (get_or w.rows v []) k) (set (get_or w.rows v []) k (pos 0)) (get_or news r []) (get_or news v [])
   pub cost_long : k < length w.reduced_costs
-  pub cost_small : IsWithin (2 ^ 62 - 1) w.reduced_costs
+  pub cost_small : IsWithin (size_limit - 1) w.reduced_costs
   pub cost_step : IsSubstituted (pos w.denominator) (pos (nat_abs (number_at (get_or w.rows r []) k))) (number_at w.reduced_costs k) (set w.reduced_costs k (pos 0)) (get_or news r []) reduced_costs
   pub violated : violation (get_or (map fraction_bounds w.bounds) r unbounded) (frac (number_at w.values r) w.denominator) ≡ Some direction
   pub bound : violated_bound direction (get_or (map fraction_bounds w.bounds) r unbounded) ≡ whole b
-  pub total_small : total_size (nonbasic_values_exchanged r c b w.nonbasic_values) < 2 ^ 62
+  pub total_small : total_size (nonbasic_values_exchanged r c b w.nonbasic_values) < size_limit
   pub exact : (v : ℕ) → v < length w.positions → get_or (positions_exchanged r c k w.positions) v InBasis ≡ InBasis
       → number_at values v ≡ sum_over (positions_exchanged r c k w.positions) (get_or (swap news r c) v []) (nonbasic_values_exchanged r c b w.nonbasic_values)
 
@@ -119,7 +120,7 @@ module _ (columns : ℕ) (numbers : List ℕ) (w : IntegerTableau) (r c k : ℕ)
   abbrev between : List (List ℚ)
   between = rows_of (row_of_position e (positions_exchanged r c k w.positions)) w.positions news
 
-  he : e < 2 ^ 62
+  he : e < size_limit
   he = omega (arith, h.small r k)
 
   -- rows and reduced costs
@@ -180,7 +181,7 @@ module _ (columns : ℕ) (numbers : List ℕ) (w : IntegerTableau) (r c k : ℕ)
   values_are : computed_values (map whole after.nonbasic_values) (statuses_of after.positions after.at_upper) (map whole after.nonbasic_values) (rows_of (row_of_position e after.positions) after.positions after.rows) ≡ Some (values_of e after.positions after.nonbasic_values values)
   values_are = computed_each (map whole after.nonbasic_values) e after.positions after.positions after.at_upper after.nonbasic_values after.rows values
       (same_at_upper ∙ sym same_positions) (same_nonbasic_values ∙ sym same_positions) (same_rows ∙ sym same_positions) (h.as_many_after ∙ sym same_positions)
-      (λ v l q. value_is e (2 ^ 62 - 1) (get_or after.rows v []) after.positions after.nonbasic_values h.pivot he (h.new_small v) (omega (arith, h.total_small))
+      (λ v l q. value_is e (size_limit - 1) (get_or after.rows v []) after.positions after.nonbasic_values h.pivot he (h.new_small v) (omega (arith, h.total_small))
       ∙ ap (λ z. Some (frac z e)) (sym (h.exact v (omega (arith, l, same_positions)) q)))
 
   value_r : get_or (values_of w.denominator w.positions w.nonbasic_values w.values) r (whole (pos 0)) ≡ frac (number_at w.values r) w.denominator

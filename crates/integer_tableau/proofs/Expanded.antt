@@ -10,6 +10,7 @@ use Rattle.integer_tableau.specs.Combined.{IsCompact, bound_size, combined, comb
 use Rattle.integer_tableau.specs.Consistent.{IsConsistent, row_width}
 use Rattle.integer_tableau.specs.IntegerTableau.{IntegerTableau}
 use Rattle.integer_tableau.specs.Numbers.{IsWithin, number_at, total_size}
+use Rattle.integer_tableau.specs.Range.{size_limit}
 use Rattle.integer_tableau.specs.Positions.{IsColumnOf, sum_over}
 use Rattle.integer_tableau.specs.declared.integer_bounds.IntegerBounds.{IntegerBounds}
 use Rattle.integer_tableau.specs.declared.position.Position.{Position}
@@ -129,7 +130,7 @@ module _ (ps : List (List ℤ)) (weight reach : ℕ) (w : IntegerTableau) (compa
   pub nonbasic_there : length w.nonbasic_values ≡ length w.positions
   nonbasic_there = cons.nonbasic_values
 
-  pub light_rows : (i : ℕ) → i < length ps → total_size (get_or ps i []) < 2 ^ 62
+  pub light_rows : (i : ℕ) → i < length ps → total_size (get_or ps i []) < size_limit
   light_rows i l = omega (arith, compact.weights i l, compact.light)
 
   pub full_rows : (i : ℕ) → i < length ps → length (get_or ps i []) ≡ length w.values
@@ -142,10 +143,10 @@ module _ (ps : List (List ℤ)) (weight reach : ℕ) (w : IntegerTableau) (compa
       below : (x r d : ℕ) → x ≤ r → r * d < 2 ^ 63 → x * d < 2 ^ 63
       below x r d h k = omega (arith, k, mul-le-mul_right d h)
 
-  pub column_rows_within : (j : ℕ) → IsWithin (2 ^ 62 - 1) (get_or w.rows j [])
+  pub column_rows_within : (j : ℕ) → IsWithin (size_limit - 1) (get_or w.rows j [])
   column_rows_within j = elim (cases_lt j (length w.rows)) [
-    | inl l ↦ subst (IsWithin (2 ^ 62 - 1)) (row_of_column w.denominator ps w.positions w.rows j l) (cons.rows_within j)
-    | inr l ↦ subst (IsWithin (2 ^ 62 - 1)) (sym (get_or_past w.rows j [] l)) (λ k. omega arith)
+    | inl l ↦ subst (IsWithin (size_limit - 1)) (row_of_column w.denominator ps w.positions w.rows j l) (cons.rows_within j)
+    | inr l ↦ subst (IsWithin (size_limit - 1)) (sym (get_or_past w.rows j [] l)) (λ k. omega arith)
   ]
 
   pub column_exact : (j : ℕ) → j < length w.rows → get_or w.positions j InBasis ≡ InBasis → number_at w.values j ≡ sum_over w.positions (get_or w.rows j []) w.nonbasic_values

@@ -15,6 +15,7 @@ use Rattle.integer_tableau.specs.Entering.{entering_by_numerators}
 use Rattle.integer_tableau.specs.IntegerTableau.{IntegerTableau, fraction_bounds, of_parts, tableau_of}
 use Rattle.integer_tableau.specs.Leaving.{leaving_by_numerators}
 use Rattle.integer_tableau.specs.Numbers.{IsWithin, number_at}
+use Rattle.integer_tableau.specs.Range.{size_limit}
 use Rattle.integer_tableau.specs.Pivot.{AreSubstitutedValues, IsEliminated, IsPivotOf, IsPivoted, IsSubstitutedValue, is_upper}
 use Rattle.integer_tableau.specs.Place.{place_of_candidate}
 use Rattle.integer_tableau.proofs.Exchanges.{nonbasic_values_exchanged, positions_exchanged}
@@ -46,7 +47,7 @@ pub pivoted_from : (ps : List (List ℤ)) (weight reach : ℕ) (bounds : List In
     → AreSubstitutedValues c k d e (number_at nonbasic_values c) (quotient_numerator pivot (value -ℤ pivot *ℤ number_at nonbasic_values c -ℤ d *ℤ b)) (length reduced_costs) taken values new_values
     → xs ≡ nonbasic_values_exchanged r c b nonbasic_values → u ≡ is_upper direction → reach * nat_abs e < 2 ^ 63
     → ((i : ℕ) → i < length ps → get_or (positions_exchanged r c k positions) (length after + i) InBasis ≡ InBasis
-    → IsWithin (2 ^ 62 - 1) (combined_row (nat_abs e) (positions_exchanged r c k positions) after (get_or ps i [])))
+    → IsWithin (size_limit - 1) (combined_row (nat_abs e) (positions_exchanged r c k positions) after (get_or ps i [])))
     → IsPivoted ps weight reach r c (of_parts bounds positions at_upper nonbasic_values rows reduced_costs values d pivots)
     (of_parts bounds (positions_exchanged r c k positions) (set (set at_upper r u) c false) xs after new_costs new_values e (pivots + 1))
 pivoted_from ps weight reach bounds positions at_upper nonbasic_values rows reduced_costs values d pivots r c k direction b pivot value u e row taken after xs new_costs new_values
@@ -58,7 +59,7 @@ pivoted_from ps weight reach bounds positions at_upper nonbasic_values rows redu
     (values_are d (pos (nat_abs d)) e (pos (nat_abs (number_at row k))) pivot (number_at row k) (size_is d positive) e_is pivot_is vs)
     (subst (λ m. reach * m < 2 ^ 63) size near)
     (subst (λ m. (i : ℕ) → i < length ps → get_or (positions_exchanged r c k positions) (length after + i) InBasis ≡ InBasis
-    → IsWithin (2 ^ 62 - 1) (combined_row m (positions_exchanged r c k positions) after (get_or ps i []))) size small))
+    → IsWithin (size_limit - 1) (combined_row m (positions_exchanged r c k positions) after (get_or ps i []))) size small))
   where
     w : IntegerTableau
     w = of_parts bounds positions at_upper nonbasic_values rows reduced_costs values d pivots

@@ -1,5 +1,5 @@
 -- What holds of a tableau on whole numbers between pivots, and that a pivot which wasn't given up keeps it.
-use Rattle.std.proofs.Common.{◌≡◌, ◌≢◌, ℕ, ◌+◌, ◌-◌, ◌^◌, ◌<◌, arith, refl, ap, sym, ◌∙◌, subst, false, Some, ◌⊎◌, List, [], length, get_or, set, inl, inr, get_or-set_other, get_or-set_same}
+use Rattle.std.proofs.Common.{◌≡◌, ◌≢◌, ℕ, ◌+◌, ◌-◌, ◌<◌, arith, refl, ap, sym, ◌∙◌, subst, false, Some, ◌⊎◌, List, [], length, get_or, set, inl, inr, get_or-set_other, get_or-set_same}
 use Rattle.std.specs.Prelude.{ℤ, pos, neg_ℤ, ◌+ℤ◌, ◌-ℤ◌, ◌*ℤ◌, nat_abs, map}
 use Rattle.std.specs.List.{swap}
 use Rattle.std.proofs.lemmas.Int.{ints}
@@ -13,6 +13,7 @@ use Rattle.integer_tableau.proofs.Sums.{value_fits, sum_exchanged, sum_solved, s
 use Rattle.integer_tableau.specs.Consistent.{IsConsistent, row_width}
 use Rattle.integer_tableau.specs.IntegerTableau.{IntegerTableau, fraction_bounds, tableau_of}
 use Rattle.integer_tableau.specs.Numbers.{IsWithin, number_at, total_size}
+use Rattle.integer_tableau.specs.Range.{size_limit}
 use Rattle.integer_tableau.specs.Pivot.{is_upper}
 use Rattle.integer_tableau.specs.Positions.{IsColumnOf, sum_over}
 use Rattle.integer_tableau.proofs.Exchanges.{nonbasic_values_exchanged, positions_exchanged}
@@ -122,29 +123,29 @@ module _ (w : IntegerTableau) (consistent : IsConsistent w) (r c k : ℕ) (b : �
   stays_at : (v j : ℕ) → v < length w.positions → v ≢ r → v ≢ c → get_or w.positions v InBasis ≡ InColumn j → get_or after v [] ≡ get_or w.rows v []
   stays_at v j l m n q = (ex.others v (omega (arith, l, consistent.rows)) m n).other (λ e. omega (arith, e, none_at v j l q, source_long, width))
 
-  small_at : (v : ℕ) → v < length w.positions → (s : Position) → get_or w.positions v InBasis ≡ s → IsWithin (2 ^ 62 - 1) (get_or w.rows v [])
+  small_at : (v : ℕ) → v < length w.positions → (s : Position) → get_or w.positions v InBasis ≡ s → IsWithin (size_limit - 1) (get_or w.rows v [])
   small_at v l InBasis q = elim (cases_eq v r) [
-    | inl p ↦ subst (λ u. IsWithin (2 ^ 62 - 1) (get_or w.rows u [])) (sym p) ex.solved.before
+    | inl p ↦ subst (λ u. IsWithin (size_limit - 1) (get_or w.rows u [])) (sym p) ex.solved.before
     | inr p ↦ (step_v v l p q).before
   ]
   small_at v l (InColumn j) q = none_within _ _ (none_at v j l q)
 
-  pub all_small : (v : ℕ) → IsWithin (2 ^ 62 - 1) (get_or w.rows v [])
+  pub all_small : (v : ℕ) → IsWithin (size_limit - 1) (get_or w.rows v [])
   all_small v = elim (cases_lt v (length w.positions)) [
     | inl l ↦ small_at v l (get_or w.positions v InBasis) refl
     | inr l ↦ none_within _ _ (ap length (get_or_past w.rows v [] (omega (arith, l, consistent.rows))))
   ]
 
-  after_at : (v : ℕ) → v < length w.positions → v ≢ r → v ≢ c → (s : Position) → get_or w.positions v InBasis ≡ s → IsWithin (2 ^ 62 - 1) (get_or after v [])
+  after_at : (v : ℕ) → v < length w.positions → v ≢ r → v ≢ c → (s : Position) → get_or w.positions v InBasis ≡ s → IsWithin (size_limit - 1) (get_or after v [])
   after_at v l m n InBasis q = (step_v v l m q).after
   after_at v l m n (InColumn j) q = none_within _ _ (ap length (stays_at v j l m n q) ∙ none_at v j l q)
 
-  pub after_small : (v : ℕ) → IsWithin (2 ^ 62 - 1) (get_or after v [])
+  pub after_small : (v : ℕ) → IsWithin (size_limit - 1) (get_or after v [])
   after_small v = elim (cases_lt v (length w.positions)) [
     | inl l ↦ elim (cases_eq v r) [
       | inl p ↦ none_within _ _ (ap (λ u. length (get_or after u [])) p ∙ ap length ex.emptied)
       | inr m ↦ elim (cases_eq v c) [
-        | inl p ↦ subst (λ u. IsWithin (2 ^ 62 - 1) (get_or after u [])) (sym p) ex.solved.after
+        | inl p ↦ subst (λ u. IsWithin (size_limit - 1) (get_or after u [])) (sym p) ex.solved.after
         | inr n ↦ after_at v l m n (get_or w.positions v InBasis) refl
       ]
     ]
@@ -245,7 +246,7 @@ module _ (w : IntegerTableau) (consistent : IsConsistent w) (r c k : ℕ) (b : �
       (exact_after : (v : ℕ) → v < length w.positions → get_or positions' v InBasis ≡ InBasis → number_at values v ≡ sum_over positions' (get_or after v []) nonbasic_values')
       (violated : violation (get_or (map fraction_bounds w.bounds) r unbounded) (frac (number_at w.values r) w.denominator) ≡ Some direction)
       (bound : violated_bound direction (get_or (map fraction_bounds w.bounds) r unbounded) ≡ whole b)
-      (total_small : total_size nonbasic_values' < 2 ^ 62) where
+      (total_small : total_size nonbasic_values' < size_limit) where
     is_pivot : IsExactPivot w r c k direction b news reduced_costs values
     is_pivot = record {
       alone = consistent.alone c k at_c;
@@ -263,8 +264,8 @@ module _ (w : IntegerTableau) (consistent : IsConsistent w) (r c k : ℕ) (b : �
       as_many_after = values_many ∙ consistent.values;
       long = λ v l q. omega (arith, width, long_at v l q);
       small = all_small;
-      new_small = λ v. subst (λ ys. IsWithin (2 ^ 62 - 1) (get_or ys v [])) (sym back) (after_small v);
-      source_small = subst (IsWithin (2 ^ 62 - 1)) (sym news_r) ex.solved.after;
+      new_small = λ v. subst (λ ys. IsWithin (size_limit - 1) (get_or ys v [])) (sym back) (after_small v);
+      source_small = subst (IsWithin (size_limit - 1)) (sym news_r) ex.solved.after;
       pivot = pivot;
       turn = subst (IsSolved p k w.denominator (get_or w.rows r [])) (sym news_r) ex.solved.numbers;
       steps = λ v l m q. let h = (step_v v l m q).numbers in rw (news_r, news_v v m (not_c v q)) h;

@@ -11,12 +11,13 @@ use Rattle.std.proofs.Math.Nat.{mul-le-mul_right}
 use lib.IntN.{*ℤ_comm}
 use Rattle.fraction.specs.Lemmas.Integers.{neg-mul_ℤ}
 use Rattle.integer_tableau.specs.Numbers.{number_at}
+use Rattle.integer_tableau.specs.Range.{size_limit}
 use Rattle.integer_tableau.specs.Substitution.{IsDifference, IsSubstituted}
 
 pub back64 : (z : ℤ) → nat_abs z < 2 ^ 63 → to_z w64 (of_z w64 z) ≡ z
 back64 z h = to_z-of_z w64 z (fits_signed_from_abs w64 z h)
 
-pub back64_within : (z : ℤ) → nat_abs z ≤ 2 ^ 62 - 1 → to_z w64 (of_z w64 z) ≡ z
+pub back64_within : (z : ℤ) → nat_abs z ≤ size_limit - 1 → to_z w64 (of_z w64 z) ≡ z
 back64_within z h = back64 z (omega arith)
 
 pub back128 : (z : ℤ) → nat_abs z < 2 ^ 127 → to_z w128 (of_z w128 z) ≡ z
@@ -74,7 +75,7 @@ pub difference_small : (x y : ℤ) → nat_abs x ≤ 2 ^ 125 → nat_abs y ≤ 2
     → nat_abs (to_z w128 (of_z w128 (to_z w128 (of_z w128 x) -ℤ to_z w128 (of_z w128 y)))) ≤ 2 ^ 126
 difference_small x y h k = omega (arith, ints)
 
-pub back_neg : (e : ℤ) → nat_abs e < 2 ^ 62 → to_z w64 (of_z w64 (pos 0 -ℤ to_z w64 (of_z w64 e))) ≡ neg_ℤ e
+pub back_neg : (e : ℤ) → nat_abs e < size_limit → to_z w64 (of_z w64 (pos 0 -ℤ to_z w64 (of_z w64 e))) ≡ neg_ℤ e
 back_neg e h = omega (arith, ints)
 
 -- ---- with numbers of 64 bits
@@ -106,5 +107,5 @@ all_summed new row source d e q l m h k = elim (cases_lt k (length row)) [
         zeros : (d e q : ℤ) → pos 0 *ℤ d ≡ pos 0 *ℤ e +ℤ pos 0 *ℤ q
         zeros d e q = omega (arith, ints)
 
-pub fits_at : (x e s q : ℤ) (top most : ℕ) → nat_abs x ≤ top → nat_abs s ≤ most → most * nat_abs q + top * nat_abs e < 2 ^ 62 → nat_abs x * nat_abs e + nat_abs s * nat_abs q < 2 ^ 63
+pub fits_at : (x e s q : ℤ) (top most : ℕ) → nat_abs x ≤ top → nat_abs s ≤ most → most * nat_abs q + top * nat_abs e < size_limit → nat_abs x * nat_abs e + nat_abs s * nat_abs q < 2 ^ 63
 fits_at x e s q top most h k l = omega (arith, l, mul-le-mul_right (nat_abs e) h, mul-le-mul_right (nat_abs q) k)

@@ -1,5 +1,5 @@
 -- The place of a tableau on whole numbers.
-use Rattle.std.proofs.Common.{◌≡◌, ◌≢◌, sym, ℕ, ◌+◌, ◌-◌, ◌^◌, ◌<◌, arith, refl, ap, ◌∙◌, Bool, Option, Some, None, List, [], length, get_or}
+use Rattle.std.proofs.Common.{◌≡◌, ◌≢◌, sym, ℕ, ◌+◌, ◌-◌, ◌<◌, arith, refl, ap, ◌∙◌, Bool, Option, Some, None, List, [], length, get_or}
 use Rattle.std.specs.Prelude.{ℤ, pos, map}
 use Rattle.std.proofs.lemmas.List.{get_or-map}
 use Rattle.fraction.specs.Rational.{whole}
@@ -11,6 +11,7 @@ use Rattle.integer_tableau.specs.Entering.{entering_by_numerators}
 use Rattle.integer_tableau.specs.IntegerTableau.{IntegerTableau, fraction_bounds, row_of_position, rows_of, statuses_of, tableau_of}
 use Rattle.integer_tableau.specs.Leaving.{leaving_by_numerators}
 use Rattle.integer_tableau.specs.Numbers.{IsWithin}
+use Rattle.integer_tableau.specs.Range.{size_limit}
 use Rattle.integer_tableau.specs.Place.{place_of_candidate}
 use Rattle.integer_tableau.specs.Positions.{coefficient, coefficients}
 use Rattle.integer_tableau.specs.declared.entering.Candidate.{Candidate}
@@ -29,8 +30,8 @@ place_where_leaving r w d ss us bs rows costs = place_entering r
     (entering_from 0 w None (statuses_of ss us) (map fraction_bounds bs) (coefficients d ss costs) (get_or (rows_of (row_of_position d ss) ss rows) r []))
 
 pub place_where_leaving_is : (r : ℕ) (w : Direction) (d : ℕ) (ss : List Position) (us : List Bool) (ls : List IntegerBounds) (rows : List (List ℤ)) (reduced_costs : List ℤ)
-    → length us ≡ length ss → length ls ≡ length ss → length rows ≡ length ss → r < length ss → get_or ss r InBasis ≡ InBasis → 0 < d → d < 2 ^ 62
-    → IsWithin (2 ^ 62 - 1) reduced_costs → IsWithin (2 ^ 62 - 1) (get_or rows r [])
+    → length us ≡ length ss → length ls ≡ length ss → length rows ≡ length ss → r < length ss → get_or ss r InBasis ≡ InBasis → 0 < d → d < size_limit
+    → IsWithin (size_limit - 1) reduced_costs → IsWithin (size_limit - 1) (get_or rows r [])
     → place_where_leaving r w d ss us ls rows reduced_costs ≡ place_of_candidate r (entering_by_numerators 0 w None ss us ls reduced_costs (get_or rows r []))
 place_where_leaving_is r w d ss us ls rows reduced_costs e f g l at_r o hd hc hr =
     ap (λ row. place_entering r (entering_from 0 w None (statuses_of ss us) (map fraction_bounds ls) (coefficients d ss reduced_costs) row)) (get_or-rows_of (row_of_position d ss) ss rows r g l ∙ ap (λ s. row_of_position d ss s (get_or rows r [])) at_r)

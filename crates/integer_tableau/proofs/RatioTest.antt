@@ -11,6 +11,7 @@ use Rattle.integer_tableau.proofs.Sums.{coefficient_is, numerator_within}
 use Rattle.integer_tableau.specs.Entering.{better_candidate, entering_by_numerators, is_eligible_numerator, with_candidate}
 use Rattle.integer_tableau.specs.IntegerTableau.{fraction_bounds, status, statuses_of}
 use Rattle.integer_tableau.specs.Numbers.{IsWithin}
+use Rattle.integer_tableau.specs.Range.{size_limit}
 use Rattle.integer_tableau.specs.Positions.{coefficient, coefficients, numerator}
 use Rattle.integer_tableau.specs.declared.entering.Candidate.{Candidate}
 use Rattle.integer_tableau.specs.declared.integer_bounds.IntegerBounds.{IntegerBounds}
@@ -103,7 +104,7 @@ with_candidate_has j w best s b d t p = by_test (is_eligible_numerator w s t && 
 
 -- ---- over all variables
 
-pub entering_is : (w : Direction) (d : ℕ) (reduced_costs row : List ℤ) (fraction_row : List ℚ) → 0 < d → d < 2 ^ 62 → IsWithin (2 ^ 62 - 1) reduced_costs → IsWithin (2 ^ 62 - 1) row
+pub entering_is : (w : Direction) (d : ℕ) (reduced_costs row : List ℤ) (fraction_row : List ℚ) → 0 < d → d < size_limit → IsWithin (size_limit - 1) reduced_costs → IsWithin (size_limit - 1) row
     → (j : ℕ) (best : Option Candidate) (ss : List Position) (us : List Bool) (ls : List IntegerBounds) → length us ≡ length ss → length ls ≡ length ss → HasCoefficient best
     → ((i : ℕ) → i < length ss → get_or fraction_row (j + i) (whole (pos 0)) ≡ coefficient d row (get_or ss i InBasis))
     → entering_from j w (as_ratios best) (statuses_of ss us) (map fraction_bounds ls) (coefficients d ss reduced_costs) fraction_row ≡ Some (as_ratios (entering_by_numerators j w best ss us ls reduced_costs row))
@@ -113,7 +114,7 @@ entering_is w d reduced_costs row fraction_row o hd hc hr j best (s ∷ ss) (u �
 entering_is w d reduced_costs row fraction_row o hd hc hr j best (s ∷ ss) (u ∷ us) (l ∷ ls) e f p h =
     ap (option_and_then (λ b. entering_from (j + 1) w b (statuses_of ss us) (map fraction_bounds ls) (coefficients d ss reduced_costs) fraction_row))
     ((λ i. with_ratio j w (as_ratios best) (status s u) (fraction_bounds l) (coefficient_is d reduced_costs s o i) (read i))
-    ∙ with_candidate_is j w best (status s u) (fraction_bounds l) (numerator reduced_costs s) (numerator row s) d o (omega arith) (omega (arith, numerator_within (2 ^ 62 - 1) reduced_costs s hc)) (omega (arith, numerator_within (2 ^ 62 - 1) row s hr)) p)
+    ∙ with_candidate_is j w best (status s u) (fraction_bounds l) (numerator reduced_costs s) (numerator row s) d o (omega arith) (omega (arith, numerator_within (size_limit - 1) reduced_costs s hc)) (omega (arith, numerator_within (size_limit - 1) row s hr)) p)
     ∙ entering_is w d reduced_costs row fraction_row o hd hc hr (j + 1) _ ss us ls (omega arith) (omega arith)
     (with_candidate_has j w best (status s u) (fraction_bounds l) (numerator reduced_costs s) (numerator row s) p)
     (λ i m. ap (λ n. get_or fraction_row n (whole (pos 0))) (let q : j + 1 + i ≡ j + suc i = omega arith in q) ∙ h (suc i) (omega arith))

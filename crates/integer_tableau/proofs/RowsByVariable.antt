@@ -10,6 +10,7 @@ use Rattle.std.proofs.lemmas.List.{same_lists, get_or-map, map-set, length-map, 
 use Rattle.fraction.specs.Rational.{frac, whole, ℚ}
 use Rattle.integer_tableau.proofs.Fractions.{add_multiple_exact, frac-num_positive, less_over, negative_quotient_exact, zero_over}
 use Rattle.integer_tableau.specs.Numbers.{IsWithin, number_at}
+use Rattle.integer_tableau.specs.Range.{size_limit}
 use Rattle.integer_tableau.specs.Positions.{IsColumnOf, coefficient, coefficients}
 use Rattle.integer_tableau.proofs.Exchanges.{positions_exchanged}
 use Rattle.integer_tableau.specs.Substitution.{IsSolved, IsSubstituted, quotient_numerator}
@@ -70,7 +71,7 @@ negative_quotient_all p f h (u ∷ us) e =
 pub number_at-set_other : (row : List ℤ) (k j : ℕ) (z : ℤ) → j ≢ k → number_at row j ≡ number_at (set row k z) j
 number_at-set_other row k j z n = sym (get_or-set_other row k j z (pos 0) n)
 
-narrow_set : (row : List ℤ) (k : ℕ) (z : ℤ) → IsWithin (2 ^ 62 - 1) row → nat_abs z < 2 ^ 62 → (j : ℕ) → nat_abs (number_at (set row k z) j) < 2 ^ 63
+narrow_set : (row : List ℤ) (k : ℕ) (z : ℤ) → IsWithin (size_limit - 1) row → nat_abs z < size_limit → (j : ℕ) → nat_abs (number_at (set row k z) j) < 2 ^ 63
 narrow_set row k z h s j = elim (cases_eq j k) [
   | inl p ↦ rw p (here j)
   | inr p ↦ rw (get_or-set_other row k j z (pos 0) p) (omega (arith, h j))
@@ -84,7 +85,7 @@ narrow_set row k z h s j = elim (cases_eq j k) [
 
 -- ---- a substitution in a row
 module _ (positions : List Position) (r c k d e : ℕ) (alone : IsColumnOf positions c k) (at_c : get_or positions c InBasis ≡ InColumn k) (at_r : get_or positions r InBasis ≡ InBasis)
-    (c_there : c < length positions) (r_there : r < length positions) (od : 0 < d) (hd : d < 2 ^ 62) where
+    (c_there : c < length positions) (r_there : r < length positions) (od : 0 < d) (hd : d < size_limit) where
   read_c : (row : List ℤ) → get_or (coefficients d positions row) c (whole (pos 0)) ≡ frac (number_at row k) d
   read_c row = get_or-map (coefficient d row) positions c InBasis (whole (pos 0)) c_there ∙ ap (coefficient d row) at_c
 
@@ -96,7 +97,7 @@ module _ (positions : List Position) (r c k d e : ℕ) (alone : IsColumnOf posit
       ∙ ap (λ x. set (set (map (coefficient d (set row k (pos 0))) positions) r x) c (whole (pos 0))) (sym (ap (λ z. frac z d) (get_or-set_same row k (pos 0) (pos 0) l) ∙ zero_over d od))
       ∙ map_exchanged (coefficient d (set row k (pos 0))) positions r c k
 
-  pub row_substituted : (row source new : List ℤ) → 0 < e → e < 2 ^ 62 → k < length row → IsWithin (2 ^ 62 - 1) row → IsWithin (2 ^ 62 - 1) source
+  pub row_substituted : (row source new : List ℤ) → 0 < e → e < size_limit → k < length row → IsWithin (size_limit - 1) row → IsWithin (size_limit - 1) source
       → IsSubstituted (pos d) (pos e) (number_at row k) (set row k (pos 0)) source new
       → substituted c (coefficients e (positions_exchanged r c k positions) source) (coefficients d positions row) ≡ Some (coefficients e (positions_exchanged r c k positions) new)
   row_substituted row source new oe he l hr hs step =
@@ -116,7 +117,7 @@ module _ (positions : List Position) (r c k d e : ℕ) (alone : IsColumnOf posit
           (step j ∙ ap (λ z. number_at (set row k (pos 0)) j *ℤ pos e +ℤ z) (*ℤ_comm (number_at source j) (number_at row k)))
 
   -- ---- the solved row
-  pub row_solved : (row new : List ℤ) → k < length row → IsWithin (2 ^ 62 - 1) row → 0 < nat_abs (number_at row k) → IsSolved (number_at row k) k d row new
+  pub row_solved : (row new : List ℤ) → k < length row → IsWithin (size_limit - 1) row → 0 < nat_abs (number_at row k) → IsSolved (number_at row k) k d row new
       → solved_for r c (coefficients d positions row) ≡ Some (coefficients (nat_abs (number_at row k)) (positions_exchanged r c k positions) new)
   row_solved row new l h o turn =
       (λ i. if int_eq (read_c row i).num (pos 0) then None else negative_quotients (read_c row i) (set (set (coefficients d positions row) r (whole (negsuc 0))) c (whole (pos 0))))
@@ -124,7 +125,7 @@ module _ (positions : List Position) (r c k d e : ℕ) (alone : IsColumnOf posit
       ∙ ap (negative_quotients (frac (number_at row k) d)) put
       ∙ negative_quotient_all (frac (number_at row k) d) (coefficient d (set row k (neg_ℤ (pos d)))) (coefficient (nat_abs (number_at row k)) new) (positions_exchanged r c k positions) each
     where
-      small : nat_abs (neg_ℤ (pos d)) < 2 ^ 62
+      small : nat_abs (neg_ℤ (pos d)) < size_limit
       small = omega (arith, ints)
 
       put : set (set (coefficients d positions row) r (whole (negsuc 0))) c (whole (pos 0)) ≡ map (coefficient d (set row k (neg_ℤ (pos d)))) (positions_exchanged r c k positions)

@@ -1,5 +1,5 @@
 -- Sizes after a pivot.
-use Rattle.std.proofs.Common.{◌≡◌, ℕ, ◌+◌, ◌-◌, ◌*◌, ◌/◌, ◌^◌, ◌<◌, ◌≤◌, max, arith, ap, sym, subst, ◌∙◌, refl, List, length, set, take, drop, ◌++◌, inl, inr, get_or-set_other, get_or-set_same}
+use Rattle.std.proofs.Common.{◌≡◌, ℕ, ◌+◌, ◌-◌, ◌*◌, ◌/◌, ◌<◌, ◌≤◌, max, arith, ap, sym, subst, ◌∙◌, refl, List, length, set, take, drop, ◌++◌, inl, inr, get_or-set_other, get_or-set_same}
 use Rattle.std.specs.Prelude.{ℤ, pos, negsuc, neg_ℤ, nat_abs, ◌+ℤ◌, ◌*ℤ◌, ◌<ℤ◌}
 use Rattle.std.proofs.lemmas.Int.{ints, unsigned_abs-mul}
 use Rattle.std.proofs.lemmas.Bool.{cases_eq, cases_lt}
@@ -7,6 +7,7 @@ use Rattle.std.proofs.lemmas.List.{length-set, get_or_past, set-get_or}
 use Rattle.std.proofs.Math.Seq.{take-append_seam}
 use Rattle.std.proofs.Math.Nat.{mul-le-mul_right, le-div_iff_mul-le}
 use Rattle.integer_tableau.specs.Numbers.{IsWithin, number_at}
+use Rattle.integer_tableau.specs.Range.{size_limit}
 use Rattle.integer_tableau.specs.Substitution.{IsSolved, IsSubstituted, IsSubstitutedRow, quotient_numerator, substituted_size}
 
 size_step : (t d r e s q : ℤ) (top most : ℕ) → 0 < nat_abs d → t *ℤ d ≡ r *ℤ e +ℤ s *ℤ q → nat_abs r ≤ top → nat_abs s ≤ most
@@ -64,7 +65,7 @@ solved_down (negsuc p) k (negsuc d) row o h j = absurd (omega (arith, ints))
 pub written : {X : Type 0} (row items : List X) (n : ℕ) → length row ≡ n → take n (row ++ drop (length row) items) ≡ row
 written row items n e = ap (λ m. take m (row ++ drop (length row) items)) (sym e) ∙ take-append_seam row (drop (length row) items)
 
-pub step_from : (d e : ℤ) (k : ℕ) (source s l l' row m : List ℤ) → l' ≡ l → s ≡ source → m ≡ row → IsWithin (2 ^ 62 - 1) l → IsWithin (2 ^ 62 - 1) m
+pub step_from : (d e : ℤ) (k : ℕ) (source s l l' row m : List ℤ) → l' ≡ l → s ≡ source → m ≡ row → IsWithin (size_limit - 1) l → IsWithin (size_limit - 1) m
     → IsSubstituted d e (number_at l' k) (set l' k (pos 0)) s row → length row ≡ length l' → IsSubstitutedRow d e k source l m
 step_from d e k source s l l' row m p q r h g t n = record {
   before = h;
@@ -74,9 +75,9 @@ step_from d e k source s l l' row m p q r h g t n = record {
 }
 
 -- the variable isn't in the row, and the denominator stays
-pub stays_from : (d e : ℤ) (k : ℕ) (source row new : List ℤ) → new ≡ row → number_at row k ≡ pos 0 → e ≡ d → IsWithin (2 ^ 62 - 1) new → IsSubstitutedRow d e k source row new
+pub stays_from : (d e : ℤ) (k : ℕ) (source row new : List ℤ) → new ≡ row → number_at row k ≡ pos 0 → e ≡ d → IsWithin (size_limit - 1) new → IsSubstitutedRow d e k source row new
 stays_from d e k source row new same none is small = record {
-  before = subst (IsWithin (2 ^ 62 - 1)) same small;
+  before = subst (IsWithin (size_limit - 1)) same small;
   after = small;
   numbers = λ j.
       ap (λ xs. number_at xs j *ℤ d) (same ∙ sym (ap (set row k) (sym none) ∙ set-get_or row k (pos 0)))

@@ -15,6 +15,7 @@ use Rattle.integer_tableau.specs.Consistent.{IsConsistent, row_width}
 use Rattle.integer_tableau.specs.IntegerProgram.{fraction_program, IsReady}
 use Rattle.integer_tableau.specs.IntegerTableau.{IntegerTableau, of_parts, statuses_of, tableau_of}
 use Rattle.integer_tableau.specs.Numbers.{IsWithin, number_at, total_size}
+use Rattle.integer_tableau.specs.Range.{size_limit}
 use Rattle.integer_tableau.specs.Positions.{IsColumnOf, sum_over}
 use Rattle.integer_tableau.specs.Start.{columns_from, is_negative, start_number, start_numbers}
 use Rattle.integer_tableau.proofs.Starting.{start_tableau}
@@ -108,7 +109,7 @@ start_bounded (c ∷ cs) (b ∷ bs) m (suc v) = start_bounded cs bs m v
 
 -- ---- the whole start
 module _ (program_rows : List (List ℤ)) (weight reach : ℕ) (reduced_costs : List ℤ) (bounds : List IntegerBounds) (ready : IsReady program_rows weight reduced_costs bounds)
-    (reached : (j : ℕ) → j < length reduced_costs → bound_size (get_or bounds j (record { lower = None; upper = None })) ≤ reach) (near : reach < 2 ^ 63) (room : total_bound_size bounds < 2 ^ 62) where
+    (reached : (j : ℕ) → j < length reduced_costs → bound_size (get_or bounds j (record { lower = None; upper = None })) ≤ reach) (near : reach < 2 ^ 63) (room : total_bound_size bounds < size_limit) where
   abbrev n : ℕ
   n = length reduced_costs
 
@@ -189,18 +190,18 @@ module _ (program_rows : List (List ℤ)) (weight reach : ℕ) (reduced_costs : 
   all_many : length all_values ≡ n + m
   all_many = values_many 1 program_rows ss xs (replicate n (pos 0)) ∙ ap (λ k. k + m) (length-replicate n (pos 0))
 
-  small_from : (v : ℕ) (ls : List (List ℤ)) → ((i : ℕ) → i < length ls → IsWithin (2 ^ 62 - 1) (get_or ls i [])) → IsWithin (2 ^ 62 - 1) (get_or ls v [])
+  small_from : (v : ℕ) (ls : List (List ℤ)) → ((i : ℕ) → i < length ls → IsWithin (size_limit - 1) (get_or ls i [])) → IsWithin (size_limit - 1) (get_or ls v [])
   small_from v ls h = elim (cases_lt v (length ls)) [
     | inl l ↦ h v l
-    | inr l ↦ subst (IsWithin (2 ^ 62 - 1)) (sym (get_or_past ls v [] l)) (λ k. omega arith)
+    | inr l ↦ subst (IsWithin (size_limit - 1)) (sym (get_or_past ls v [] l)) (λ k. omega arith)
   ]
 
-  small_at : (n v : ℕ) → IsWithin (2 ^ 62 - 1) (get_or (no_rows n ++ program_rows) v [])
+  small_at : (n v : ℕ) → IsWithin (size_limit - 1) (get_or (no_rows n ++ program_rows) v [])
   small_at zero v = small_from v program_rows ready.rows_within
   small_at (suc n) zero = λ k. omega arith
   small_at (suc n) (suc v) = small_at n v
 
-  total_small : total_size xs < 2 ^ 62
+  total_small : total_size xs < size_limit
   total_small = omega (arith, room, bounded_total bounds xs (nonbasic_lengths ∙ sym ready.bounds_there) (λ v l. start_bounded reduced_costs bounds m v))
 
   first_compact : IsCompact program_rows weight reach first

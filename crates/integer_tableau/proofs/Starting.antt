@@ -1,5 +1,5 @@
 -- The start on whole numbers: it stands for the start of the program of fractions, and is consistent.
-use Rattle.std.proofs.Common.{◌≡◌, ℕ, zero, suc, ◌+◌, ◌-◌, ◌^◌, ◌≤◌, ◌<◌, arith, refl, ap, sym, ◌∙◌, Bool, true, false, Option, Some, None, List, [], ◌∷◌, ◌++◌, length, get_or}
+use Rattle.std.proofs.Common.{◌≡◌, ℕ, zero, suc, ◌+◌, ◌-◌, ◌≤◌, ◌<◌, arith, refl, ap, sym, ◌∙◌, Bool, true, false, Option, Some, None, List, [], ◌∷◌, ◌++◌, length, get_or}
 use Rattle.std.specs.Prelude.{ℤ, pos, map, replicate, int_lt, if◌then◌else◌}
 use Rattle.std.specs.Option.{option_map, unwrap_or}
 use Rattle.std.proofs.lemmas.List.{length-append, length-replicate, length-map}
@@ -11,6 +11,7 @@ use Rattle.integer_tableau.proofs.Sums.{value_fits, value_is}
 use Rattle.integer_tableau.specs.Consistent.{IsConsistent, row_width}
 use Rattle.integer_tableau.specs.IntegerTableau.{IntegerTableau, bound_status, fraction_bounds, row_of_position, rows_of, statuses_of, tableau_of, values_of}
 use Rattle.integer_tableau.specs.Numbers.{IsWithin, number_at, total_size}
+use Rattle.integer_tableau.specs.Range.{size_limit}
 use Rattle.integer_tableau.specs.Positions.{coefficient, coefficients, sum_over}
 use Rattle.integer_tableau.specs.IntegerProgram.{fraction_program}
 use Rattle.integer_tableau.specs.Start.{columns_from, is_negative, start_number, start_numbers}
@@ -180,7 +181,7 @@ module _ (rows : List (List ℤ)) (reduced_costs : List ℤ) (bounds : List Inte
 
   module _ (bounds_many : length bounds ≡ n + m) (values_many : length values ≡ n + m)
       (exact : (v : ℕ) → v < length w.positions → get_or w.positions v InBasis ≡ InBasis → number_at values v ≡ sum_over w.positions (get_or w.rows v []) w.nonbasic_values) where
-    pub start_consistent : ((v : ℕ) → IsWithin (2 ^ 62 - 1) (get_or w.rows v [])) → IsWithin (2 ^ 62 - 1) reduced_costs → total_size w.nonbasic_values < 2 ^ 62 → IsConsistent w
+    pub start_consistent : ((v : ℕ) → IsWithin (size_limit - 1) (get_or w.rows v [])) → IsWithin (size_limit - 1) reduced_costs → total_size w.nonbasic_values < size_limit → IsConsistent w
     start_consistent small costs_small total_small = record {
       positive = omega arith;
       bounds = bounds_many ∙ sym positions_many;
@@ -199,11 +200,11 @@ module _ (rows : List (List ℤ)) (reduced_costs : List ℤ) (bounds : List Inte
       costs_within = costs_small;
     }
 
-    module _ (numbers : List ℕ) (small : (v : ℕ) → IsWithin (2 ^ 62 - 1) (get_or w.rows v [])) (total_small : total_size w.nonbasic_values < 2 ^ 62) where
+    module _ (numbers : List ℕ) (small : (v : ℕ) → IsWithin (size_limit - 1) (get_or w.rows v [])) (total_small : total_size w.nonbasic_values < size_limit) where
       values_first : computed_values (map whole w.nonbasic_values) (statuses_of w.positions w.at_upper) (map whole w.nonbasic_values) (rows_of (row_of_position 1 w.positions) w.positions w.rows) ≡ Some (values_of 1 w.positions w.nonbasic_values values)
       values_first = computed_each (map whole w.nonbasic_values) 1 w.positions w.positions w.at_upper w.nonbasic_values w.rows values
           (at_upper_many ∙ sym positions_many) (nonbasic_values_many bounds_many ∙ sym positions_many) (rows_many ∙ sym positions_many) (values_many ∙ sym positions_many)
-          (λ v l q. value_is 1 (2 ^ 62 - 1) (get_or w.rows v []) w.positions w.nonbasic_values (omega arith) (omega arith) (small v) (omega (arith, total_small))
+          (λ v l q. value_is 1 (size_limit - 1) (get_or w.rows v []) w.positions w.nonbasic_values (omega arith) (omega arith) (small v) (omega (arith, total_small))
           ∙ ap (λ z. Some (frac z 1)) (sym (exact v l q)))
 
       abbrev blank : Tableau

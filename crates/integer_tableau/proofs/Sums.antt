@@ -12,6 +12,7 @@ use Rattle.fraction.specs.Rational.{frac, whole}
 use Rattle.integer_tableau.proofs.Fractions.{add_frac, mul_frac, zero_over}
 use Rattle.integer_tableau.proofs.RowsByVariable.{agree_but, map_exchanged, number_at-set_other}
 use Rattle.integer_tableau.specs.Numbers.{IsWithin, number_at, total_size}
+use Rattle.integer_tableau.specs.Range.{size_limit}
 use Rattle.integer_tableau.specs.Positions.{IsColumnOf, coefficient, coefficients, numerator, products, sum_over}
 use Rattle.integer_tableau.proofs.Exchanges.{nonbasic_values_exchanged, positions_exchanged}
 use Rattle.integer_tableau.specs.Substitution.{IsSubstituted, quotient_numerator}
@@ -27,7 +28,7 @@ pub numerator_within : (top : ℕ) (row : List ℤ) (s : Position) → IsWithin 
 numerator_within top row InBasis h = omega arith
 numerator_within top row (InColumn k) h = h k
 
-one_more : (a z x : ℤ) (d : ℕ) → 0 < d → d < 2 ^ 62 → nat_abs a + nat_abs z * nat_abs x < 2 ^ 126
+one_more : (a z x : ℤ) (d : ℕ) → 0 < d → d < size_limit → nat_abs a + nat_abs z * nat_abs x < 2 ^ 126
     → option_and_then (λ p. add_checked (frac a d) p) (mul_checked (frac z d) (whole x)) ≡ Some (frac (a +ℤ z *ℤ x) d)
 one_more a z x d o hd h =
     let e : d * 1 ≡ d = mul-one d in
@@ -43,7 +44,7 @@ then_then : {A B C : Type 0} (f : A → Option B) (g : B → Option C) (o : Opti
 then_then f g None = refl
 then_then f g (Some x) = refl
 
-pub dot_coefficients : (a : ℤ) (d top : ℕ) (row : List ℤ) → 0 < d → d < 2 ^ 62 → IsWithin top row → (positions : List Position) (xs : List ℤ) → nat_abs a + top * total_size xs < 2 ^ 126
+pub dot_coefficients : (a : ℤ) (d top : ℕ) (row : List ℤ) → 0 < d → d < size_limit → IsWithin top row → (positions : List Position) (xs : List ℤ) → nat_abs a + top * total_size xs < 2 ^ 126
     → dot_from (frac a d) (coefficients d positions row) (map whole xs) ≡ Some (frac (a +ℤ sum_over positions row xs) d)
 dot_coefficients a d top row o hd h [] xs l = ap (λ z. Some (frac z d)) (omega (arith, ints))
 dot_coefficients a d top row o hd h (s ∷ positions) [] l = ap (λ z. Some (frac z d)) (omega (arith, ints))
@@ -63,7 +64,7 @@ dot_coefficients a d top row o hd h (s ∷ positions) (x ∷ xs) l =
     assoc : (a b c : ℤ) → (a +ℤ b) +ℤ c ≡ a +ℤ (b +ℤ c)
     assoc a b c = omega (arith, ints)
 
-pub value_is : (d top : ℕ) (row : List ℤ) (positions : List Position) (xs : List ℤ) → 0 < d → d < 2 ^ 62 → IsWithin top row → top * total_size xs < 2 ^ 126
+pub value_is : (d top : ℕ) (row : List ℤ) (positions : List Position) (xs : List ℤ) → 0 < d → d < size_limit → IsWithin top row → top * total_size xs < 2 ^ 126
     → dot_checked (coefficients d positions row) (map whole xs) ≡ Some (frac (sum_over positions row xs) d)
 value_is d top row positions xs o hd h l =
     ap (λ z. dot_from z (coefficients d positions row) (map whole xs)) (sym (zero_over d o))
@@ -84,8 +85,8 @@ sum_within size row h (s ∷ positions) (x ∷ xs) =
     add_size a b = omega (arith, ints)
 
 -- a value that is such a sum has 127 bits
-pub value_fits : (row : List ℤ) (positions : List Position) (xs : List ℤ) (v : ℤ) → IsWithin (2 ^ 62 - 1) row → total_size xs < 2 ^ 62 → v ≡ sum_over positions row xs → nat_abs v < 2 ^ 127
-value_fits row positions xs v h l e = rw e (omega (arith, sum_within (2 ^ 62 - 1) row h positions xs, l))
+pub value_fits : (row : List ℤ) (positions : List Position) (xs : List ℤ) (v : ℤ) → IsWithin (size_limit - 1) row → total_size xs < size_limit → v ≡ sum_over positions row xs → nat_abs v < 2 ^ 127
+value_fits row positions xs v h l e = rw e (omega (arith, sum_within (size_limit - 1) row h positions xs, l))
 
 -- ---- how it changes
 products-set_left : (zs xs : List ℤ) (i : ℕ) (z : ℤ) → length zs ≡ length xs → i < length zs → products (set zs i z) xs +ℤ number_at zs i *ℤ number_at xs i ≡ products zs xs +ℤ z *ℤ number_at xs i

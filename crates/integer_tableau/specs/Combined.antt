@@ -1,6 +1,7 @@
 -- The variables of rows, of which a tableau on whole numbers keeps no rows and no values: by the linear program each is a combination of the columns.
 use Rattle.std.specs.Prelude.{◌≡◌, ℕ, zero, suc, ◌+◌, ◌*◌, ◌^◌, ◌<◌, ◌≤◌, ℤ, pos, nat_abs, nat_eq, ◌+ℤ◌, ◌*ℤ◌, List, [], ◌∷◌, ◌++◌, length, map, drop, max, slice_index_or, Option, Some, None, if◌then◌else◌}
 use Rattle.integer_tableau.specs.Numbers.{number_at, total_size}
+use Rattle.integer_tableau.specs.Range.{size_limit}
 use Rattle.integer_tableau.specs.IntegerTableau.{IntegerTableau}
 use Rattle.integer_tableau.specs.Consistent.{IsConsistent}
 use Rattle.integer_tableau.specs.declared.integer_bounds.IntegerBounds.{IntegerBounds}
@@ -104,9 +105,9 @@ pub record IsCompact (program_rows : List (List ℤ)) (weight reach : ℕ) (t : 
       → (j : ℕ) → combined t.denominator (slice_index_or program_rows i []) t.positions t.rows j ≡ numerator_of t.denominator [] (InColumn k) j
   -- so no sum of values has more than 128 bits
   pub weights : (i : ℕ) → i < length program_rows → total_size (slice_index_or program_rows i []) ≤ weight
-  pub light : weight < 2 ^ 62
+  pub light : weight < size_limit
   pub reached : (j : ℕ) → j < length t.rows → bound_size (slice_index_or t.bounds j (record { lower = None; upper = None })) ≤ reach
   pub near : reach * t.denominator < 2 ^ 63
   -- and the nonbasic values stay small
   pub bounded : (v : ℕ) → v < length t.positions → nat_abs (number_at t.nonbasic_values v) ≤ bound_size (slice_index_or t.bounds v (record { lower = None; upper = None }))
-  pub room : total_bound_size t.bounds < 2 ^ 62
+  pub room : total_bound_size t.bounds < size_limit

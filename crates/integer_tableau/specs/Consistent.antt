@@ -1,6 +1,7 @@
 -- What holds of a tableau on whole numbers between pivots.
 use Rattle.std.specs.Prelude.{◌≡◌, ℕ, ◌-◌, ◌<◌, ◌^◌, nat_abs, [], length, slice_index_or}
 use Rattle.integer_tableau.specs.Numbers.{number_at, IsWithin, total_size}
+use Rattle.integer_tableau.specs.Range.{size_limit}
 use Rattle.integer_tableau.specs.Positions.{IsColumnOf, sum_over}
 use Rattle.integer_tableau.specs.IntegerTableau.{IntegerTableau}
 use Rattle.integer_tableau.specs.declared.position.Position.{Position}
@@ -29,8 +30,8 @@ pub record IsConsistent (t : IntegerTableau) : Type 0 where
       → number_at t.values v ≡ sum_over t.positions (slice_index_or t.rows v []) t.nonbasic_values
   pub fits : (v : ℕ) → v < length t.positions → slice_index_or t.positions v InBasis ≡ InBasis → nat_abs (number_at t.values v) < 2 ^ 127
   -- so no sum on the way to a value is cramped
-  pub small : total_size t.nonbasic_values < 2 ^ 62
+  pub small : total_size t.nonbasic_values < size_limit
   -- and no ratio, and no step of a pivot on them
-  pub denominator_small : t.denominator < 2 ^ 62
-  pub rows_within : (v : ℕ) → IsWithin (2 ^ 62 - 1) (slice_index_or t.rows v [])
-  pub costs_within : IsWithin (2 ^ 62 - 1) t.reduced_costs
+  pub denominator_small : t.denominator < size_limit
+  pub rows_within : (v : ℕ) → IsWithin (size_limit - 1) (slice_index_or t.rows v [])
+  pub costs_within : IsWithin (size_limit - 1) t.reduced_costs

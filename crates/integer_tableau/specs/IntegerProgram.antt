@@ -1,9 +1,10 @@
 -- A linear program on whole numbers, as the linear program of fractions that it stands for.
-use Rattle.std.specs.Prelude.{◌≡◌, ℕ, ◌+◌, ◌-◌, ◌^◌, ◌<◌, ◌≤◌, ℤ, List, [], length, map, slice_index_or, Some}
+use Rattle.std.specs.Prelude.{◌≡◌, ℕ, ◌+◌, ◌-◌, ◌<◌, ◌≤◌, ℤ, List, [], length, map, slice_index_or, Some}
 use Rattle.fraction.specs.Rational.{whole}
 use Rattle.problem_box.specs.declared.span.Span.{Span}
 use Rattle.tableau.specs.LinearProgram.{LinearProgram}
 use Rattle.integer_tableau.specs.Numbers.{IsWithin, total_size}
+use Rattle.integer_tableau.specs.Range.{size_limit}
 use Rattle.integer_tableau.specs.IntegerTableau.{fraction_bounds}
 use Rattle.integer_tableau.specs.declared.integer_bounds.IntegerBounds.{IntegerBounds}
 
@@ -25,7 +26,7 @@ column_bounds s = record { lower = Some s.lo; upper = Some s.hi }
 pub record IsReady (rows : List (List ℤ)) (weight : ℕ) (costs : List ℤ) (bounds : List IntegerBounds) : Type 0 where
   pub rows_full : (i : ℕ) → i < length rows → length (slice_index_or rows i []) ≡ length costs
   pub bounds_there : length bounds ≡ length costs + length rows
-  pub rows_within : (i : ℕ) → i < length rows → IsWithin (2 ^ 62 - 1) (slice_index_or rows i [])
-  pub costs_within : IsWithin (2 ^ 62 - 1) costs
+  pub rows_within : (i : ℕ) → i < length rows → IsWithin (size_limit - 1) (slice_index_or rows i [])
+  pub costs_within : IsWithin (size_limit - 1) costs
   pub weights : (i : ℕ) → i < length rows → total_size (slice_index_or rows i []) ≤ weight
-  pub light : weight < 2 ^ 62
+  pub light : weight < size_limit

@@ -6,6 +6,7 @@ use Rattle.tableau.specs.declared.place.Place.TheVariants.{Cramped}
 use Rattle.tableau.specs.Elimination.{add_multiple, negative_quotient}
 use Rattle.tableau.specs.Place.{place}
 use Rattle.integer_tableau.specs.Numbers.{IsWithin, total_size}
+use Rattle.integer_tableau.specs.Range.{size_limit}
 use Rattle.integer_tableau.specs.Substitution.{quotient_numerator}
 use Rattle.integer_tableau.specs.Positions.{coefficients, sum_over}
 use Rattle.integer_tableau.specs.IntegerTableau.{IntegerTableau, tableau_of}
@@ -29,7 +30,7 @@ RatiosAreExact = (a t : ℤ) (d : ℕ) → 0 < d → d < 2 ^ 63 → nat_abs a < 
 
 -- the value of a basic variable
 abbrev pub ValuesAreExact : Type 0
-ValuesAreExact = (d : ℕ) (positions : List Position) (row xs : List ℤ) → 0 < d → d < 2 ^ 62 → IsWithin (2 ^ 62 - 1) row → total_size xs < 2 ^ 62
+ValuesAreExact = (d : ℕ) (positions : List Position) (row xs : List ℤ) → 0 < d → d < size_limit → IsWithin (size_limit - 1) row → total_size xs < size_limit
     → dot_checked (coefficients d positions row) (map whole xs) ≡ Some (frac (sum_over positions row xs) d)
 
 -- the place

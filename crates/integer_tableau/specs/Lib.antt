@@ -1,3 +1,4 @@
+pub mod Range
 pub mod Numbers
 pub mod Substitution
 pub mod Positions

@@ -2,8 +2,9 @@
 --
 -- This is integer pivoting (Edmonds), with exact divisions (Bareiss 1968): the new denominator is the size of the pivot, and each new numerator is a
 -- quotient by the old one. That each division is exact is tested by the code, and is a premise here.
-use Rattle.std.specs.Prelude.{◌≡◌, ℕ, ◌*◌, ◌+◌, ◌-◌, ◌/◌, ◌^◌, length, ℤ, pos, negsuc, ◌+ℤ◌, ◌-ℤ◌, ◌*ℤ◌, neg_ℤ, List, slice_set}
+use Rattle.std.specs.Prelude.{◌≡◌, ℕ, ◌*◌, ◌+◌, ◌-◌, ◌/◌, length, ℤ, pos, negsuc, ◌+ℤ◌, ◌-ℤ◌, ◌*ℤ◌, neg_ℤ, List, slice_set}
 use Rattle.integer_tableau.specs.Numbers.{number_at, IsWithin}
+use Rattle.integer_tableau.specs.Range.{size_limit}
 
 -- ---- by column
 -- each number of `new`, times d, is that of `row` times e plus that of `source` times q
@@ -30,15 +31,15 @@ substituted_size size e source_size q d = (size * e + source_size * q) / d
 -- ---- of whole rows, whose numbers are small
 -- the variable of column k is substituted, by its solved row
 pub record IsSubstitutedRow (d e : ℤ) (k : ℕ) (source row new : List ℤ) : Type 0 where
-  pub before : IsWithin (2 ^ 62 - 1) row
-  pub after : IsWithin (2 ^ 62 - 1) new
+  pub before : IsWithin (size_limit - 1) row
+  pub after : IsWithin (size_limit - 1) new
   pub numbers : IsSubstituted d e (number_at row k) (slice_set row k (pos 0)) source new
   pub width : length new ≡ length row
 
 -- the row is solved for the variable of column k
 pub record IsSolvedRow (k d : ℕ) (row new : List ℤ) : Type 0 where
-  pub before : IsWithin (2 ^ 62 - 1) row
-  pub after : IsWithin (2 ^ 62 - 1) new
+  pub before : IsWithin (size_limit - 1) row
+  pub after : IsWithin (size_limit - 1) new
   pub numbers : IsSolved (number_at row k) k d row new
   pub width : length new ≡ length row
 

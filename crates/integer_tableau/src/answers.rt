@@ -1,11 +1,12 @@
 // What a tableau answers: the point, and the multipliers of rows that it names.
 
-ghost use Rattle.std.specs.Prelude.{◌≡◌, ℕ, ◌+◌, ◌*◌, ◌-◌, ◌<◌, ◌≤◌, ◌^◌, [], pos, nat_abs, ◌<ℤ◌, length, drop, IfOk, slice_index_or, if◌then◌else◌};
+ghost use Rattle.std.specs.Prelude.{◌≡◌, ℕ, ◌+◌, ◌*◌, ◌-◌, ◌<◌, ◌≤◌, [], pos, nat_abs, ◌<ℤ◌, length, drop, IfOk, slice_index_or, if◌then◌else◌};
 ghost use Rattle.tableau.specs.Leaving.{is_below};
 ghost use Rattle.tableau.specs.Multipliers.{point_of, mult_of_cost, direction_of, mult_of_row};
 ghost use Rattle.tableau.specs.Tableau.{row_of};
 ghost use Rattle.tableau.specs.declared.bounds.Direction.TheVariants.{Rise, Fall};
 ghost use Rattle.integer_tableau.specs.Numbers.{number_at, IsWithin, total_size};
+ghost use Rattle.integer_tableau.specs.Range.{size_limit};
 ghost use Rattle.integer_tableau.specs.Positions.{coefficient, coefficients};
 ghost use Rattle.integer_tableau.specs.IntegerTableau.{fraction_bounds, value, values_of, row_of_position};
 ghost use Rattle.integer_tableau.specs.Combined.{combined_row, expanded_rows};
@@ -131,11 +132,11 @@ fn combined_coefficient(
     denominator: i64,
 ) -> Frac
     requires positive { pos 0 <ℤ denominator }
-    requires small { nat_abs denominator < 2 ^ 62 }
+    requires small { nat_abs denominator < size_limit }
     requires rows_there { length rows.now ≡ length program_row.now }
     requires positions_there { length program_row.now ≤ length positions.now }
-    requires light { total_size program_row.now < 2 ^ 62 }
-    requires rows_small { (j : ℕ) → IsWithin (2 ^ 62 - 1) (slice_index_or rows.now j []) }
+    requires light { total_size program_row.now < size_limit }
+    requires rows_small { (j : ℕ) → IsWithin (size_limit - 1) (slice_index_or rows.now j []) }
     requires column { (k : ℕ) → position ≡ Position.InColumn k → k < length rows.now }
     ensures { result ≡ coefficient (nat_abs denominator) (combined_row (nat_abs denominator) positions.now rows.now program_row.now) position }
 {
@@ -164,11 +165,11 @@ fn combined_coefficients(
     denominator: i64,
 ) -> Result<Vec<Frac>, AllocError>
     requires positive { pos 0 <ℤ denominator }
-    requires small { nat_abs denominator < 2 ^ 62 }
+    requires small { nat_abs denominator < size_limit }
     requires rows_there { length rows.now ≡ length program_row.now }
     requires positions_there { length program_row.now ≤ length positions.now }
-    requires light { total_size program_row.now < 2 ^ 62 }
-    requires rows_small { (j : ℕ) → IsWithin (2 ^ 62 - 1) (slice_index_or rows.now j []) }
+    requires light { total_size program_row.now < size_limit }
+    requires rows_small { (j : ℕ) → IsWithin (size_limit - 1) (slice_index_or rows.now j []) }
     requires columns { (j k : ℕ) → slice_index_or positions.now j Position.InBasis ≡ Position.InColumn k → k < length rows.now }
     ensures { IfOk result (λ v. v.items ≡ coefficients (nat_abs denominator) (drop first positions.now) (combined_row (nat_abs denominator) positions.now rows.now program_row.now)) }
 {

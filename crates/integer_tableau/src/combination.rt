@@ -2,6 +2,7 @@
 
 ghost use Rattle.std.specs.Prelude.{◌≡◌, ℕ, ◌+◌, ◌*◌, ◌-◌, ◌<◌, ◌≤◌, ◌^◌, [], pos, nat_abs, ◌+ℤ◌, ◌*ℤ◌, ◌<ℤ◌, length, IfOk, IfSome, IsTrue, slice_index_or};
 ghost use Rattle.integer_tableau.specs.Numbers.{number_at, IsWithin, total_size};
+ghost use Rattle.integer_tableau.specs.Range.{size_limit};
 ghost use Rattle.integer_tableau.specs.Combined.{numerator_of, combined, value_numerator, value_numerators, combined_value};
 ghost use Rattle.integer_tableau.specs.Positions.{products};
 
@@ -72,7 +73,7 @@ pub(crate) fn column_numerators(
 /// The sum of the products of a row's coefficients and as many numbers.
 pub(crate) fn sum_of_products(coefficients: &ProgramRow, numbers: &[i64]) -> i128
     requires width { length numbers.now ≡ length coefficients.now }
-    requires light { total_size coefficients.now < 2 ^ 62 }
+    requires light { total_size coefficients.now < size_limit }
     ensures { result ≡ products coefficients.now numbers.now }
 {
     let numerators = coefficients.numerators();
@@ -96,7 +97,7 @@ pub(crate) fn combined_value(
     requires values_there { length values.now ≡ length coefficients.now }
     requires positions_there { length coefficients.now ≤ length positions.now }
     requires nonbasic_values_there { length coefficients.now ≤ length nonbasic_values.now }
-    requires light { total_size coefficients.now < 2 ^ 62 }
+    requires light { total_size coefficients.now < size_limit }
     requires near { (j : ℕ) → j < length coefficients.now → nat_abs (number_at nonbasic_values.now j) * nat_abs denominator < 2 ^ 63 }
     ensures { result ≡ combined_value denominator coefficients.now positions.now nonbasic_values.now values.now }
 {
@@ -161,11 +162,11 @@ pub(crate) fn combined_number(
     column: usize,
 ) -> i128
     requires positive { pos 0 <ℤ denominator }
-    requires small { nat_abs denominator < 2 ^ 62 }
+    requires small { nat_abs denominator < size_limit }
     requires rows_there { length rows.now ≡ length coefficients.now }
     requires positions_there { length coefficients.now ≤ length positions.now }
-    requires light { total_size coefficients.now < 2 ^ 62 }
-    requires rows_small { (j : ℕ) → IsWithin (2 ^ 62 - 1) (slice_index_or rows.now j []) }
+    requires light { total_size coefficients.now < size_limit }
+    requires rows_small { (j : ℕ) → IsWithin (size_limit - 1) (slice_index_or rows.now j []) }
     ensures value { result ≡ combined (nat_abs denominator) coefficients.now positions.now rows.now column }
     ensures small { nat_abs result < 2 ^ 126 }
 {

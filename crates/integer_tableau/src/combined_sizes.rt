@@ -1,12 +1,14 @@
 // The sizes of the rows that aren't kept.
 
-ghost use Rattle.std.specs.Prelude.{◌≡◌, ℕ, ◌+◌, ◌-◌, ◌*◌, ◌<◌, ◌≤◌, ◌^◌, [], pos, nat_abs, ◌<ℤ◌, length, slice_index_or, IsTrue, IfSome};
+ghost use Rattle.std.specs.Prelude.{◌≡◌, ℕ, ◌+◌, ◌-◌, ◌*◌, ◌<◌, ◌≤◌, [], pos, nat_abs, ◌<ℤ◌, length, slice_index_or, IsTrue, IfSome};
 ghost use Rattle.integer_tableau.specs.Numbers.{IsWithin, total_size};
+ghost use Rattle.integer_tableau.specs.Range.{size_limit};
 ghost use Rattle.integer_tableau.specs.Combined.{combined, combined_row, numerator_of};
 
-use crate::integer_row::{IntegerRow, LIMIT};
+use crate::integer_row::IntegerRow;
 use crate::position::Position;
 use crate::program_row::ProgramRow;
+use crate::range::SIZE_LIMIT;
 
 /// A bound on the sizes in all rows.
 fn common_bound(rows: &[IntegerRow]) -> u64
@@ -30,11 +32,11 @@ fn look_at_all(rows: &mut [IntegerRow])
 
 /// Whether the bounds on the rows' sizes make all combinations small that have no greater weight.
 fn are_bounds_small(weight: u64, rows: &[IntegerRow], denominator: i64) -> bool
-    requires { weight < 2 ^ 62 }
-    ensures { IsTrue result → (most : ℕ) × (nat_abs denominator ≤ most) × ((v : ℕ) → v < length rows.now → IsWithin most (slice_index_or rows.now v [])) × (weight * most < 2 ^ 62) }
+    requires { weight < size_limit }
+    ensures { IsTrue result → (most : ℕ) × (nat_abs denominator ≤ most) × ((v : ℕ) → v < length rows.now → IsWithin most (slice_index_or rows.now v [])) × (weight * most < size_limit) }
 {
     let most = common_bound(rows).max(denominator.unsigned_abs());
-    u128::from(weight) * u128::from(most) < 1 << 62
+    u128::from(weight) * u128::from(most) < u128::from(SIZE_LIMIT)
 }
 
 /// A bound on the sizes of what a column says.
@@ -75,7 +77,7 @@ fn combination_bound(
     Some(total)
 }
 
-/// Whether the bounds on the rows' sizes make the combination's numbers smaller than 2^62 in size.
+/// Whether the bounds on the rows' sizes make the combination's numbers smaller than `SIZE_LIMIT` in size.
 fn is_small_by_bounds(
     coefficients: &ProgramRow,
     positions: &[Position],
@@ -84,15 +86,15 @@ fn is_small_by_bounds(
 ) -> bool
     requires rows_there { length rows.now ≡ length coefficients.now }
     requires positions_there { length coefficients.now ≤ length positions.now }
-    ensures { IsTrue result → IsWithin (2 ^ 62 - 1) (combined_row (nat_abs denominator) positions.now rows.now coefficients.now) }
+    ensures { IsTrue result → IsWithin (size_limit - 1) (combined_row (nat_abs denominator) positions.now rows.now coefficients.now) }
 {
     match combination_bound(coefficients.numerators(), positions, rows, denominator) {
-        Some(bound) => bound < LIMIT,
+        Some(bound) => bound < SIZE_LIMIT,
         None => false,
     }
 }
 
-/// Whether each combination that is basic has numbers below 2^62 in size.
+/// Whether each combination that is basic has numbers below `SIZE_LIMIT` in size.
 fn are_small_by_look(
     program_rows: &[ProgramRow],
     positions: &[Position],
@@ -103,7 +105,7 @@ fn are_small_by_look(
     requires positions_there { length positions.now ≡ length rows.now + length program_rows.now }
     requires full { (i : ℕ) → i < length program_rows.now → length (slice_index_or program_rows.now i []) ≡ length rows.now }
     requires positive { pos 0 <ℤ denominator }
-    ensures { IsTrue result → (i : ℕ) → i < length program_rows.now → slice_index_or positions.now (length rows.now + i) Position.InBasis ≡ Position.InBasis → IsWithin (2 ^ 62 - 1) (combined_row (nat_abs denominator) positions.now rows.now (slice_index_or program_rows.now i [])) }
+    ensures { IsTrue result → (i : ℕ) → i < length program_rows.now → slice_index_or positions.now (length rows.now + i) Position.InBasis ≡ Position.InBasis → IsWithin (size_limit - 1) (combined_row (nat_abs denominator) positions.now rows.now (slice_index_or program_rows.now i [])) }
 {
     let columns = rows.len();
     for (i, coefficients) in program_rows.iter().enumerate() {
@@ -117,7 +119,7 @@ fn are_small_by_look(
     true
 }
 
-/// Whether each combination that is basic has numbers below 2^62 in size: by one bound for all, by a bound for each or, where that is too
+/// Whether each combination that is basic has numbers below `SIZE_LIMIT` in size: by one bound for all, by a bound for each or, where that is too
 /// large, by a look at its numbers. `spare` is of no use then.
 pub(crate) fn are_combinations_small(
     program_rows: &[ProgramRow],
@@ -130,9 +132,9 @@ pub(crate) fn are_combinations_small(
     requires positions_there { length positions.now ≡ length rows.old + length program_rows.now }
     requires full { (i : ℕ) → i < length program_rows.now → length (slice_index_or program_rows.now i []) ≡ length rows.old }
     requires weights { (i : ℕ) → i < length program_rows.now → total_size (slice_index_or program_rows.now i []) ≤ weight }
-    requires light { weight < 2 ^ 62 }
+    requires light { weight < size_limit }
     requires positive { pos 0 <ℤ denominator }
-    ensures small { IsTrue result → (i : ℕ) → i < length program_rows.now → slice_index_or positions.now (length rows.old + i) Position.InBasis ≡ Position.InBasis → IsWithin (2 ^ 62 - 1) (combined_row (nat_abs denominator) positions.now rows.old (slice_index_or program_rows.now i [])) }
+    ensures small { IsTrue result → (i : ℕ) → i < length program_rows.now → slice_index_or positions.now (length rows.old + i) Position.InBasis ≡ Position.InBasis → IsWithin (size_limit - 1) (combined_row (nat_abs denominator) positions.now rows.old (slice_index_or program_rows.now i [])) }
     ensures same { rows.new ≡ rows.old }
 {
     if are_bounds_small(weight, rows, denominator) {

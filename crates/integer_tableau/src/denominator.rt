@@ -2,6 +2,7 @@
 
 ghost use Rattle.std.specs.Prelude.{◌≡◌, ℕ, ◌+◌, ◌*◌, ◌<◌, ◌≤◌, ◌^◌, [], pos, nat_abs, ◌<ℤ◌, length, IsTrue, IfSome, slice_index_or};
 ghost use Rattle.integer_tableau.specs.Numbers.{number_at, total_size};
+ghost use Rattle.integer_tableau.specs.Range.{size_limit};
 ghost use Rattle.integer_tableau.specs.Combined.{value_numerator, combined_value};
 ghost use Rattle.integer_tableau.specs.Denominator.{HasDenominator};
 
@@ -10,12 +11,10 @@ use crate::integer_row::IntegerRow;
 use crate::integer_tableau::IntegerTableau;
 use crate::position::Position;
 use crate::program_row::ProgramRow;
+use crate::range::SIZE_LIMIT;
 use crate::wide_numbers::product;
 
-/// The greatest numerator over a common denominator.
-const GREATEST: u64 = 1 << 62;
-
-/// Whether the numerators of the columns' values are at most 2^62 in size.
+/// Whether the numerators of the columns' values are at most `SIZE_LIMIT` in size.
 fn are_columns_small(
     positions: &[Position],
     nonbasic_values: &[i64],
@@ -25,11 +24,11 @@ fn are_columns_small(
     requires positions_there { length values.now ≤ length positions.now }
     requires nonbasic_values_there { length values.now ≤ length nonbasic_values.now }
     requires near { (j : ℕ) → j < length values.now → nat_abs (number_at nonbasic_values.now j) * nat_abs denominator < 2 ^ 63 }
-    ensures { IsTrue result → (j : ℕ) → j < length values.now → nat_abs (value_numerator denominator (slice_index_or positions.now j Position.InBasis) (number_at nonbasic_values.now j) (number_at values.now j)) ≤ 2 ^ 62 }
+    ensures { IsTrue result → (j : ℕ) → j < length values.now → nat_abs (value_numerator denominator (slice_index_or positions.now j Position.InBasis) (number_at nonbasic_values.now j) (number_at values.now j)) ≤ size_limit }
 {
     for (j, value) in values.iter().enumerate() {
         let numerator = column_value(positions[j], nonbasic_values[j], *value, denominator);
-        if numerator.unsigned_abs() > GREATEST {
+        if numerator.unsigned_abs() > SIZE_LIMIT {
             return false;
         }
     }
@@ -49,7 +48,7 @@ fn row_value(
     requires values_there { length values.now ≡ length coefficients.now }
     requires positions_there { length coefficients.now ≤ length positions.now }
     requires nonbasic_values_there { length coefficients.now ≤ length nonbasic_values.now }
-    requires light { total_size coefficients.now < 2 ^ 62 }
+    requires light { total_size coefficients.now < size_limit }
     requires near { (j : ℕ) → j < length coefficients.now → nat_abs (number_at nonbasic_values.now j) * nat_abs denominator < 2 ^ 63 }
     ensures { result ≡ value_numerator denominator position nonbasic_value (combined_value denominator coefficients.now positions.now nonbasic_values.now values.now) }
 {
@@ -65,7 +64,7 @@ fn row_value(
     }
 }
 
-/// Whether the numerators of the values of the rows' variables are at most 2^62 in size.
+/// Whether the numerators of the values of the rows' variables are at most `SIZE_LIMIT` in size.
 fn are_rows_small(
     program_rows: &[ProgramRow],
     positions: &[Position],
@@ -76,9 +75,9 @@ fn are_rows_small(
     requires positions_there { length positions.now ≡ length values.now + length program_rows.now }
     requires nonbasic_values_there { length nonbasic_values.now ≡ length positions.now }
     requires full { (i : ℕ) → i < length program_rows.now → length (slice_index_or program_rows.now i []) ≡ length values.now }
-    requires light { (i : ℕ) → i < length program_rows.now → total_size (slice_index_or program_rows.now i []) < 2 ^ 62 }
+    requires light { (i : ℕ) → i < length program_rows.now → total_size (slice_index_or program_rows.now i []) < size_limit }
     requires near { (j : ℕ) → j < length values.now → nat_abs (number_at nonbasic_values.now j) * nat_abs denominator < 2 ^ 63 }
-    ensures { IsTrue result → (i : ℕ) → i < length program_rows.now → nat_abs (value_numerator denominator (slice_index_or positions.now (length values.now + i) Position.InBasis) (number_at nonbasic_values.now (length values.now + i)) (combined_value denominator (slice_index_or program_rows.now i []) positions.now nonbasic_values.now values.now)) ≤ 2 ^ 62 }
+    ensures { IsTrue result → (i : ℕ) → i < length program_rows.now → nat_abs (value_numerator denominator (slice_index_or positions.now (length values.now + i) Position.InBasis) (number_at nonbasic_values.now (length values.now + i)) (combined_value denominator (slice_index_or program_rows.now i []) positions.now nonbasic_values.now values.now)) ≤ size_limit }
 {
     let columns = values.len();
     for (i, coefficients) in program_rows.iter().enumerate() {
@@ -91,7 +90,7 @@ fn are_rows_small(
             values,
             denominator,
         );
-        if numerator.unsigned_abs() > u128::from(GREATEST) {
+        if numerator.unsigned_abs() > u128::from(SIZE_LIMIT) {
             return false;
         }
     }
@@ -99,7 +98,7 @@ fn are_rows_small(
 }
 
 impl IntegerTableau {
-    /// A denominator of all numbers, where none is greater in size than 2^62 over it; none where one is.
+    /// A denominator of all numbers, where none is greater in size than `SIZE_LIMIT` over it; none where one is.
     pub fn common_denominator(&self) -> Option<u64>
         ensures { IfSome result (λ d. HasDenominator d self.now) }
     {

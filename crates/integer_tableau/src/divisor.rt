@@ -2,6 +2,9 @@
 
 ghost use Rattle.std.specs.Prelude.{◌≡◌, ◌*◌, ◌%◌, ◌<◌, ◌≤◌, ◌^◌, pos, nat_abs, ◌*ℤ◌, ◌<ℤ◌, IsTrue};
 ghost use Rattle.std.specs.Int.{w64, int_wrap};
+ghost use Rattle.integer_tableau.specs.Range.{size_limit};
+
+use crate::range::SIZE_LIMIT;
 
 /// A number to divide by, above 0: its odd part times a power of 2.
 ///
@@ -19,20 +22,20 @@ pub(crate) struct Divisor {
     /// A power of 2 that ends in at least as many zeros: a number of at most this size has a product of 63 bits with the odd part.
     pub(crate) reach: u64,
     ghost positive: { pos 0 <ℤ number },
-    ghost small: { nat_abs number < 2 ^ 62 },
+    ghost small: { nat_abs number < size_limit },
     ghost few_zeros: { zeros < 64 },
     ghost parts: { 0 < reach → odd *ℤ pos (2 ^ zeros) ≡ number },
     ghost inverts: { 0 < reach → int_wrap w64 (odd *ℤ inverse) ≡ pos 1 },
-    ghost reach_small: { reach ≤ 2 ^ 62 },
+    ghost reach_small: { reach ≤ size_limit },
     ghost reach_whole: { reach % 2 ^ zeros ≡ 0 },
     ghost within: { reach * nat_abs odd < 2 ^ 63 },
 }
 
 impl Divisor {
-    /// The divisor of a number above 0 and below 2^62.
+    /// The divisor of a number above 0 and below `SIZE_LIMIT`.
     pub(crate) fn make(number: i64) -> Divisor
         requires positive { pos 0 <ℤ number }
-        requires small { nat_abs number < 2 ^ 62 }
+        requires small { nat_abs number < size_limit }
         ensures { result.number ≡ number }
     {
         let zeros = number.trailing_zeros() & 63;
@@ -79,7 +82,7 @@ fn reach_of(number: i64, odd: i64, zeros: u32, inverse: i64) -> u64
     requires { zeros < 64 }
     ensures parts { 0 < result → odd *ℤ pos (2 ^ zeros) ≡ number }
     ensures inverts { 0 < result → int_wrap w64 (odd *ℤ inverse) ≡ pos 1 }
-    ensures small { result ≤ 2 ^ 62 }
+    ensures small { result ≤ size_limit }
     ensures whole { result % 2 ^ zeros ≡ 0 }
     ensures within { result * nat_abs odd < 2 ^ 63 }
 {
@@ -87,7 +90,7 @@ fn reach_of(number: i64, odd: i64, zeros: u32, inverse: i64) -> u64
     let product = u128::from(power) * u128::from(odd.unsigned_abs());
     if is_split(number, odd, zeros)
         && odd.wrapping_mul(inverse) == 1
-        && power <= 1 << 62
+        && power <= SIZE_LIMIT
         && power % (1 << zeros) == 0
         && product < 1 << 63
     {

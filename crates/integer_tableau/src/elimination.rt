@@ -1,7 +1,8 @@
 // The elimination of a variable from rows and reduced costs.
 
-ghost use Rattle.std.specs.Prelude.{◌≡◌, ◌≢◌, ℕ, ◌<◌, ◌^◌, ◌-◌, List, ℤ, [], pos, nat_abs, ◌<ℤ◌, length, IsTrue, slice_index_or, slice_set};
+ghost use Rattle.std.specs.Prelude.{◌≡◌, ◌≢◌, ℕ, ◌<◌, ◌-◌, List, ℤ, [], pos, nat_abs, ◌<ℤ◌, length, IsTrue, slice_index_or, slice_set};
 ghost use Rattle.integer_tableau.specs.Numbers.{number_at, IsWithin};
+ghost use Rattle.integer_tableau.specs.Range.{size_limit};
 ghost use Rattle.integer_tableau.specs.Substitution.{IsSubstitutedIfFull};
 ghost use Rattle.integer_tableau.specs.Pivot.{IsEliminated};
 
@@ -18,8 +19,8 @@ fn substitute_all(
     divisor: Divisor,
 ) -> bool
     requires column { column < length source.now }
-    requires source_small { IsWithin (2 ^ 62 - 1) source.now }
-    requires pivot_size_small { nat_abs pivot_size < 2 ^ 62 }
+    requires source_small { IsWithin (size_limit - 1) source.now }
+    requires pivot_size_small { nat_abs pivot_size < size_limit }
     ensures { IsTrue result → (v : ℕ) → v < length rows.old → IsSubstitutedIfFull divisor.number pivot_size column source.now (slice_index_or rows.old v []) (slice_index_or rows.new v []) }
 {
     for row in rows.iter_mut() {

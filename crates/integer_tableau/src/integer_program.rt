@@ -1,16 +1,18 @@
 // Linear programs of whole numbers.
 
-ghost use Rattle.std.specs.Prelude.{◌≡◌, ℕ, ◌<◌, ◌≤◌, ◌-◌, ◌^◌, ◌++◌, [], length, map, drop, IfOk, IfSome, IsTrue, slice_index_or};
+ghost use Rattle.std.specs.Prelude.{◌≡◌, ℕ, ◌<◌, ◌≤◌, ◌-◌, ◌++◌, [], length, map, drop, IfOk, IfSome, IsTrue, slice_index_or};
 ghost use Rattle.fraction.specs.Rational.{whole};
 ghost use Rattle.std.specs.Option.{option_map};
 ghost use Rattle.tableau.specs.WellFormed.{IsIntegral};
 ghost use Rattle.integer_tableau.specs.Numbers.{IsWithin, total_size};
+ghost use Rattle.integer_tableau.specs.Range.{size_limit};
 ghost use Rattle.integer_tableau.specs.IntegerTableau.{fraction_bounds};
 ghost use Rattle.integer_tableau.specs.IntegerProgram.{column_bounds};
 
 use crate::integer_bounds::IntegerBounds;
-use crate::integer_row::{IntegerRow, LIMIT};
+use crate::integer_row::IntegerRow;
 use crate::program_row::ProgramRow;
+use crate::range::SIZE_LIMIT;
 use fraction::Frac;
 use problem_box::{IntBox, Span};
 use std::alloc::{AllocError, Global};
@@ -149,9 +151,9 @@ fn integer_rows(
     Ok(Some(rows))
 }
 
-/// Whether the numbers of each row are below 2^62 in size.
+/// Whether the numbers of each row are below `SIZE_LIMIT` in size.
 fn are_within(rows: &[ProgramRow]) -> bool
-    ensures { IsTrue result → (v : ℕ) → v < length rows.now → IsWithin (2 ^ 62 - 1) (slice_index_or rows.now v []) }
+    ensures { IsTrue result → (v : ℕ) → v < length rows.now → IsWithin (size_limit - 1) (slice_index_or rows.now v []) }
 {
     for row in rows {
         if !row.is_within() {
@@ -237,7 +239,7 @@ impl IntegerProgram {
         let Some(weight) = greatest_weight(&rows) else {
             return Ok(None);
         };
-        if !costs.is_within() || !are_within(&rows) || weight >= LIMIT {
+        if !costs.is_within() || !are_within(&rows) || weight >= SIZE_LIMIT {
             return Ok(None);
         }
         let numbers = Vec::from_slice(alloc, program.numbers())?;

@@ -1,7 +1,8 @@
 // Rows of numerators.
 
-ghost use Rattle.std.specs.Prelude.{◌≡◌, ℕ, [], ◌<◌, ◌≤◌, ◌^◌, ◌-◌, pos, nat_abs, neg_ℤ, ◌<ℤ◌, length, IsTrue, IfOk, OnOk, IfSome, IsSome, replicate, slice_index_or, slice_set};
+ghost use Rattle.std.specs.Prelude.{◌≡◌, ℕ, [], ◌<◌, ◌≤◌, ◌-◌, pos, nat_abs, neg_ℤ, ◌<ℤ◌, length, IsTrue, IfOk, OnOk, IfSome, IsSome, replicate, slice_index_or, slice_set};
 ghost use Rattle.integer_tableau.specs.Numbers.{number_at, IsWithin};
+ghost use Rattle.integer_tableau.specs.Range.{size_limit};
 ghost use Rattle.integer_tableau.specs.Combined.{combined_row};
 ghost use Rattle.integer_tableau.specs.Substitution.{IsSubstituted, IsSolved, IsSubstitutedRow, IsSolvedRow, IsSubstitutedIfFull, substituted_size};
 
@@ -9,12 +10,10 @@ use crate::combination::add_columns;
 use crate::divisor::Divisor;
 use crate::position::Position;
 use crate::program_row::ProgramRow;
+use crate::range::SIZE_LIMIT;
 use crate::substitution::substitute;
 use std::alloc::{AllocError, Global};
 use std::marker::Model;
-
-/// One more than the greatest size that a pivot takes.
-pub(crate) const LIMIT: u64 = 1 << 62;
 
 /// A row of numerators over the tableau's denominator, seen as the list of them. The bound on their sizes only spares looks at them.
 #[derive(Drop)]
@@ -64,7 +63,7 @@ fn put_narrowed(row: &mut [i64], numbers: &[i128]) -> bool
 
 /// Turns each number's sign.
 fn negate(row: &mut [i64])
-    requires { IsWithin (2 ^ 62 - 1) row.old }
+    requires { IsWithin (size_limit - 1) row.old }
     ensures { (k : ℕ) → number_at row.new k ≡ neg_ℤ (number_at row.old k) }
 {
     for number in row.iter_mut() {
@@ -82,12 +81,12 @@ fn substituted_size(
     source_factor: i64,
     denominator: i64,
 ) -> Option<u64>
-    requires row_factor_small { nat_abs row_factor < 2 ^ 62 }
-    requires source_factor_small { nat_abs source_factor < 2 ^ 62 }
+    requires row_factor_small { nat_abs row_factor < size_limit }
+    requires source_factor_small { nat_abs source_factor < size_limit }
     requires denominator_there { 0 < nat_abs denominator }
     ensures { IfSome result (λ b. b ≡ substituted_size row_size (nat_abs row_factor) source_size (nat_abs source_factor) (nat_abs denominator)) }
 {
-    if row_size >= LIMIT || source_size >= LIMIT {
+    if row_size >= SIZE_LIMIT || source_size >= SIZE_LIMIT {
         return None;
     }
     let size = u128::from(row_size) * u128::from(row_factor.unsigned_abs())
@@ -110,11 +109,11 @@ fn substitute_column(
 ) -> Option<u64>
     requires column { column < length row.old }
     requires same_width { length row.old ≡ length source.now }
-    requires row_small { IsWithin (2 ^ 62 - 1) row.old }
-    requires source_small { IsWithin (2 ^ 62 - 1) source.now }
+    requires row_small { IsWithin (size_limit - 1) row.old }
+    requires source_small { IsWithin (size_limit - 1) source.now }
     requires row_within { IsWithin row_size row.old }
     requires source_within { IsWithin source_size source.now }
-    requires pivot_size_small { nat_abs pivot_size < 2 ^ 62 }
+    requires pivot_size_small { nat_abs pivot_size < size_limit }
     ensures numbers { IsSome result → IsSubstituted divisor.number pivot_size (number_at row.old column) (slice_set row.old column (pos 0)) source.now row.new }
     ensures within { IfSome result (λ b. IsWithin b row.new) }
 {
@@ -141,9 +140,9 @@ fn substitute_column(
 #[inline(always)]
 fn solve_column(row: &mut [i64], column: usize, denominator: i64)
     requires column { column < length row.old }
-    requires row_small { IsWithin (2 ^ 62 - 1) row.old }
+    requires row_small { IsWithin (size_limit - 1) row.old }
     requires denominator_positive { pos 0 <ℤ denominator }
-    requires denominator_small { nat_abs denominator < 2 ^ 62 }
+    requires denominator_small { nat_abs denominator < size_limit }
     ensures { IsSolved (number_at row.old column) column (nat_abs denominator) row.old row.new }
 {
     let pivot = row[column];
@@ -249,7 +248,7 @@ impl IntegerRow {
         requires rows_there { length rows.now ≡ length coefficients.now }
         requires positions_there { length coefficients.now ≤ length positions.now }
         requires positive { pos 0 <ℤ denominator }
-        ensures { IsTrue result → (self.new ≡ combined_row (nat_abs denominator) positions.now rows.now coefficients.now) × IsWithin (2 ^ 62 - 1) self.new }
+        ensures { IsTrue result → (self.new ≡ combined_row (nat_abs denominator) positions.now rows.now coefficients.now) × IsWithin (size_limit - 1) self.new }
     {
         if self.fill(rows.len()).is_err() {
             return false;
@@ -274,23 +273,23 @@ impl IntegerRow {
         }
     }
 
-    /// Whether each number is below 2^62 in size.
+    /// Whether each number is below `SIZE_LIMIT` in size.
     pub(crate) fn is_within(&self) -> bool
-        ensures { IsTrue result → IsWithin (2 ^ 62 - 1) self.now }
+        ensures { IsTrue result → IsWithin (size_limit - 1) self.now }
     {
-        self.size < LIMIT || greatest_size(&self.numerators) < LIMIT
+        self.size < SIZE_LIMIT || greatest_size(&self.numerators) < SIZE_LIMIT
     }
 
-    /// Whether each number is below 2^62 in size: by the bound or, where that is larger, by a look at each.
+    /// Whether each number is below `SIZE_LIMIT` in size: by the bound or, where that is larger, by a look at each.
     #[inline(always)]
     fn is_small(&mut self) -> bool
         ensures same { self.new ≡ self.old }
-        ensures small { IsTrue result → IsWithin (2 ^ 62 - 1) self.new }
+        ensures small { IsTrue result → IsWithin (size_limit - 1) self.new }
     {
-        if self.size >= LIMIT {
+        if self.size >= SIZE_LIMIT {
             self.size = greatest_size(&self.numerators);
         }
-        self.size < LIMIT
+        self.size < SIZE_LIMIT
     }
 
     /// Substitutes the variable of a column, by its solved row; false where that isn't exact or small.
@@ -303,8 +302,8 @@ impl IntegerRow {
     ) -> bool
         requires column { column < length self.old }
         requires same_width { length self.old ≡ length source.now }
-        requires source_small { IsWithin (2 ^ 62 - 1) source.now }
-        requires pivot_size_small { nat_abs pivot_size < 2 ^ 62 }
+        requires source_small { IsWithin (size_limit - 1) source.now }
+        requires pivot_size_small { nat_abs pivot_size < size_limit }
         ensures { IsTrue result → IsSubstitutedRow divisor.number pivot_size column source.now self.old self.new }
     {
         if !self.is_small() {
@@ -343,8 +342,8 @@ impl IntegerRow {
         divisor: Divisor,
     ) -> bool
         requires column { column < length source.now }
-        requires source_small { IsWithin (2 ^ 62 - 1) source.now }
-        requires pivot_size_small { nat_abs pivot_size < 2 ^ 62 }
+        requires source_small { IsWithin (size_limit - 1) source.now }
+        requires pivot_size_small { nat_abs pivot_size < size_limit }
         ensures { IsTrue result → IsSubstitutedIfFull divisor.number pivot_size column source.now self.old self.new }
     {
         if self.width() == source.width() {
@@ -358,7 +357,7 @@ impl IntegerRow {
     pub(crate) fn solve(&mut self, column: usize, denominator: i64) -> bool
         requires column { column < length self.old }
         requires denominator_positive { pos 0 <ℤ denominator }
-        requires denominator_small { nat_abs denominator < 2 ^ 62 }
+        requires denominator_small { nat_abs denominator < size_limit }
         ensures { IsTrue result → IsSolvedRow column (nat_abs denominator) self.old self.new }
     {
         if !self.is_small() {

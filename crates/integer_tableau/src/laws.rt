@@ -14,7 +14,7 @@ pub fn ratios_and_values_are_exact()
     ensures values { ValuesAreExact }
 {}
 
-/// No tableau of numbers below 2^62 is at a place that is cramped.
+/// No tableau of numbers below `SIZE_LIMIT` is at a place that is cramped.
 pub fn places_are_not_cramped()
     ensures { PlacesAreNotCramped }
 {}

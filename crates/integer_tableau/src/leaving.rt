@@ -2,6 +2,7 @@
 
 ghost use Rattle.std.specs.Prelude.{◌≡◌, ℕ, ◌+◌, ◌*◌, ◌<◌, ◌≤◌, ◌^◌, [], map, drop, pos, nat_abs, ◌<ℤ◌, length, IfOk, IfSome, slice_index_or};
 ghost use Rattle.integer_tableau.specs.Numbers.{number_at, total_size};
+ghost use Rattle.integer_tableau.specs.Range.{size_limit};
 ghost use Rattle.integer_tableau.specs.Combined.{combined_value, expanded_values};
 ghost use Rattle.integer_tableau.specs.Positions.{products};
 ghost use Rattle.integer_tableau.specs.Leaving.{violation_at, leaving_by_numerators};
@@ -66,7 +67,7 @@ fn row_violation(
     denominator: i64,
 ) -> Option<Direction>
     requires width { length numerators.now ≡ length coefficients.now }
-    requires light { total_size coefficients.now < 2 ^ 62 }
+    requires light { total_size coefficients.now < size_limit }
     requires positive { pos 0 <ℤ denominator }
     ensures { result ≡ violation_at (nat_abs denominator) position bounds.now (products coefficients.now numerators.now) }
 {
@@ -89,7 +90,7 @@ fn leaving_row(
     requires positions_there { length positions.now ≡ length numerators.now + length program_rows.now }
     requires bounds_there { length bounds.now ≡ length positions.now }
     requires full { (i : ℕ) → i < length program_rows.now → length (slice_index_or program_rows.now i []) ≡ length numerators.now }
-    requires light { (i : ℕ) → i < length program_rows.now → total_size (slice_index_or program_rows.now i []) < 2 ^ 62 }
+    requires light { (i : ℕ) → i < length program_rows.now → total_size (slice_index_or program_rows.now i []) < size_limit }
     requires positive { pos 0 <ℤ denominator }
     ensures value { result ≡ leaving_by_numerators (nat_abs denominator) (length numerators.now) (drop (length numerators.now) positions.now) (drop (length numerators.now) bounds.now) (map (λ a. products a numerators.now) program_rows.now) }
     ensures within { IfSome result (λ l. l.0 < length positions.now) }
@@ -124,7 +125,7 @@ pub(crate) fn leaving(
     requires bounds_there { length bounds.now ≡ length positions.now }
     requires nonbasic_values_there { length nonbasic_values.now ≡ length positions.now }
     requires full { (i : ℕ) → i < length program_rows.now → length (slice_index_or program_rows.now i []) ≡ length values.now }
-    requires light { (i : ℕ) → i < length program_rows.now → total_size (slice_index_or program_rows.now i []) < 2 ^ 62 }
+    requires light { (i : ℕ) → i < length program_rows.now → total_size (slice_index_or program_rows.now i []) < size_limit }
     requires near { (j : ℕ) → j < length values.now → nat_abs (number_at nonbasic_values.now j) * nat_abs denominator < 2 ^ 63 }
     requires positive { pos 0 <ℤ denominator }
     ensures value { IfOk result (λ l. l ≡ leaving_by_numerators (nat_abs denominator) 0 positions.now bounds.now (expanded_values (nat_abs denominator) program_rows.now positions.now nonbasic_values.now values.now)) }

@@ -20,6 +20,7 @@ mod pivot;
 mod place;
 mod position;
 mod program_row;
+mod range;
 mod reading;
 mod run;
 mod start;

@@ -3,6 +3,7 @@
 ghost use Rattle.std.specs.Prelude.{◌≡◌, ℕ, ◌+◌, ◌*◌, ◌%◌, ◌<◌, ◌≤◌, ◌^◌, pos, nat_abs, ◌+ℤ◌, ◌*ℤ◌, length, IsTrue};
 ghost use Rattle.std.specs.Int.{w64, int_wrap};
 ghost use Rattle.integer_tableau.specs.Numbers.{number_at};
+ghost use Rattle.integer_tableau.specs.Range.{size_limit};
 ghost use Rattle.integer_tableau.specs.Substitution.{IsSubstituted};
 
 use crate::divisor::Divisor;
@@ -27,7 +28,7 @@ fn low_sum(a: i64, e: i64, s: i64, q: i64) -> i64
 /// reach is a multiple of a power of 2, the sum is one only where the number is.
 #[inline(always)]
 fn raised(number: i64, reach: u64) -> u64
-    requires { reach ≤ 2 ^ 62 }
+    requires { reach ≤ size_limit }
     ensures size { result < 2 * reach → nat_abs number ≤ reach }
     ensures whole { (k : ℕ) → k < 64 → reach % 2 ^ k ≡ 0 → result % 2 ^ k ≡ 0 → nat_abs number % 2 ^ k ≡ 0 }
 {

@@ -3,6 +3,7 @@
 ghost use Rattle.std.specs.Prelude.{◌≡◌, ℕ, ◌+◌, ◌*◌, ◌-◌, ◌<◌, ◌^◌, List, ℤ, [], pos, nat_abs, ◌-ℤ◌, ◌*ℤ◌, ◌<ℤ◌, length, slice_index_or, slice_set, IsTrue, IfSome, Some};
 ghost use Rattle.tableau.specs.Pivot.{pivoted};
 ghost use Rattle.integer_tableau.specs.Numbers.{number_at, IsWithin, total_size};
+ghost use Rattle.integer_tableau.specs.Range.{size_limit};
 ghost use Rattle.integer_tableau.specs.Substitution.{quotient_numerator};
 ghost use Rattle.integer_tableau.specs.IntegerTableau.{of_parts};
 ghost use Rattle.integer_tableau.specs.Combined.{expanded_rows, expanded_values, IsCompact};
@@ -64,7 +65,7 @@ pub(crate) fn value_of(
     requires nonbasic_values_there { length nonbasic_values.now ≡ length positions.now }
     requires variable_there { variable < length positions.now }
     requires full { (i : ℕ) → i < length program_rows.now → length (slice_index_or program_rows.now i []) ≡ length values.now }
-    requires light { (i : ℕ) → i < length program_rows.now → total_size (slice_index_or program_rows.now i []) < 2 ^ 62 }
+    requires light { (i : ℕ) → i < length program_rows.now → total_size (slice_index_or program_rows.now i []) < size_limit }
     requires near { (j : ℕ) → j < length values.now → nat_abs (number_at nonbasic_values.now j) * nat_abs denominator < 2 ^ 63 }
     requires positive { pos 0 <ℤ denominator }
     ensures { result ≡ number_at (expanded_values (nat_abs denominator) program_rows.now positions.now nonbasic_values.now values.now) variable }
@@ -187,7 +188,7 @@ fn leave(
     requires positions_there { length positions.now ≡ length rows.old + length program_rows.now }
     requires values_there { length values.now ≡ length rows.old }
     requires full { (i : ℕ) → i < length program_rows.now → length (slice_index_or program_rows.now i []) ≡ length rows.old }
-    requires light { (i : ℕ) → i < length program_rows.now → total_size (slice_index_or program_rows.now i []) < 2 ^ 62 }
+    requires light { (i : ℕ) → i < length program_rows.now → total_size (slice_index_or program_rows.now i []) < size_limit }
     requires near { (j : ℕ) → j < length values.now → nat_abs (number_at nonbasic_values.now j) * nat_abs denominator < 2 ^ 63 }
     ensures value { IfSome result (λ e. e.0 ≡ number_at (expanded_values (nat_abs denominator) program_rows.now positions.now nonbasic_values.now values.now) leaving) }
     ensures row { IfSome result (λ e. leaving_row.new ≡ slice_index_or (expanded_rows (nat_abs denominator) program_rows.now positions.now rows.old) leaving []) }
@@ -240,7 +241,7 @@ fn exchange_numbers(
     exchange: Exchange,
 ) -> bool
     requires positive { pos 0 <ℤ denominator }
-    requires small { nat_abs denominator < 2 ^ 62 }
+    requires small { nat_abs denominator < size_limit }
     requires values_there { length values.old ≡ length rows.old }
     requires width { length leaving_row.old ≡ length reduced_costs.old }
     requires column { exchange.column < length reduced_costs.old }

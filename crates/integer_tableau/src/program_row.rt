@@ -1,9 +1,11 @@
 // The rows of a linear program, as tableaus read them.
 
-ghost use Rattle.std.specs.Prelude.{◌≡◌, ◌-◌, ◌^◌, length, IfOk, IsTrue};
+ghost use Rattle.std.specs.Prelude.{◌≡◌, ◌-◌, length, IfOk, IsTrue};
 ghost use Rattle.integer_tableau.specs.Numbers.{ArePlaces, IsWithin};
+ghost use Rattle.integer_tableau.specs.Range.{size_limit};
 
-use crate::integer_row::{LIMIT, greatest_size};
+use crate::integer_row::greatest_size;
+use crate::range::SIZE_LIMIT;
 use std::alloc::{AllocError, Global};
 use std::marker::Model;
 
@@ -69,10 +71,10 @@ impl ProgramRow {
         &self.places
     }
 
-    /// Whether each coefficient is below 2^62 in size.
+    /// Whether each coefficient is below `SIZE_LIMIT` in size.
     pub(crate) fn is_within(&self) -> bool
-        ensures { IsTrue result → IsWithin (2 ^ 62 - 1) self.now }
+        ensures { IsTrue result → IsWithin (size_limit - 1) self.now }
     {
-        greatest_size(&self.coefficients) < LIMIT
+        greatest_size(&self.coefficients) < SIZE_LIMIT
     }
 }

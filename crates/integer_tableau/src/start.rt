@@ -1,8 +1,9 @@
 // The tableau at the start.
 
-ghost use Rattle.std.specs.Prelude.{◌≡◌, ℕ, ◌+◌, ◌<◌, ◌≤◌, ◌^◌, ◌++◌, [], pos, length, map, replicate, slice_index_or, IsTrue, IfOk, IfSome, false, Some, None};
+ghost use Rattle.std.specs.Prelude.{◌≡◌, ℕ, ◌+◌, ◌<◌, ◌≤◌, ◌++◌, [], pos, length, map, replicate, slice_index_or, IsTrue, IfOk, IfSome, false, Some, None};
 ghost use Rattle.tableau.specs.LinearProgram.{variables, over};
 ghost use Rattle.tableau.specs.Start.{started};
+ghost use Rattle.integer_tableau.specs.Range.{size_limit};
 ghost use Rattle.integer_tableau.specs.Combined.{bound_size, total_bound_size};
 ghost use Rattle.integer_tableau.specs.IntegerProgram.{fraction_program, IsReady};
 ghost use Rattle.integer_tableau.specs.Start.{columns_from, is_negative, start_number, start_numbers};
@@ -14,6 +15,7 @@ use crate::integer_tableau::{Fixed, IntegerTableau};
 use crate::pivot::is_near;
 use crate::position::Position;
 use crate::program_row::ProgramRow;
+use crate::range::SIZE_LIMIT;
 use problem_box::IntBox;
 use std::alloc::{AllocError, Global};
 use std::rc::RcSlice;
@@ -117,9 +119,9 @@ fn empty_rows(alloc: Global, count: usize) -> Result<Vec<IntegerRow>, AllocError
     Ok(rows)
 }
 
-/// Whether the sizes of all bounds add up to less than 2^62.
+/// Whether the sizes of all bounds add up to less than `SIZE_LIMIT`.
 fn has_room(bounds: &[IntegerBounds]) -> bool
-    ensures { IsTrue result → total_bound_size bounds.now < 2 ^ 62 }
+    ensures { IsTrue result → total_bound_size bounds.now < size_limit }
 {
     let mut total = 0u64;
     for own in bounds {
@@ -128,7 +130,7 @@ fn has_room(bounds: &[IntegerBounds]) -> bool
             None => return false,
         }
     }
-    total < 1 << 62
+    total < SIZE_LIMIT
 }
 
 /// The greatest size of the columns' bounds.

@@ -1,6 +1,6 @@
 // The values of the columns.
 
-ghost use Rattle.std.specs.Prelude.{◌≡◌, ℕ, ◌<◌, ◌^◌, [], pos, nat_abs, ◌-ℤ◌, ◌*ℤ◌, ◌+ℤ◌, ◌<ℤ◌, length, IsTrue, IfSome, slice_index_or, slice_set};
+ghost use Rattle.std.specs.Prelude.{◌≡◌, ℕ, ◌<◌, [], pos, nat_abs, ◌-ℤ◌, ◌*ℤ◌, ◌+ℤ◌, ◌<ℤ◌, length, IsTrue, IfSome, slice_index_or, slice_set};
 ghost use Rattle.integer_tableau.specs.Numbers.{number_at};
 ghost use Rattle.integer_tableau.specs.Substitution.{quotient_numerator};
 ghost use Rattle.integer_tableau.specs.Pivot.{IsSubstitutedValue, AreSubstitutedValues};

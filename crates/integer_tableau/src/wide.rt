@@ -2,6 +2,7 @@
 
 ghost use Rattle.std.specs.Prelude.{◌≡◌, ◌<◌, ◌≤◌, ◌^◌, ◌-◌, nat_abs, ◌-ℤ◌, ◌*ℤ◌, length, IsTrue};
 ghost use Rattle.integer_tableau.specs.Numbers.{IsWithin};
+ghost use Rattle.integer_tableau.specs.Range.{size_limit};
 ghost use Rattle.integer_tableau.specs.Substitution.{IsDifference};
 
 /// The low 64 bits.
@@ -10,7 +11,7 @@ const LOW: u128 = 0xFFFF_FFFF_FFFF_FFFF;
 /// The product of a number of 64 bits and one of 62 bits.
 #[inline(always)]
 fn product(a: i64, b: i64) -> i128
-    requires { nat_abs b < 2 ^ 62 }
+    requires { nat_abs b < size_limit }
     ensures value { result ≡ a *ℤ b }
     ensures small { nat_abs result ≤ 2 ^ 125 }
 {
@@ -20,8 +21,8 @@ fn product(a: i64, b: i64) -> i128
 /// `s * q - a * m`.
 #[inline(always)]
 fn determinant(a: i64, m: i64, s: i64, q: i64) -> i128
-    requires m_small { nat_abs m < 2 ^ 62 }
-    requires q_small { nat_abs q < 2 ^ 62 }
+    requires m_small { nat_abs m < size_limit }
+    requires q_small { nat_abs q < size_limit }
     ensures value { result ≡ s *ℤ q -ℤ a *ℤ m }
     ensures small { nat_abs result ≤ 2 ^ 126 }
 {
@@ -39,7 +40,7 @@ pub(crate) fn trial_quotient(dividend: i128, zeros: u32, inverse: i64) -> i64 {
 /// By how much the product of quotient and denominator differs from the dividend; 0 only where it doesn't.
 #[inline(always)]
 fn discrepancy(quotient: i64, denominator: i64, dividend: i128) -> u128
-    requires denominator_small { nat_abs denominator < 2 ^ 62 }
+    requires denominator_small { nat_abs denominator < size_limit }
     requires dividend_small { nat_abs dividend ≤ 2 ^ 126 }
     ensures { result ≡ 0 → quotient *ℤ denominator ≡ dividend }
 {
@@ -61,11 +62,11 @@ pub(crate) fn substitute_wide(
     inverse: i64,
 ) -> bool
     requires same_width { length row.old ≡ length source.now }
-    requires row_small { IsWithin (2 ^ 62 - 1) row.old }
-    requires source_small { IsWithin (2 ^ 62 - 1) source.now }
-    requires row_factor_small { nat_abs row_factor < 2 ^ 62 }
-    requires source_factor_small { nat_abs source_factor < 2 ^ 62 }
-    requires denominator_small { nat_abs denominator < 2 ^ 62 }
+    requires row_small { IsWithin (size_limit - 1) row.old }
+    requires source_small { IsWithin (size_limit - 1) source.now }
+    requires row_factor_small { nat_abs row_factor < size_limit }
+    requires source_factor_small { nat_abs source_factor < size_limit }
+    requires denominator_small { nat_abs denominator < size_limit }
     ensures { IsTrue result → IsDifference denominator row_factor source_factor row.old source.now row.new }
 {
     let mut differences = 0;

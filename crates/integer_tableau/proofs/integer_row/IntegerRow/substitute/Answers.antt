@@ -1,9 +1,10 @@
-use Rattle.std.proofs.Common.{◌≡◌, ◌<◌, ◌∙◌, ℤ, pos, of_z, to_z, length, arith, ap, sym, refl, subst, rules, w64}
+use Rattle.std.proofs.Common.{◌-◌, ◌≡◌, ◌<◌, ◌∙◌, ℤ, pos, of_z, to_z, length, arith, ap, sym, refl, subst, rules, w64}
 use mir.Val.{SFits}
 use Rattle.std.proofs.lemmas.List.{get_or_default}
 use Rattle.std.proofs.lemmas.Int.{to_z-of_z}
 use Rattle.integer_tableau.proofs.Sizes.{stays_from, step_from, written}
 use Rattle.integer_tableau.specs.Numbers.{IsWithin, number_at}
+use Rattle.integer_tableau.specs.Range.{size_limit}
 use Rattle.integer_tableau.specs.Substitution.{IsSubstitutedRow}
 use Rattle.integer_tableau.proofs.integer_row.IntegerRow.substitute.Goals as goal
 
@@ -14,7 +15,7 @@ returns-in-Some c = λ small.
     (c.deref_mut.ensures.value ∙ c.self.view_is ∙ c.is_small.ensures.same)
     (c.deref.ensures.value ∙ c.source.view_is)
     (c.is_small-in-Some.ensures.same ∙ written c.substitute_column.new.row c.self.inside.numerators.items c.self.inside.numerators.len (c.substitute_column.auto.row ∙ c.deref_mut.ensures.len))
-    (subst (IsWithin 4611686018427387903) c.is_small.ensures.same (c.if-not-is_small.ensures.small refl))
+    (subst (IsWithin (size_limit - 1)) c.is_small.ensures.same (c.if-not-is_small.ensures.small refl))
     (c.is_small-in-Some.ensures.small small)
     (c.in-Some.ensures.numbers refl)
     c.substitute_column.auto.row)

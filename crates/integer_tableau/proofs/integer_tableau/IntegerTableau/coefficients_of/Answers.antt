@@ -1,4 +1,4 @@
-use Rattle.std.proofs.Common.{arith, refl, ◌≡◌, ◌∙◌, ◌-◌, ◌<◌, ◌≤◌, ◌^◌, [], length, rules, ap, sym, subst, nat_abs, drop, w64, get_or}
+use Rattle.std.proofs.Common.{arith, refl, ◌≡◌, ◌∙◌, ◌-◌, ◌<◌, ◌≤◌, [], length, rules, ap, sym, subst, nat_abs, drop, w64, get_or}
 use mir.Val.{SFits}
 use Rattle.std.proofs.lemmas.Int.{to_z-of_z}
 use Rattle.std.proofs.lemmas.List.{get_or_default, take_rest}
@@ -8,6 +8,7 @@ use Rattle.integer_tableau.proofs.FromCode.{is_there, statuses_as_many}
 use Rattle.integer_tableau.proofs.Lists.{if_ok}
 use Rattle.integer_tableau.specs.Combined.{combined_row}
 use Rattle.integer_tableau.specs.Numbers.{total_size}
+use Rattle.integer_tableau.specs.Range.{size_limit}
 use Rattle.integer_tableau.specs.Positions.{coefficients}
 use Rattle.integer_tableau.specs.declared.position.Position.TheVariants.{InBasis}
 use Rattle.integer_tableau.proofs.integer_tableau.IntegerTableau.coefficients_of.Goals as goal
@@ -73,7 +74,7 @@ combined_coefficients-requires-clause-positions_there c = omega (arith, row_full
 
 pub combined_coefficients-requires-clause-light : goal.combined_coefficients-requires-clause-light
 combined_coefficients-requires-clause-light c =
-    subst (λ a. total_size a < 2 ^ 62) (sym (row_is c)) (light_rows _ _ _ _ c.self.invariant.0 (c.args.row - c.len-columns.result) (place_there c))
+    subst (λ a. total_size a < size_limit) (sym (row_is c)) (light_rows _ _ _ _ c.self.invariant.0 (c.args.row - c.len-columns.result) (place_there c))
 
 pub returns-then-row-columns : goal.returns-then-row-columns
 returns-then-row-columns c =

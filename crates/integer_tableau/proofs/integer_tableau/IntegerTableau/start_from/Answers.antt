@@ -1,5 +1,6 @@
 use Rattle.std.proofs.Common.{◌≡◌, ◌^◌, ◌<◌, ◌≤◌, ◌++◌, ℕ, [], length, get_or, replicate, map, pos, None, arith, refl, ap, subst, ◌∙◌, false}
 use Rattle.std.proofs.lemmas.Int.{ints}
+use Rattle.integer_tableau.specs.Range.{size_limit}
 use Rattle.integer_tableau.specs.Combined.{bound_size, total_bound_size}
 use Rattle.integer_tableau.specs.Start.{columns_from, is_negative, start_numbers}
 use Rattle.integer_tableau.specs.declared.position.Position.TheVariants.{InBasis}
@@ -33,8 +34,8 @@ module _ (c : In_ok-copy) where
   near : c.reach_of-reach.result < 2 ^ 63
   near = omega (arith, c.if-not-is_near.ensures refl)
 
-  room : total_bound_size c.args.bounds.items < 2 ^ 62
-  room = subst (λ bs. total_bound_size bs < 2 ^ 62) c.deref-2.ensures.value (c.if-not-has_room.ensures refl)
+  room : total_bound_size c.args.bounds.items < size_limit
+  room = subst (λ bs. total_bound_size bs < size_limit) c.deref-2.ensures.value (c.if-not-has_room.ensures refl)
 
 pub invariant_of-result : goal.invariant_of-result
 invariant_of-result c = (
