@@ -1,11 +1,11 @@
 -- One denominator for all numbers of a tableau.
 use Rattle.std.proofs.Common.{◌≡◌, ℕ, zero, suc, ◌+◌, ◌-◌, ◌*◌, ◌≤◌, ◌<◌, arith, ap, sym, ◌∙◌, subst, List, [], ◌∷◌, length, get_or, inl, inr}
 use Rattle.std.specs.Prelude.{ℤ, pos, ◌<ℤ◌, nat_abs, All}
-use Rattle.std.proofs.Math.Nat.{mul-one, mul-le-mul_right}
+use Rattle.std.proofs.Math.Nat.{mul-one}
 use Rattle.std.proofs.lemmas.Int.{unsigned_abs-mul}
 use Rattle.std.proofs.lemmas.List.Elements.{All-nil, All-cons}
 use Rattle.fraction.specs.Bounds.{Within}
-use Rattle.fraction.specs.Rational.{ℚ, frac, whole}
+use Rattle.fraction.specs.Rational.{frac, whole}
 use Rattle.fraction.specs.Lemmas.Bounds.{Within-more}
 use Rattle.integer_tableau.proofs.Expanded.{value_of_column, value_of_row, which}
 use Rattle.integer_tableau.proofs.Fractions.{Within-frac}

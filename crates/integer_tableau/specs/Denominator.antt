@@ -1,5 +1,5 @@
 -- One denominator for all numbers of a tableau.
-use Rattle.std.specs.Prelude.{ℕ, ◌<◌, ◌^◌, All}
+use Rattle.std.specs.Prelude.{ℕ, ◌<◌, All}
 use Rattle.fraction.specs.Bounds.{Within}
 use Rattle.tableau.specs.Tableau.{Tableau}
 use Rattle.integer_tableau.specs.Range.{size_limit}
