@@ -116,6 +116,11 @@ pub near_from_code : (ps : List (List ℤ)) (weight reach : ℕ) (w : IntegerTab
 near_from_code ps weight reach w compact xs vs d xs_are vs_are d_is j l =
     rw (xs_are, d_is) (near_values ps weight reach w compact j (omega (arith, l, ap length vs_are, compact.values)))
 
+-- the row of a variable is small
+pub small_from_code : (ps : List (List ℤ)) (weight reach : ℕ) (w : IntegerTableau) → IsCompact ps weight reach w → (ps' : List (List ℤ)) (ss : List Position) (rows : List (List ℤ)) (d v : ℕ)
+    → ps' ≡ ps → ss ≡ w.positions → rows ≡ w.rows → d ≡ w.denominator → IsWithin (size_limit - 1) (get_or (expanded_rows d ps' ss rows) v [])
+small_from_code ps weight reach w compact ps' ss rows d v ps_are ss_are rows_are d_is = rw (ps_are, ss_are, rows_are, d_is) (compact.consistent.rows_within v)
+
 pub carried : (numbers : List ℕ) (ps ps' : List (List ℤ)) (weight reach r c : ℕ) (w w' v v' : IntegerTableau) (t : Tableau) → ps ≡ ps' → w ≡ w' → v ≡ v'
     → tableau_of (length w'.rows) numbers (expanded ps' w') ≡ t → IsPivoted ps weight reach r c w v
     → (pivoted r c t ≡ Some (tableau_of (length v'.rows) numbers (expanded ps' v'))) × IsCompact ps' weight reach v'

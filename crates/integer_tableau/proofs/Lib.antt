@@ -28,3 +28,4 @@ mod Denominators
 mod Statuses
 mod ToFractions
 mod Products
+mod LowSums

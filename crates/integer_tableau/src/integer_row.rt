@@ -8,6 +8,7 @@ ghost use Rattle.integer_tableau.specs.Substitution.{IsSubstituted, IsSolved, Is
 
 use crate::combination::add_columns;
 use crate::divisor::Divisor;
+use crate::low_sums;
 use crate::position::Position;
 use crate::program_row::ProgramRow;
 use crate::range::SIZE_LIMIT;
@@ -271,6 +272,35 @@ impl IntegerRow {
             self.size = 0;
             false
         }
+    }
+
+    /// The same of a combination whose numbers are known to be small; false where memory is wanting, a column's row hasn't as many numbers, or
+    /// they aren't small.
+    pub(crate) fn combine_small(
+        &mut self,
+        coefficients: &ProgramRow,
+        positions: &[Position],
+        rows: &[IntegerRow],
+        denominator: i64,
+    ) -> bool
+        requires rows_there { length rows.now ≡ length coefficients.now }
+        requires positions_there { length coefficients.now ≤ length positions.now }
+        requires positive { pos 0 <ℤ denominator }
+        requires small { IsWithin (size_limit - 1) (combined_row (nat_abs denominator) positions.now rows.now coefficients.now) }
+        ensures { IsTrue result → self.new ≡ combined_row (nat_abs denominator) positions.now rows.now coefficients.now }
+    {
+        if self.fill(rows.len()).is_err() {
+            return false;
+        }
+        let is_full = low_sums::add_columns(
+            &mut self.numerators,
+            coefficients.numerators(),
+            positions,
+            rows,
+            denominator,
+        );
+        self.size = greatest_size(&self.numerators);
+        is_full && self.is_small()
     }
 
     /// Whether each number is below `SIZE_LIMIT` in size.

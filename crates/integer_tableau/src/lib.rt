@@ -15,6 +15,7 @@ mod integer_row;
 mod integer_tableau;
 pub mod laws;
 mod leaving;
+mod low_sums;
 mod narrow;
 mod pivot;
 mod place;

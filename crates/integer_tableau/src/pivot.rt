@@ -83,7 +83,7 @@ pub(crate) fn value_of(
     }
 }
 
-/// Puts the row of a basic variable into `leaving_row`, and leaves none in its place; false where it isn't kept, and its numbers are too large.
+/// Puts the row of a basic variable into `leaving_row`, and leaves none in its place; false where it isn't kept, and memory is wanting.
 fn take_row(
     rows: &mut [IntegerRow],
     leaving_row: &mut IntegerRow,
@@ -97,6 +97,7 @@ fn take_row(
     requires basic { slice_index_or positions.now leaving Position.InBasis ≡ Position.InBasis }
     requires full { (i : ℕ) → i < length program_rows.now → length (slice_index_or program_rows.now i []) ≡ length rows.old }
     requires positive { pos 0 <ℤ denominator }
+    requires small { IsWithin (size_limit - 1) (slice_index_or (expanded_rows (nat_abs denominator) program_rows.now positions.now rows.old) leaving []) }
     ensures row { IsTrue result → leaving_row.new ≡ slice_index_or (expanded_rows (nat_abs denominator) program_rows.now positions.now rows.old) leaving [] }
     ensures rows { IsTrue result → rows.new ≡ slice_set rows.old leaving [] }
 {
@@ -106,7 +107,7 @@ fn take_row(
         mem::swap(&mut rows[leaving], leaving_row);
         true
     } else {
-        leaving_row.combine(
+        leaving_row.combine_small(
             &program_rows[leaving - columns],
             positions,
             rows,
@@ -190,6 +191,7 @@ fn leave(
     requires full { (i : ℕ) → i < length program_rows.now → length (slice_index_or program_rows.now i []) ≡ length rows.old }
     requires light { (i : ℕ) → i < length program_rows.now → total_size (slice_index_or program_rows.now i []) < size_limit }
     requires near { (j : ℕ) → j < length values.now → nat_abs (number_at nonbasic_values.now j) * nat_abs denominator < 2 ^ 63 }
+    requires small { IsWithin (size_limit - 1) (slice_index_or (expanded_rows (nat_abs denominator) program_rows.now positions.now rows.old) leaving []) }
     ensures value { IfSome result (λ e. e.0 ≡ number_at (expanded_values (nat_abs denominator) program_rows.now positions.now nonbasic_values.now values.now) leaving) }
     ensures row { IfSome result (λ e. leaving_row.new ≡ slice_index_or (expanded_rows (nat_abs denominator) program_rows.now positions.now rows.old) leaving []) }
     ensures rows { IfSome result (λ e. rows.new ≡ slice_set rows.old leaving []) }

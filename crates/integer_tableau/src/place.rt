@@ -1,7 +1,9 @@
 // What a tableau asks for next.
 
-ghost use Rattle.std.specs.Prelude.{◌≡◌, ◌≢◌, ℕ, ◌+◌, ◌<◌, [], pos, nat_abs, ◌<ℤ◌, length, IfSome, None, slice_index_or};
+ghost use Rattle.std.specs.Prelude.{◌≡◌, ◌≢◌, ℕ, ◌+◌, ◌-◌, ◌<◌, [], pos, nat_abs, ◌<ℤ◌, length, IfSome, None, slice_index_or};
 ghost use Rattle.tableau.specs.Place.{PlaceIsWithin};
+ghost use Rattle.integer_tableau.specs.Numbers.{IsWithin};
+ghost use Rattle.integer_tableau.specs.Range.{size_limit};
 ghost use Rattle.integer_tableau.specs.Combined.{expanded_rows};
 ghost use Rattle.integer_tableau.specs.Entering.{entering_by_numerators};
 ghost use Rattle.integer_tableau.specs.Place.{place_of_candidate};
@@ -40,8 +42,7 @@ fn place_by_row(
     }
 }
 
-/// The place where this variable leaves; none where it isn't basic, or its row isn't kept and has numbers that are too large, or no memory
-/// is left for it.
+/// The place where this variable leaves; none where it isn't basic, or its row isn't kept and no memory is left for it.
 pub(crate) fn place_where_leaving(
     alloc: Global,
     leaving: usize,
@@ -60,6 +61,7 @@ pub(crate) fn place_where_leaving(
     requires leaving_there { leaving < length positions.now }
     requires full { (i : ℕ) → i < length program_rows.now → length (slice_index_or program_rows.now i []) ≡ length rows.now }
     requires positive { pos 0 <ℤ denominator }
+    requires small { IsWithin (size_limit - 1) (slice_index_or (expanded_rows (nat_abs denominator) program_rows.now positions.now rows.now) leaving []) }
     ensures value { IfSome result (λ p. p ≡ place_of_candidate leaving (entering_by_numerators 0 direction None positions.now at_upper.now bounds.now reduced_costs.now (slice_index_or (expanded_rows (nat_abs denominator) program_rows.now positions.now rows.now) leaving []))) }
     ensures within { IfSome result (λ p. PlaceIsWithin (length positions.now) p) }
     ensures exact { IfSome result (λ p. p ≢ Place.Cramped) }
@@ -80,7 +82,7 @@ pub(crate) fn place_where_leaving(
         ));
     }
     let mut row = IntegerRow::empty(alloc);
-    if !row.combine(
+    if !row.combine_small(
         &program_rows[leaving - columns],
         positions,
         rows,

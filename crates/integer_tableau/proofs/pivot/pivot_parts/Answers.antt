@@ -8,11 +8,15 @@ use Rattle.integer_tableau.specs.Numbers.{number_at}
 use Rattle.integer_tableau.specs.Pivot.{AreSubstitutedValues, IsEliminated, IsPivotOf, IsPivoted}
 use Rattle.integer_tableau.proofs.Exchanges.{positions_exchanged}
 use Rattle.integer_tableau.specs.Substitution.{quotient_numerator}
-use Rattle.integer_tableau.proofs.FromCode.{near_from_code, pivoted_from, positive_from}
+use Rattle.integer_tableau.proofs.FromCode.{near_from_code, pivoted_from, positive_from, small_from_code}
 use Rattle.integer_tableau.proofs.pivot.pivot_parts.Goals as goal
 
 pub leave-requires-clause-near : goal.leave-requires-clause-near
 leave-requires-clause-near c = near_from_code _ _ _ _ c.requires.compact c.args.nonbasic_values.now c.args.values.now _ refl refl (ap nat_abs (to_z-of_z w64 c.args.denominator c.ranges.denominator))
+
+pub leave-requires-clause-small : goal.leave-requires-clause-small
+leave-requires-clause-small c =
+    small_from_code _ _ _ _ c.requires.compact c.args.program_rows.now c.args.positions.now c.args.rows.now _ c.args.leaving refl refl refl (ap nat_abs (to_z-of_z w64 c.args.denominator c.ranges.denominator))
 
 pub exchange_numbers-requires-clause-column : goal.exchange_numbers-requires-clause-column
 exchange_numbers-requires-clause-column c = c.requires.compact.consistent.within c.args.entering c.in_ok-value.exchange.column c.in_ok-value.ensures.there.entering

@@ -1,7 +1,7 @@
 use Rattle.std.proofs.Common.{ap, sym, ◌∙◌, [], subst, w64, nat_abs, get_or, length, rules, None}
 use mir.Val.{SFits}
 use Rattle.std.proofs.lemmas.Int.{to_z-of_z}
-use Rattle.integer_tableau.proofs.FromCode.{chosen_from_code, near_from_code, place_from_code, statuses_as_many}
+use Rattle.integer_tableau.proofs.FromCode.{chosen_from_code, near_from_code, place_from_code, small_from_code, statuses_as_many}
 use Rattle.integer_tableau.proofs.Lists.{if_some}
 use Rattle.integer_tableau.specs.Combined.{expanded_rows, expanded_values}
 use Rattle.integer_tableau.specs.Entering.{entering_by_numerators}
@@ -15,6 +15,12 @@ leaving-requires-clause-near c =
     let n = c.self.inside in
     let f : SFits w64 n.denominator = search rules in
     near_from_code _ _ _ _ c.self.invariant.0 c.deref-4.result.now c.deref-5.result.now _ c.deref-4.ensures.value c.deref-5.ensures.value (ap nat_abs (to_z-of_z w64 n.denominator f))
+
+pub place_where_leaving-requires-clause-small : goal.place_where_leaving-requires-clause-small
+place_where_leaving-requires-clause-small c =
+    let n = c.self.inside in
+    let f : SFits w64 n.denominator = search rules in
+    small_from_code _ _ _ _ c.self.invariant.0 _ _ _ _ c.in-Some.row c.deref-in-Some.ensures.value c.deref-in-Some-2.ensures.value c.deref-in-Some-5.ensures.value (ap nat_abs (to_z-of_z w64 n.denominator f))
 
 pub returns-in-None-clause-value : goal.returns-in-None-clause-value
 returns-in-None-clause-value c =

@@ -1,0 +1,89 @@
+// Combinations of columns modulo 2^64: the sums on the way are often larger than the whole ones.
+
+ghost use Rattle.std.specs.Prelude.{◌≡◌, ℕ, ◌<◌, ◌≤◌, [], pos, nat_abs, ◌+ℤ◌, ◌*ℤ◌, ◌<ℤ◌, length, IsTrue};
+ghost use Rattle.std.specs.Int.{w64, int_wrap};
+ghost use Rattle.integer_tableau.specs.Numbers.{number_at};
+ghost use Rattle.integer_tableau.specs.Combined.{numerator_of, combined};
+
+use crate::integer_row::IntegerRow;
+use crate::position::Position;
+
+/// `number + factor * other` modulo 2^64.
+#[inline(always)]
+fn multiple_sum(number: i64, factor: i64, other: i64) -> i64
+    ensures { result ≡ int_wrap w64 (number +ℤ factor *ℤ other) }
+{
+    number.wrapping_add(factor.wrapping_mul(other))
+}
+
+/// Adds a multiple of a row to sums.
+fn add_multiple(sums: &mut [i64], row: &[i64], factor: i64)
+    requires { length row.now ≡ length sums.old }
+    ensures { (k : ℕ) → k < length sums.old → int_wrap w64 (number_at sums.new k) ≡ int_wrap w64 (number_at sums.old k +ℤ factor *ℤ number_at row.now k) }
+{
+    for (k, number) in sums.iter_mut().enumerate() {
+        *number = multiple_sum(*number, factor, row[k]);
+    }
+}
+
+/// Adds a product to the sum of a column.
+fn add_product(sums: &mut [i64], column: usize, factor: i64, denominator: i64)
+    requires there { column < length sums.old }
+    requires positive { pos 0 <ℤ denominator }
+    ensures { (k : ℕ) → k < length sums.old → int_wrap w64 (number_at sums.new k) ≡ int_wrap w64 (number_at sums.old k +ℤ factor *ℤ numerator_of (nat_abs denominator) [] (Position.InColumn column) k) }
+{
+    sums[column] = multiple_sum(sums[column], factor, denominator);
+}
+
+/// Adds what a column says, times its coefficient, to the sums; false where the row hasn't as many numbers.
+fn add_column(
+    sums: &mut [i64],
+    coefficient: i64,
+    position: Position,
+    row: &IntegerRow,
+    denominator: i64,
+) -> bool
+    requires { pos 0 <ℤ denominator }
+    ensures { IsTrue result → (k : ℕ) → k < length sums.old → int_wrap w64 (number_at sums.new k) ≡ int_wrap w64 (number_at sums.old k +ℤ coefficient *ℤ numerator_of (nat_abs denominator) row.now position k) }
+{
+    if coefficient == 0 {
+        return true;
+    }
+    match position {
+        Position::InBasis => {
+            if row.width() != sums.len() {
+                return false;
+            }
+            add_multiple(sums, row.numerators(), coefficient);
+        }
+        Position::InColumn(column) => {
+            if column >= sums.len() {
+                return false;
+            }
+            add_product(sums, column, coefficient, denominator);
+        }
+    }
+    true
+}
+
+/// Adds up what the columns say, each times its coefficient; false where a row hasn't as many numbers.
+pub(crate) fn add_columns(
+    sums: &mut [i64],
+    coefficients: &[i64],
+    positions: &[Position],
+    rows: &[IntegerRow],
+    denominator: i64,
+) -> bool
+    requires zero { (k : ℕ) → number_at sums.old k ≡ pos 0 }
+    requires rows_there { length rows.now ≡ length coefficients.now }
+    requires positions_there { length coefficients.now ≤ length positions.now }
+    requires positive { pos 0 <ℤ denominator }
+    ensures { IsTrue result → (k : ℕ) → k < length sums.old → int_wrap w64 (number_at sums.new k) ≡ int_wrap w64 (combined (nat_abs denominator) coefficients.now positions.now rows.now k) }
+{
+    for (j, coefficient) in coefficients.iter().enumerate() {
+        if !add_column(sums, *coefficient, positions[j], &rows[j], denominator) {
+            return false;
+        }
+    }
+    true
+}
