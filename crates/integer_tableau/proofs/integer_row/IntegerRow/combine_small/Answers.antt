@@ -1,4 +1,4 @@
-use Rattle.std.proofs.Common.{◌≡◌, ◌-◌, length, replicate, nat_abs, pos, rules, ap, sym, subst, ◌∙◌, w64, arith}
+use Rattle.std.proofs.Common.{◌≡◌, ◌-◌, length, replicate, nat_abs, pos, rules, ap, subst, ◌∙◌, w64, arith}
 use Rattle.std.specs.Int.{int_wrap}
 use Rattle.std.proofs.lemmas.Int.{to_z-of_z}
 use Rattle.std.proofs.lemmas.List.{length-replicate}
