@@ -1,4 +1,5 @@
 use Rattle.std.proofs.Common.{◌≡◌, ◌<◌, ◌≤◌, ℕ, Option, Some, IsSomeAnd, arith, subst, sym}
+use Rattle.core_search.specs.Visits.{SearchesNodes}
 use Rattle.command_words.specs.declared.limits.Limits.{Limits}
 use Rattle.solve_top.specs.Searchers.{SearchesOn}
 use Rattle.solve_top.proofs.Searching.{ended}
@@ -27,4 +28,9 @@ returns g c =
       cause = e.cause;
     } in
     let asked = subst (λ (l : Limits). SearchesOn l c.args.pool c.search-ending.result c.search-ending.new.pool) c.limits-limits.ensures.limits on in
-    record { goes_on = asked; ended = ended c.args.request.now c.args.pool c.search-ending.new.pool c.search-ending.result c.requires.ready asked }
+    record {
+      goes_on = asked;
+      ended = ended c.args.request.now c.args.pool c.search-ending.new.pool c.search-ending.result c.requires.ready asked;
+      by_worker = record { entries = e.goes_on.entries; history = e.goes_on.history; of_workers = λ k d l. one_of_them 1 _ (omega arith) (e.goes_on.of_worker k d l) };
+      visits = subst (λ (l : Limits). SearchesNodes l.cuts c.args.pool.state c.search-ending.new.pool.state) c.limits-limits.ensures.limits e.visits;
+    }
