@@ -50,6 +50,10 @@ pub on_any_err : {A E P : Type 0} (r : Result A E) → P → OnErr r P
 on_any_err (Ok x) h = tt
 on_any_err (Err e) h = h
 
+pub on_both_ok : {A E P Q : Type 0} (r : Result A E) → OnOk r P → OnOk r Q → OnOk r (P × Q)
+on_both_ok (Ok x) h k = (h, k)
+on_both_ok (Err e) h k = tt
+
 -- ---- the budget
 -- one after the other
 pub joined_within : (budget : ℕ) (s t u : State) → length t.nodes ≤ max budget (length s.nodes) → length u.nodes ≤ max budget (length t.nodes) → length u.nodes ≤ max budget (length s.nodes)

@@ -10,12 +10,13 @@ use Rattle.event_core.specs.Histories.{state_from}
 use Rattle.event_core.specs.Rooms.{Recorded}
 use Rattle.expand.specs.declared.finding.Finding.{Finding}
 use Rattle.expand.specs.declared.settlement.Settlement.{Settlement}
-use Rattle.expand.specs.declared.settlement.Settlement.TheVariants.{Separated}
+use Rattle.expand.specs.declared.settlement.Settlement.TheVariants.{Separated, Closed, Improved, Branched}
 use Rattle.expand.specs.Expansion.{IsExpansion, costs_after}
 use Rattle.expand.specs.Laws.{entries_of}
 use Rattle.expand.specs.Settlements.{events_of}
 use Rattle.expand.specs.Settling.{settled}
 use Rattle.core_search.specs.declared.open_node.OpenNode.{OpenNode}
+use Rattle.core_search.specs.OpenNodes.{AreOpenNodes, HasNoOrigin, children}
 
 -- the history goes on with these events of worker 0
 pub record Makes (es : List Event) (old new : Recorded) : Type 0 where
@@ -49,28 +50,37 @@ pub data IsDecision (limit : ℕ) (o : OpenNode) (old new : Recorded) (before af
       → IsLook limit (limit - length old.state.cuts) old.state o before middle (Separated mults)
       → Makes (map Cut mults) old new → IsLook limit 0 new.state o middle after g → IsDecision limit o old new before after g
 
--- a node that is held is decided, and the events that settle it are made
-pub record IsSettledBy (limit : ℕ) (o : OpenNode) (before after : List ColumnGains) (old new : Recorded) : Type 0 where
+-- The open nodes once this node is settled: where it is split, its two children come behind the others, with what the split told of them. The left one
+-- has number k.
+abbrev pub nodes_left : ℕ → OpenNode → Settlement → List OpenNode → List OpenNode
+nodes_left k o (Separated mults) others = others
+nodes_left k o (Closed proof) others = others
+nodes_left k o (Improved x proof) others = others
+nodes_left k o (Branched b) others = others ++ children k o.area b.place.column b.place.bound b.value
+
+-- a node that is held beside the other open nodes is decided, and the events that settle it are made
+pub record IsSettledBy (limit : ℕ) (o : OpenNode) (before after : List ColumnGains) (others nodes : List OpenNode) (old new : Recorded) : Type 0 where
   pub settlement : Settlement
   pub decided : Recorded
   pub decision : IsDecision limit o old decided before after settlement
   pub settles : Makes (events_of o.number settlement) decided new
+  pub left : nodes ≡ nodes_left (length old.state.nodes) o settlement others
 
 -- the node is claimed and then settled
-pub record Visits (limit : ℕ) (o : OpenNode) (before after : List ColumnGains) (old new : Recorded) : Type 0 where
+pub record Visits (limit : ℕ) (o : OpenNode) (before after : List ColumnGains) (others nodes : List OpenNode) (old new : Recorded) : Type 0 where
   pub claimed : Recorded
   pub claims : Makes (Claim o.number ∷ []) old claimed
-  pub settled : IsSettledBy limit o before after claimed new
+  pub settled : IsSettledBy limit o before after others nodes claimed new
 
--- nodes are visited, one after another, by costs that begin with nothing noted
-pub data AreVisits (limit : ℕ) (old : Recorded) : Recorded → List ColumnGains → Type 0 where
-  none : AreVisits limit old old (replicate (length old.state.problem.spans) no_column_gains)
-  visit : (middle new : Recorded) (before after : List ColumnGains) (o : OpenNode)
-      → AreVisits limit old middle before → Visits limit o before after middle new → AreVisits limit old new after
+-- Nodes are visited, one after another, the last of the open ones each time. It begins with all open nodes, of whose splits nothing is known, and with
+-- costs in which nothing is noted.
+pub data AreVisits (limit : ℕ) (old : Recorded) : Recorded → List ColumnGains → List OpenNode → Type 0 where
+  none : (nodes : List OpenNode) → AreOpenNodes old.state nodes → All HasNoOrigin nodes
+      → AreVisits limit old old (replicate (length old.state.problem.spans) no_column_gains) nodes
+  visit : (middle new : Recorded) (before after : List ColumnGains) (others nodes : List OpenNode) (o : OpenNode)
+      → AreVisits limit old middle before (others ++ o ∷ []) → Visits limit o before after others nodes middle new → AreVisits limit old new after nodes
 
--- A search visits its nodes. The last events may be of a visit that was broken off, which ends no node.
-pub record SearchesNodes (limit : ℕ) (old new : Recorded) : Type 0 where
-  pub middle : Recorded
-  pub costs : List ColumnGains
-  pub visits : AreVisits limit old middle costs
-  pub broken_off : EndsNoNode middle new
+-- A search visits nodes. The last events may be of a visit that was broken off, which ends no node. Or it visits none, and ends no node.
+pub data SearchesNodes (limit : ℕ) (old new : Recorded) : Type 0 where
+  visited : (middle : Recorded) (costs : List ColumnGains) (nodes : List OpenNode) → AreVisits limit old middle costs nodes → EndsNoNode middle new → SearchesNodes limit old new
+  unvisited : EndsNoNode old new → SearchesNodes limit old new

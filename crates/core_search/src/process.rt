@@ -5,7 +5,7 @@ ghost use Rattle.event_core.specs.States.{box_of, cutoff};
 ghost use Rattle.event_core.specs.After.{after_offer, after_close};
 ghost use Rattle.expand.specs.Settlements.{IsBetterPoint, IsBranching};
 ghost use Rattle.core_search.specs.Holding.{IsHeldAlone};
-ghost use Rattle.core_search.specs.OpenNodes.{IsOpenNode, AreOpenNodes};
+ghost use Rattle.core_search.specs.OpenNodes.{IsOpenNode, AreOpenNodes, children};
 ghost use Rattle.core_search.specs.Pools.{PoolGoesOn, StaysSound, FailsBy};
 ghost use Rattle.core_search.specs.Processing.{EndsNode, IsExhausted};
 ghost use Rattle.node_events.specs.declared.event.Event.TheVariants as event;
@@ -96,6 +96,7 @@ fn split<D: Disk>(
     ensures cuts { pool.new.state.state.cuts ≡ pool.old.state.state.cuts }
     ensures within_budget { length pool.new.state.state.nodes ≤ max pool.old.budget (length pool.old.state.state.nodes) }
     ensures made { OnOk result (Makes (event.Split node.number branching.place.column branching.place.bound branching.reason ∷ []) pool.old.state pool.new.state) }
+    ensures grown { OnOk result (nodes.new.items ≡ nodes.old.items ++ children (length pool.old.state.state.nodes) node.area branching.place.column branching.place.bound branching.value) }
     ensures unended { OnErr result (EndsNoNode pool.old.state pool.new.state) }
 {
     node_conditions_hold(pool.state(), &node);
@@ -143,7 +144,7 @@ pub fn process<D: Disk>(
     ensures within_cuts { length pool.new.state.state.cuts ≤ max worker.old.limit (length pool.old.state.state.cuts) }
     ensures prepared { OnOk result (IsPrepared pool.new.state.state worker.new) }
     ensures limit { worker.new.limit ≡ worker.old.limit }
-    ensures settled { OnOk result (IsSettledBy worker.old.limit node worker.old.costs worker.new.costs pool.old.state pool.new.state) }
+    ensures settled { OnOk result (IsSettledBy worker.old.limit node worker.old.costs worker.new.costs nodes.old.items nodes.new.items pool.old.state pool.new.state) }
     ensures unended { OnErr result (EndsNoNode pool.old.state pool.new.state) }
 {
     match decide(alloc, pool, worker, &node)? {

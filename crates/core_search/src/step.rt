@@ -60,7 +60,7 @@ pub fn step<D: Disk>(
     ensures ended { IfSome result (λ e. IsEnding pool.old.budget e pool.new.state.state) }
     ensures halted { IfSome result (λ e. IsHaltOf e pool.new.halt) }
     ensures cause { IfSome result (λ e. Counts (D.count pool.old.journal.disk) (D.count pool.new.journal.disk) (is_disk e)) }
-    ensures visited { IfNone result (Visits worker.old.limit node worker.old.costs worker.new.costs pool.old.state pool.new.state) }
+    ensures visited { IfNone result (Visits worker.old.limit node worker.old.costs worker.new.costs nodes.old.items nodes.new.items pool.old.state pool.new.state) }
     ensures broken_off { IfSome result (λ e. EndsNoNode pool.old.state pool.new.state) }
 {
     let number = node.number;

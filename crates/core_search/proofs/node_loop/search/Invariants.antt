@@ -16,7 +16,7 @@ invariant-loop-node g l = record {
   prepared : IsPrepared l.pool.state.state l.worker;
   within_cuts : length l.pool.state.state.cuts ≤ max l.cuts (length l.fn.pool.state.state.cuts);
   limit : l.worker.limit ≡ l.cuts;
-  visits : AreVisits l.cuts l.fn.pool.state l.pool.state l.worker.costs;
+  visits : AreVisits l.cuts l.fn.pool.state l.pool.state l.worker.costs l.nodes.items;
 }
 
 abbrev pub decreases-loop-node : goal.decreases-loop-node

@@ -1,15 +1,16 @@
-use Rattle.std.proofs.Common.{◌≡◌, List, [], ◌∷◌, ◌++◌, subst, true}
+use Rattle.std.proofs.Common.{◌≡◌, ◌∙◌, List, [], ◌∷◌, ◌++◌, ap, length, refl, subst, true}
 use Rattle.std.proofs.lemmas.Result.{on_err_weaker, on_ok_weaker}
 use Rattle.expand.specs.declared.settlement.Settlement.TheVariants.{Closed, Improved, Branched}
 use Rattle.core_search.specs.Visits.{IsDecision}
 use Rattle.problem_box.specs.declared.span.Span.{Span}
 use Rattle.derivation_book.specs.Legal.{is_legal_proof}
-use Rattle.event_core.specs.States.{cutoff}
+use Rattle.event_core.specs.States.{State, cutoff}
 use Rattle.expand.specs.Settlements.{IsSettlement}
 use Rattle.core_search.proofs.Entering.{same_problem}
+use Rattle.core_search.specs.OpenNodes.{children}
 use Rattle.core_search.proofs.OpenLists.{last_node}
 use Rattle.core_search.proofs.Pooling.{goes_on}
-use Rattle.core_search.proofs.Stepping.{on_any_ok, still_prepared, closed_after_cuts, nodes_cuts, point_after_cuts}
+use Rattle.core_search.proofs.Stepping.{on_any_ok, on_both_ok, still_prepared, closed_after_cuts, nodes_cuts, point_after_cuts}
 use Rattle.core_search.proofs.Visiting.{decision_unended, unended_both}
 use Rattle.core_search.proofs.process.process.Goals as goal
 
@@ -49,6 +50,7 @@ returns-in-Closed-clause-settled g c =
       decided = c.decide.new.pool.state;
       decision = subst (IsDecision c.args.worker.now.limit c.args.node c.args.pool.now.state c.decide.new.pool.state c.args.worker.now.costs c.decide.new.worker.costs) c.in-Closed.is c.in_ok-proof.ensures.decision;
       settles = h;
+      left = refl;
     }) c.close.ensures.made
 
 pub returns-in-Closed-clause-unended : goal.returns-in-Closed-clause-unended
@@ -65,6 +67,7 @@ returns-in-Improved-clause-settled g c =
       decided = c.decide.new.pool.state;
       decision = subst (IsDecision c.args.worker.now.limit c.args.node c.args.pool.now.state c.decide.new.pool.state c.args.worker.now.costs c.decide.new.worker.costs) c.in-Improved.is c.in_ok-proof.ensures.decision;
       settles = h;
+      left = refl;
     }) c.offer_point.ensures.made
 
 pub returns-in-Improved-clause-unended : goal.returns-in-Improved-clause-unended
@@ -75,13 +78,16 @@ returns-in-Improved-clause-unended g c =
 
 pub returns-in-Branched-clause-settled : goal.returns-in-Branched-clause-settled
 returns-in-Branched-clause-settled g c =
+    let b = c.in-Branched.branching in
     on_ok_weaker c.split.result
     (λ h. record {
-      settlement = Branched c.in-Branched.branching;
+      settlement = Branched b;
       decided = c.decide.new.pool.state;
       decision = subst (IsDecision c.args.worker.now.limit c.args.node c.args.pool.now.state c.decide.new.pool.state c.args.worker.now.costs c.decide.new.worker.costs) c.in-Branched.is c.in_ok-proof.ensures.decision;
-      settles = h;
-    }) c.split.ensures.made
+      settles = h.0;
+      left = h.1
+          ∙ ap (λ n. c.args.nodes.now.items ++ children n c.args.node.area b.place.column b.place.bound b.value) (ap (λ (s : State). length s.nodes) c.decide.ensures.same);
+    }) (on_both_ok c.split.result c.split.ensures.made c.split.ensures.grown)
 
 pub returns-in-Branched-clause-unended : goal.returns-in-Branched-clause-unended
 returns-in-Branched-clause-unended g c =

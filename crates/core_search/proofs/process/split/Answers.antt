@@ -9,7 +9,7 @@ use Rattle.event_core.specs.Sound.{IsSound}
 use Rattle.event_core.specs.Lemmas.Boxes.{both_within}
 use Rattle.core_search.specs.OpenNodes.{children}
 use Rattle.core_search.proofs.OpenLists.{last_node, last_greatest}
-use Rattle.core_search.proofs.Stepping.{split_is_legal, exhausted, bound_modest, kept_is, kept_branching, ends_split}
+use Rattle.core_search.proofs.Stepping.{on_any_ok, split_is_legal, exhausted, bound_modest, kept_is, kept_branching, ends_split}
 use Rattle.node_events.specs.declared.event.Event.TheVariants.{Split}
 use Rattle.core_search.specs.Visits.{Makes}
 use Rattle.core_search.proofs.Visiting.{no_change, unended_stays}
@@ -87,6 +87,13 @@ returns-clause-made g c =
     on_ok_weaker c.apply_event-2.result
     (λ h. subst (λ y. Makes (Split c.args.node.number b.place.column y b.reason ∷ []) c.args.pool.now.state c.apply_event-2.new.pool.state)
     (kept_is c.args.pool.now.state.state c.args.node.area b c.requires.branching c.node_conditions_hold.ensures.modest) h) c.apply_event-2.ensures.made
+
+pub returns-clause-grown : goal.returns-clause-grown
+returns-clause-grown g c =
+    let b = c.args.branching in
+    let size = ap length (c.tree.ensures.nodes ∙ ap (λ (r : Recorded). r.state.nodes) c.state-2.ensures) in
+    on_any_ok c.apply_event-2.result
+    (c.in-Ok.ensures ∙ ap (λ n. c.args.nodes.now.items ++ children n c.args.node.area b.place.column b.place.bound b.value) (c.len-number.ensures ∙ size))
 
 pub returns-clause-unended : goal.returns-clause-unended
 returns-clause-unended g c = on_err_weaker c.apply_event-2.result (unended_stays c.args.pool.now.state c.apply_event-2.new.pool.state) c.apply_event-2.ensures.unmade
