@@ -26,6 +26,7 @@ use Rattle.core_search.specs.declared.node_loop.Ending.{Ending}
 use Rattle.core_search.specs.declared.node_loop.Ending.TheVariants as ending
 use Rattle.core_search.specs.Endings.{IsSpent}
 use Rattle.core_search.specs.Pools.{IsHaltOf, is_disk}
+use Rattle.core_search.specs.Visits.{SearchesNodes}
 use Rattle.vipr_print.specs.Unique.{IsWord}
 use Rattle.resume.specs.Models.{IsModelOf}
 use Rattle.resume.specs.Events.{IsReadAs}
@@ -34,7 +35,7 @@ use Rattle.solve_top.specs.declared.request.Request.{Request}
 use Rattle.solve_top.specs.Requests.{limits_in}
 use Rattle.solve_top.specs.Changes.{DiskChange, Rises, disk_change, moments_before, moments_after}
 use Rattle.solve_top.specs.Journals.{IsKept}
-use Rattle.solve_top.specs.Searches.{search_of, begin_of, events_made, events_read, IsOfWorkers}
+use Rattle.solve_top.specs.Searches.{search_of, begin_of, events_made, events_read, HasSearchedAlone, IsOfWorkers}
 use Rattle.solve_top.specs.Searchers.{GoesOnByWorkers, SearchesOn}
 use Rattle.solve_top.specs.Begun.{IsEnded, IsReady}
 use Rattle.solve_top.specs.Steps.{IsWithin}
@@ -80,6 +81,13 @@ read_back q old new read goes = ap events_read goes.history ∙ read_first (limi
 pub made_alone : (old new : Recorded) → IsReadFrom old → GoesOnByWorkers 1 old new → All (IsOfWorkers 1) (events_made new.history)
 made_alone old new read goes =
     subst (λ (l : List Entry). All (IsOfWorkers 1) l) (sym (ap events_made goes.history ∙ made_last 1 old.history goes.entries read.1.read.stored goes.of_workers)) goes.of_workers
+
+-- it searched on from those that were read
+pub searched_alone : (cuts : ℕ) (old new : Recorded) → old.state ≡ state_of old.state.problem old.history → IsReadFrom old → GoesOnByWorkers 1 old new → new.state.problem ≡ old.state.problem
+    → SearchesNodes cuts old new → HasSearchedAlone cuts new
+searched_alone cuts old new begins read goes same visits =
+    let first : events_read new.history ≡ old.history = ap events_read goes.history ∙ read_first 1 old.history goes.entries read.1.read.stored goes.of_workers in
+    record { begun = old; history = sym first; state = begins ∙ (λ i. state_of (sym same i) (sym first i)); visits = visits }
 
 -- ---- how far it went
 pub within_limits : (q : Request) (old new : Recorded) → old.state ≡ state_of old.state.problem old.history → IsReadFrom old → GoesOnByWorkers (limits_in q).workers old new → new.state.problem ≡ old.state.problem

@@ -1,12 +1,13 @@
 // All that the program does.
-ghost use Rattle.std.specs.Prelude.{◌≡◌, All, IfSome, option_map};
+ghost use Rattle.std.specs.Prelude.{◌≡◌, All, Some, IfSome, option_map};
 ghost use Rattle.solve_top.specs.Begun.{IsCarriedOut};
 ghost use Rattle.solve_top.specs.Changes.{disk_change, sink_change, source_change};
 ghost use Rattle.solve_top.specs.Headline.{KeepsPromise};
-ghost use Rattle.solve_top.specs.Requests.{HasRanges};
-ghost use Rattle.solve_top.specs.Searches.{IsOfWorkers, events_made, search_of};
+ghost use Rattle.solve_top.specs.Requests.{HasRanges, limits_in, requested};
+ghost use Rattle.solve_top.specs.Searches.{HasSearchedAlone, IsOfWorkers, events_made, search_of};
 ghost use Rattle.solve_top.specs.Statuses.{exit_number};
 ghost use Rattle.solve_top.specs.Steps.{IsToldAs};
+ghost use Rattle.solve_top.specs.declared.request.Request.{Request};
 ghost use Rattle.solve_top.specs.declared.status.Status.{Status};
 
 use crate::Words;
@@ -36,6 +37,7 @@ fn perform_alone<B: BuildHasher + Clone + Drop, S: Source, D: Disk, C: Sink>(
     requires { HasRanges request.now }
     ensures carried_out { IsCarriedOut request.now (source_change S.tells S.left S.faults model.old model.new) (disk_change D.tells D.past D.now D.count disk result.disk) (sink_change C.tells C.taken C.kept C.faults cert.old cert.new) (option_map search_of result.last) result.status }
     ensures by_worker { IfSome result.last (λ t. All (IsOfWorkers 1) (events_made t.history)) }
+    ensures visits { IfSome result.last (λ t. HasSearchedAlone (limits_in request.now).cuts t) }
 {
     match begin(alloc, keys, request, model, disk) {
         Begun::Over(ran) => ran,
@@ -142,6 +144,8 @@ pub fn run_one<B: BuildHasher + Clone + Drop, S: Source, D: Disk, C: Sink, O: Si
       number = result.status;
     }) }
     ensures by_worker { IfSome result.last (λ t. All (IsOfWorkers 1) (events_made t.history)) }
+    // It looks at each node with the room that the words leave for cuts.
+    ensures visits { IfSome result.last (λ t. (q : Request) × (requested words.now ≡ Some q) × HasSearchedAlone (limits_in q).cuts t) }
 {
     what_stands_is_not_refused();
     match request_of(alloc, words) {

@@ -1,13 +1,22 @@
-use Rattle.std.specs.Prelude.{All, IfSome, Option, option_map, refl}
+use Rattle.std.specs.Prelude.{◌≡◌, ℕ, All, IfSome, List, Option, None, Some, option_map, refl}
 use Rattle.std.proofs.Common.{◌∙◌, ap, subst, sym}
 use Rattle.event_core.specs.Rooms.{Recorded}
 use Rattle.solve_top.specs.Changes.{sink_change, source_change}
-use Rattle.solve_top.specs.Searches.{IsOfWorkers, events_made, search_of}
+use Rattle.solve_top.specs.declared.request.Request.{Request}
+use Rattle.solve_top.specs.Requests.{limits_in, requested}
+use Rattle.solve_top.specs.Searches.{HasSearchedAlone, IsOfWorkers, events_made, search_of}
 use Rattle.solve_top.proofs.Promises.{promise_of, promise_unasked}
 use Rattle.solve_top.proofs.top_call.run_one.Goals as goal
 
 abbrev IsAlone : Option Recorded → Type 0
 IsAlone o = IfSome o (λ t. All (IsOfWorkers 1) (events_made t.history))
+
+abbrev IsVisited : List (List ℕ) → Option Recorded → Type 0
+IsVisited words o = IfSome o (λ t. (q : Request) × (requested words ≡ Some q) × HasSearchedAlone (limits_in q).cuts t)
+
+asked_for : (words : List (List ℕ)) (q : Request) → requested words ≡ Some q → (o : Option Recorded) → IfSome o (λ t. HasSearchedAlone (limits_in q).cuts t) → IsVisited words o
+asked_for words q asked None h = tt
+asked_for words q asked (Some t) h = (q, asked, h)
 
 pub returns-in-Err-clause-promise : goal.returns-in-Err-clause-promise
 returns-in-Err-clause-promise g c =
@@ -35,3 +44,11 @@ returns-in-Err-clause-by_worker g c = subst IsAlone (sym (c.tell-in-Err.ensures.
 
 pub returns-in-Ok-clause-by_worker : goal.returns-in-Ok-clause-by_worker
 returns-in-Ok-clause-by_worker g c = subst IsAlone (sym c.tell.ensures.last) c.perform_alone-ran.ensures.by_worker
+
+pub returns-in-Err-clause-visits : goal.returns-in-Err-clause-visits
+returns-in-Err-clause-visits g c = subst (IsVisited c.args.words.now) (sym (c.tell-in-Err.ensures.last ∙ c.refused.ensures.last)) tt
+
+pub returns-in-Ok-clause-visits : goal.returns-in-Ok-clause-visits
+returns-in-Ok-clause-visits g c =
+    let ran = c.perform_alone-ran in
+    subst (IsVisited c.args.words.now) (sym c.tell.ensures.last) (asked_for c.args.words.now c.in-Ok.request c.in-Ok.ensures.asked ran.result.last ran.ensures.visits)
