@@ -99,9 +99,9 @@ fn tell<D, O: Sink>(alloc: Global, ran: Ran<D, Result<Answer, Refusal>>, out: &m
 /// Does what the words ask for with one worker: reads a model from `model`, keeps the journal of its search on `disk`,
 /// writes its certificate to `cert` and a few lines to `out`.
 ///
-/// It is `run` with one worker, whatever number the words ask for: the events of its search are of worker 0. It takes no runtime, so it always returns. `keys` is
-/// for the hashing of the model's names and changes no answer. The disk is handed back in every case. The steps are
-/// taken in this order, and the first refusal decides:
+/// It is `run` with one worker, whatever number the words ask for: the events of its search are of worker 0. It takes no
+/// runtime, so it always returns. `keys` is for the hashing of the model's names and changes no answer. The disk is
+/// handed back in every case. The steps are taken in this order, and the first refusal decides:
 ///
 /// - The words are read. 2: they are no command; `out` gets `refused usage`.
 /// - `solve` reads the model. 5: it can't be read, which its source counted; `fault read`. 3: it has a fault;
