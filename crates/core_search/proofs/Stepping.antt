@@ -50,9 +50,9 @@ pub on_any_err : {A E P : Type 0} (r : Result A E) → P → OnErr r P
 on_any_err (Ok x) h = tt
 on_any_err (Err e) h = h
 
-pub on_both_ok : {A E P Q : Type 0} (r : Result A E) → OnOk r P → OnOk r Q → OnOk r (P × Q)
-on_both_ok (Ok x) h k = (h, k)
-on_both_ok (Err e) h k = tt
+pub on_both_ok : {A E P Q R : Type 0} (r : Result A E) → (P → Q → R) → OnOk r P → OnOk r Q → OnOk r R
+on_both_ok (Ok x) f h k = f h k
+on_both_ok (Err e) f h k = tt
 
 -- ---- the budget
 -- one after the other

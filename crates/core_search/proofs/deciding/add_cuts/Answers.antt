@@ -48,13 +48,13 @@ returns-in_err-apply_event-clause-unended g c =
 pub loop-mult-init : goal.loop-mult-init
 loop-mult-init g c =
     let a = c.args.pool.now in
-    let all : into_iter_items c.into_iter-mult-iterator.result ≡ c.args.mults = c.into_iter-mult-iterator.ensures.rest ∙ c.into_vec-mult-items.ensures in
+    let all : into_iter_items c.into_iter-mult-iterator.result ≡ c.args.mults = c.into_iter-mult-iterator.ensures.into_iter_gives.0 ∙ c.into_vec-mult-items.ensures in
     record {
       goes_on = goes_nowhere a;
       sound = record { halt = c.requires.sound; count = refl };
       same = refl;
       left = subst (AreNewCuts a.state.state) (sym all) c.requires.new;
-      counted = omega (arith, c.into_iter-mult-iterator.ensures.len, ap length c.into_iter-mult-iterator.ensures.rest, c.into_vec-mult-items.result.ok.0);
+      counted = omega (arith, c.into_iter-mult-iterator.ensures.into_iter_gives.1, ap length c.into_iter-mult-iterator.ensures.into_iter_gives.0, c.into_vec-mult-items.result.ok.0);
       made = subst (λ ms. MakesFirst c.args.mults ms a.state a.state) (sym all) (first_none c.args.mults a.state);
       few = omega (arith, ap length all);
     }

@@ -79,15 +79,15 @@ returns-in-Improved-clause-unended g c =
 pub returns-in-Branched-clause-settled : goal.returns-in-Branched-clause-settled
 returns-in-Branched-clause-settled g c =
     let b = c.in-Branched.branching in
-    on_ok_weaker c.split.result
-    (λ h. record {
+    on_both_ok c.split.result
+    (λ h k. record {
       settlement = Branched b;
       decided = c.decide.new.pool.state;
       decision = subst (IsDecision c.args.worker.now.limit c.args.node c.args.pool.now.state c.decide.new.pool.state c.args.worker.now.costs c.decide.new.worker.costs) c.in-Branched.is c.in_ok-proof.ensures.decision;
-      settles = h.0;
-      left = h.1
+      settles = h;
+      left = k
           ∙ ap (λ n. c.args.nodes.now.items ++ children n c.args.node.area b.place.column b.place.bound b.value) (ap (λ (s : State). length s.nodes) c.decide.ensures.same);
-    }) (on_both_ok c.split.result c.split.ensures.made c.split.ensures.grown)
+    }) c.split.ensures.made c.split.ensures.grown
 
 pub returns-in-Branched-clause-unended : goal.returns-in-Branched-clause-unended
 returns-in-Branched-clause-unended g c =
