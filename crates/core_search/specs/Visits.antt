@@ -2,7 +2,7 @@
 use Rattle.std.specs.Prelude.{◌≡◌, ℕ, ◌-◌, List, [], ◌∷◌, ◌++◌, map, replicate, length, All}
 use Rattle.problem.specs.Linear.{Multipliers}
 use Rattle.node_events.specs.declared.event.Event.{Event}
-use Rattle.node_events.specs.declared.event.Event.TheVariants.{Claim, Release, Cut, Offer, Split, Close}
+use Rattle.node_events.specs.declared.event.Event.TheVariants.{Claim, Cut, Split, Close}
 use Rattle.pseudo_cost.specs.declared.column_gains.ColumnGains.{ColumnGains}
 use Rattle.pseudo_cost.specs.ColumnGains.{no_column_gains}
 use Rattle.event_core.specs.States.{State, cutoff}

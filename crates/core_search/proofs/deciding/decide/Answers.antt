@@ -1,5 +1,4 @@
 use Rattle.std.proofs.Common.{◌≡◌, ℕ, ◌-◌, length, ap, subst, ◌∙◌}
-use Rattle.derivation_book.specs.declared.cut.Cut.{Cut}
 use Rattle.event_core.specs.States.{State}
 use Rattle.event_core.specs.Rooms.{Recorded}
 use Rattle.expand.specs.declared.settlement.Settlement.{Settlement}
