@@ -9,4 +9,5 @@ pub mod EndedBy
 pub mod Stepping
 pub mod Looking
 pub mod Separating
+pub mod Visiting
 mod Limiting

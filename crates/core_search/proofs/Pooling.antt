@@ -1,5 +1,5 @@
 -- How a pool goes on, one call after another.
-use Rattle.std.specs.Prelude.{◌≡◌, List, [], ◌∷◌, ◌++◌, Some, slice_get}
+use Rattle.std.specs.Prelude.{◌≡◌, List, [], ◌∷◌, ◌++◌, Some, slice_get, refl}
 use Rattle.std.proofs.Common.{sym, ap, ◌∙◌, subst}
 use Rattle.outside.specs.declared.disk.Disk.{Ghosts}
 use Rattle.outside.specs.Faults.{Counts}
@@ -10,13 +10,14 @@ use Rattle.event_core.specs.After.{after}
 use Rattle.event_core.specs.Rooms.{Recorded}
 use Rattle.node_journal.specs.declared.journal.Journal.{Journal}
 use Rattle.node_journal.specs.Whole.{payloads_in}
+use Rattle.node_pool.specs.Halting.{is_disk_fault}
 use Rattle.node_pool.specs.Payloads.{model_in}
 use Rattle.node_pool.specs.Steps.{Applies, Stays}
 use Rattle.node_pool.specs.declared.answers.CommitFault.{CommitFault}
 use Rattle.node_pool.specs.declared.pool.Pool.{Pool}
 use Rattle.core_search.specs.Entries.{ExtendsHistory, IsGreatestIfClaim}
-use Rattle.core_search.specs.Pools.{PoolGoesOn, StaysSound, FailsBy, is_disk_fault}
-use Rattle.core_search.proofs.Entering.{one_event, joined}
+use Rattle.core_search.specs.Pools.{PoolGoesOn, StaysSound, FailsBy}
+use Rattle.core_search.proofs.Entering.{one_event, joined, stays}
 
 -- an event after nothing
 pub applied_then : (a b c : Recorded) (e : Event) → Stays a b → Applies b (Some 0) e c → IsGreatestIfClaim a.state e → ExtendsHistory a c
@@ -34,6 +35,9 @@ module _ {D : Type 0} {d : Ghosts D} where
     budget = budget;
     faults = faults;
   }
+
+  pub goes_nowhere : (a : Pool D d) → PoolGoesOn a a
+  goes_nowhere a = same_journal a a (stays a.state a.state refl refl) refl refl refl
 
   -- one after the other
   pub goes_on : (a b c : Pool D d) → PoolGoesOn a b → PoolGoesOn b c → PoolGoesOn a c

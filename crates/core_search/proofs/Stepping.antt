@@ -1,5 +1,5 @@
 -- What a step does to the state and to the list of the open nodes.
-use Rattle.std.specs.Prelude.{◌≡◌, ◌<◌, ◌≤◌, ◌+◌, ◌-◌, ℕ, ℤ, pos, ◌≤ℤ◌, ◌<ℤ◌, nat_abs, true, List, [], ◌∷◌, ◌++◌, length, max, All, Option, Some, None, slice_get, slice_index_or, Result, Ok, Err, OnOk, refl}
+use Rattle.std.specs.Prelude.{◌≡◌, ◌<◌, ◌≤◌, ◌+◌, ◌-◌, ℕ, ℤ, pos, ◌≤ℤ◌, ◌<ℤ◌, nat_abs, true, List, [], ◌∷◌, ◌++◌, length, max, All, Option, Some, None, slice_get, slice_index_or, Result, Ok, Err, OnOk, OnErr, refl}
 use Rattle.std.specs.Option.{ForSome}
 use Rattle.std.proofs.Common.{sym, ap, ◌∙◌, subst, arith, to_z, of_z, w64}
 use Rattle.std.proofs.Math.Nat.{le-max_left, max-le}
@@ -45,6 +45,14 @@ use Rattle.core_search.proofs.OpenLists.{closed_nodes, split_nodes, offered_node
 pub on_any_ok : {A E P : Type 0} (r : Result A E) → P → OnOk r P
 on_any_ok (Ok x) h = h
 on_any_ok (Err e) h = tt
+
+pub on_any_err : {A E P : Type 0} (r : Result A E) → P → OnErr r P
+on_any_err (Ok x) h = tt
+on_any_err (Err e) h = h
+
+pub on_both_ok : {A E P Q R : Type 0} (r : Result A E) → (P → Q → R) → OnOk r P → OnOk r Q → OnOk r R
+on_both_ok (Ok x) f h k = f h k
+on_both_ok (Err e) f h k = tt
 
 -- ---- the budget
 -- one after the other

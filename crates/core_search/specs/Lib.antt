@@ -4,6 +4,7 @@ pub mod Entries
 pub mod Pools
 pub mod Workers
 pub mod Deciding
+pub mod Visits
 pub mod Endings
 pub mod Processing
 pub mod Laws

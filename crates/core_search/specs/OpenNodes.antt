@@ -1,5 +1,5 @@
 -- The open nodes with their boxes, as a list.
-use Rattle.std.specs.Prelude.{◌≡◌, ◌⊎◌, ◌<◌, ◌+◌, ◌-◌, ℕ, ℤ, pos, ◌+ℤ◌, true, List, [], ◌∷◌, length, All, Option, IfSome}
+use Rattle.std.specs.Prelude.{◌≡◌, ◌⊎◌, ◌<◌, ◌+◌, ◌-◌, ℕ, ℤ, pos, ◌+ℤ◌, true, List, [], ◌∷◌, length, All, Option, None, IfSome}
 use Rattle.std.specs.Option.{option_map}
 use Rattle.fraction.specs.Rational.{ℚ}
 use Rattle.problem_box.specs.declared.span.Span.{Span}
@@ -31,6 +31,10 @@ pub record AreOpenNodes (s : State) (os : List OpenNode) : Type 0 where
   pub nodes : All (IsOpenNode s) os
   pub rising : HaveRisingNumbers os
   pub listed : (k : ℕ) → is_open s k ≡ true → IsAmong os k
+
+-- nothing is known of the split that made the node
+abbrev pub HasNoOrigin : OpenNode → Type 0
+HasNoOrigin o = o.origin ≡ None
 
 -- the split that made a child, where the parent's optimal value is known
 abbrev pub origin_of : ℕ → Side → Option ℚ → Option Origin

@@ -5,6 +5,7 @@ use Rattle.outside.specs.Faults.{Counts}
 use Rattle.node_events.specs.declared.event.Event.{Event}
 use Rattle.node_journal.specs.History.{ExtendsMoments}
 use Rattle.node_journal.specs.Whole.{payloads_in}
+use Rattle.node_pool.specs.Halting.{is_disk_fault}
 use Rattle.node_pool.specs.Payloads.{model_in}
 use Rattle.node_pool.specs.declared.halt.Halt.{Halt}
 use Rattle.node_pool.specs.declared.halt.Halt.TheVariants as halt
@@ -43,13 +44,6 @@ IsFaultHalt fault.Disk h = IsDiskHalt h
 IsFaultHalt fault.Budget h = IsBudgetHalt h
 IsFaultHalt fault.Memory h = h ≡ None
 IsFaultHalt fault.Halted h = ⊥
-
--- the fault is the disk's
-abbrev pub is_disk_fault : CommitFault → Bool
-is_disk_fault fault.Disk = true
-is_disk_fault fault.Budget = false
-is_disk_fault fault.Memory = false
-is_disk_fault fault.Halted = false
 
 -- a call failed by this fault, and the disk counted it where it is the disk's
 pub record FailsBy {D : Type 0} {d : Ghosts D} (f : CommitFault) (old new : Pool D d) : Type 0 where

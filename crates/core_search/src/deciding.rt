@@ -1,11 +1,14 @@
 // How the node that the worker holds is settled.
-ghost use Rattle.std.specs.Prelude.{◌≡◌, ◌≤◌, ◌+◌, max, None, IfOk, IfErr, OnOk, IsErrOf, length};
+ghost use Rattle.std.specs.Prelude.{◌≡◌, ◌≤◌, ◌+◌, max, map, None, IfOk, IfErr, OnOk, OnErr, IsErrOf, length};
+ghost use Rattle.node_events.specs.declared.event.Event.TheVariants.{Cut};
 ghost use Rattle.event_core.specs.States.{cutoff};
+ghost use Rattle.expand.specs.Expansion.{IsExpansion, costs_after};
 ghost use Rattle.expand.specs.Findings.{Holds};
 ghost use Rattle.expand.specs.Settlements.{IsSettlement, AreNewCuts};
 ghost use Rattle.core_search.specs.Deciding.{IsLastLook, IsFinal, IsSameButCuts, KeepsToLimit};
 ghost use Rattle.core_search.specs.OpenNodes.{IsOpenNode};
 ghost use Rattle.core_search.specs.Pools.{PoolGoesOn, StaysSound, FailsBy};
+ghost use Rattle.core_search.specs.Visits.{Makes, EndsNoNode, IsLook, IsDecision};
 ghost use Rattle.core_search.specs.Workers.{IsPrepared};
 ghost use Rattle.problem.specs.Limits.{most_cuts};
 
@@ -30,6 +33,8 @@ fn look(
     requires node { IsOpenNode state.now.state node.now }
     requires prepared { IsPrepared state.now.state worker.old }
     ensures holds { IfOk result (λ f. Holds state.now.state.problem state.now.state.cuts node.now.area (cutoff state.now.state) f) }
+    ensures found { IfOk result (λ f. IsExpansion state.now.state.problem state.now.state.cuts node.now.area (cutoff state.now.state) worker.new.costs room f) }
+    ensures noted { OnOk result (worker.new.costs ≡ costs_after state.now.state.problem state.now.state.cuts node.now.area (cutoff state.now.state) node.now.origin worker.old.costs) }
     ensures last { IfOk result (λ f. IsLastLook room f) }
     ensures prepared { IsPrepared state.now.state worker.new }
     ensures limit { worker.new.limit ≡ worker.old.limit }
@@ -56,6 +61,7 @@ fn settlement(
     requires node { IsOpenNode state.now.state node.now }
     requires prepared { IsPrepared state.now.state worker.old }
     ensures legal { IfOk result (λ g. IsSettlement state.now.state node.now.area g) }
+    ensures looked { IfOk result (λ g. IsLook worker.old.limit room state.now.state node.now worker.old.costs worker.new.costs g) }
     ensures last { IfOk result (λ g. IsFinal room g) }
     ensures limited { IfOk result (λ g. KeepsToLimit worker.old.limit state.now.state g) }
     ensures prepared { IsPrepared state.now.state worker.new }
@@ -76,6 +82,7 @@ fn settle_again(
     requires costs { length worker.old.costs ≡ length state.now.state.problem.spans }
     requires limit { worker.old.limit ≤ most_cuts }
     ensures legal { IfOk result (λ g. IsSettlement state.now.state node.now.area g) }
+    ensures looked { IfOk result (λ g. IsLook worker.old.limit 0 state.now.state node.now worker.old.costs worker.new.costs g) }
     ensures last { IfOk result (λ g. IsFinal 0 g) }
     ensures prepared { OnOk result (IsPrepared state.now.state worker.new) }
     ensures limit { worker.new.limit ≡ worker.old.limit }
@@ -94,6 +101,8 @@ fn add_cuts<D: Disk>(alloc: Global, pool: &mut Pool<D>, mults: Mults) -> Result<
     ensures unspent { ¬ IsErrOf result CommitFault.Budget }
     ensures same { IsSameButCuts pool.old.state.state pool.new.state.state }
     ensures few { length pool.new.state.state.cuts ≤ length pool.old.state.state.cuts + length mults }
+    ensures made { OnOk result (Makes (map Cut mults) pool.old.state pool.new.state) }
+    ensures unended { OnErr result (EndsNoNode pool.old.state pool.new.state) }
 {
     for mult in mults.into_vec() {
         apply_event(alloc, pool, Event::Cut { mult })?;
@@ -118,6 +127,8 @@ pub fn decide<D: Disk>(
     ensures unspent { ¬ IsErrOf result CommitFault.Budget }
     ensures same { IsSameButCuts pool.old.state.state pool.new.state.state }
     ensures legal { IfOk result (λ g. IsSettlement pool.new.state.state node.now.area g) }
+    ensures decision { IfOk result (λ g. IsDecision worker.old.limit node.now pool.old.state pool.new.state worker.old.costs worker.new.costs g) }
+    ensures unended { OnErr result (EndsNoNode pool.old.state pool.new.state) }
     ensures last { IfOk result (λ g. IsFinal 0 g) }
     ensures within_cuts { length pool.new.state.state.cuts ≤ max worker.old.limit (length pool.old.state.state.cuts) }
     ensures prepared { OnOk result (IsPrepared pool.new.state.state worker.new) }
@@ -125,11 +136,11 @@ pub fn decide<D: Disk>(
 {
     let state = pool.state();
     let room = (worker.limit as usize).saturating_sub(state.book().len());
-    let Ok(settlement) = settlement(alloc, state, worker, node, room) else {
+    let Ok(first) = settlement(alloc, state, worker, node, room) else {
         return Err(CommitFault::Memory);
     };
-    let Settlement::Separated { mults } = settlement else {
-        return Ok(settlement);
+    let Settlement::Separated { mults } = first else {
+        return Ok(first);
     };
     add_cuts(alloc, pool, mults)?;
     match settle_again(alloc, pool.state(), worker, node) {

@@ -1,5 +1,5 @@
 // Events of the worker that searches.
-ghost use Rattle.std.specs.Prelude.{◌≡◌, ◌↔◌, [], true, Some, None, OnOk, OnErr, IfErr, IsErrOf, length};
+ghost use Rattle.std.specs.Prelude.{◌≡◌, ◌↔◌, [], ◌∷◌, true, Some, None, OnOk, OnErr, IfErr, IsErrOf, length};
 ghost use Rattle.event_core.specs.States.{is_open};
 ghost use Rattle.event_core.specs.After.{after, after_claim};
 ghost use Rattle.event_core.specs.Histories.{IsLegal, is_journaled};
@@ -7,7 +7,9 @@ ghost use Rattle.event_core.specs.Laws.{unheld};
 ghost use Rattle.node_pool.specs.Halting.{passes_budget};
 ghost use Rattle.core_search.specs.Entries.{IsGreatest};
 ghost use Rattle.core_search.specs.Holding.{IsHeldAlone};
+ghost use Rattle.node_events.specs.declared.event.Event.TheVariants as event;
 ghost use Rattle.core_search.specs.Pools.{PoolGoesOn, StaysSound, FailsBy};
+ghost use Rattle.core_search.specs.Visits.{EndsNoNode, Makes};
 
 use node_events::Event;
 use node_pool::{Claim, CommitFault, Pool};
@@ -27,6 +29,8 @@ pub fn claim_node<D: Disk>(alloc: Global, pool: &mut Pool<D>, node: u32) -> Resu
     ensures sound { StaysSound pool.old pool.new }
     ensures claimed { OnOk result (pool.new.state.state ≡ after_claim pool.old.state.state (Some 0) node) }
     ensures failed { OnErr result (pool.new.state.state ≡ pool.old.state.state) }
+    ensures made { OnOk result (Makes (event.Claim node ∷ []) pool.old.state pool.new.state) }
+    ensures unended { EndsNoNode pool.old.state pool.new.state }
 {
     pool.ready(alloc)?;
     match pool.claim(WORKER) {
@@ -54,6 +58,8 @@ pub fn apply_event<D: Disk>(
     ensures spent { IsErrOf result CommitFault.Budget ↔ (passes_budget pool.old.budget (length pool.old.state.state.nodes) event ≡ true) }
     ensures applied { OnOk result (pool.new.state.state ≡ after pool.old.state.state (Some 0) event) }
     ensures failed { OnErr result (pool.new.state.state ≡ pool.old.state.state) }
+    ensures made { OnOk result (Makes (event ∷ []) pool.old.state pool.new.state) }
+    ensures unmade { OnErr result (Makes [] pool.old.state pool.new.state) }
 {
     match pool.commit(alloc, WORKER, event) {
         Ok(_) => Ok(()),
@@ -68,6 +74,7 @@ pub fn release<D: Disk>(pool: &mut Pool<D>, node: u32)
     ensures released { pool.new.state.state ≡ unheld pool.old.state.state }
     ensures journal { pool.new.journal ≡ pool.old.journal }
     ensures halt { pool.new.halt ≡ pool.old.halt }
+    ensures made { Makes (event.Release node ∷ []) pool.old.state pool.new.state }
 {
     pool.release(WORKER, node);
 }

@@ -9,6 +9,7 @@ ghost use Rattle.core_search.specs.Endings.{IsSpent, HasSplitNext};
 ghost use Rattle.core_search.specs.Entries.{ExtendsHistory};
 ghost use Rattle.core_search.specs.Pools.{IsHaltOf, is_disk};
 ghost use Rattle.problem.specs.Limits.{most_cuts};
+ghost use Rattle.core_search.specs.Visits.{SearchesNodes};
 
 use crate::open_node::open_nodes;
 use crate::step::step;
@@ -44,6 +45,8 @@ pub fn search<D: Disk>(alloc: Global, pool: &mut Pool<D>, cuts: u32) -> Ending
 
     // Each event is legal, as it is in each state's history; here it is one of worker 0, and a claim is of the open node of greatest number.
     ensures goes_on { ExtendsHistory pool.old.state pool.new.state }
+    // Each node that ends was looked at with the room that was left for cuts.
+    ensures visits { SearchesNodes cuts pool.old.state pool.new.state }
     ensures problem { pool.new.state.state.problem ≡ pool.old.state.state.problem }
     ensures unheld { pool.new.state.state.holds ≡ [] }
     ensures within_budget { length pool.new.state.state.nodes ≤ max pool.old.budget (length pool.old.state.state.nodes) }

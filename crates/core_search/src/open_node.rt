@@ -7,7 +7,7 @@ ghost use Rattle.node_tree.specs.Trees.{IsTree};
 ghost use Rattle.event_core.specs.States.{tree_of};
 ghost use Rattle.event_core.specs.Sound.{IsSound};
 ghost use Rattle.expand.specs.Verdicts.{IsPart};
-ghost use Rattle.core_search.specs.OpenNodes.{origin_of, children, IsOpenNode, AreOpenNodes};
+ghost use Rattle.core_search.specs.OpenNodes.{origin_of, children, HasNoOrigin, IsOpenNode, AreOpenNodes};
 
 use event_core::{SplitPlace, State};
 use expand::Origin;
@@ -29,7 +29,8 @@ pub struct OpenNode {
 
 /// The open nodes of a state, by rising number. The one error is want of memory.
 pub fn open_nodes(alloc: Global, state: &State) -> Result<Vec<OpenNode>, AllocError>
-    ensures { IfOk result (λ v. AreOpenNodes state.now.state v.items) }
+    ensures listed { IfOk result (λ v. AreOpenNodes state.now.state v.items) }
+    ensures new { IfOk result (λ v. All HasNoOrigin v.items) }
 {
     let tree = state.tree();
     tree.conditions_hold();

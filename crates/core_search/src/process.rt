@@ -5,9 +5,11 @@ ghost use Rattle.event_core.specs.States.{box_of, cutoff};
 ghost use Rattle.event_core.specs.After.{after_offer, after_close};
 ghost use Rattle.expand.specs.Settlements.{IsBetterPoint, IsBranching};
 ghost use Rattle.core_search.specs.Holding.{IsHeldAlone};
-ghost use Rattle.core_search.specs.OpenNodes.{IsOpenNode, AreOpenNodes};
+ghost use Rattle.core_search.specs.OpenNodes.{IsOpenNode, AreOpenNodes, children};
 ghost use Rattle.core_search.specs.Pools.{PoolGoesOn, StaysSound, FailsBy};
 ghost use Rattle.core_search.specs.Processing.{EndsNode, IsExhausted};
+ghost use Rattle.node_events.specs.declared.event.Event.TheVariants as event;
+ghost use Rattle.core_search.specs.Visits.{Makes, EndsNoNode, IsSettledBy};
 ghost use Rattle.core_search.specs.Workers.{IsPrepared};
 
 use crate::deciding::decide;
@@ -39,6 +41,8 @@ fn close<D: Disk>(
     ensures cuts { pool.new.state.state.cuts ≡ pool.old.state.state.cuts }
     ensures closed { OnOk result (pool.new.state.state ≡ after_close pool.old.state.state node) }
     ensures failed { OnErr result (IsHeldAlone pool.new.state.state node) }
+    ensures made { OnOk result (Makes (event.Close node proof ∷ []) pool.old.state pool.new.state) }
+    ensures unended { OnErr result (EndsNoNode pool.old.state pool.new.state) }
 {
     apply_event(alloc, pool, Event::Close { node, proof })
 }
@@ -63,6 +67,8 @@ fn offer_point<D: Disk>(
     ensures cuts { pool.new.state.state.cuts ≡ pool.old.state.state.cuts }
     ensures closed { OnOk result (pool.new.state.state ≡ after_close (after_offer pool.old.state.state point) node.now.number) }
     ensures failed { OnErr result (IsHeldAlone pool.new.state.state node.now.number) }
+    ensures made { OnOk result (Makes (event.Offer point ∷ event.Close node.now.number proof ∷ []) pool.old.state pool.new.state) }
+    ensures unended { OnErr result (EndsNoNode pool.old.state pool.new.state) }
 {
     apply_event(alloc, pool, Event::Offer { point })?;
     close(alloc, pool, node.number, proof)
@@ -89,6 +95,9 @@ fn split<D: Disk>(
     ensures unchanged { OnErr result (pool.new.state.state ≡ pool.old.state.state) }
     ensures cuts { pool.new.state.state.cuts ≡ pool.old.state.state.cuts }
     ensures within_budget { length pool.new.state.state.nodes ≤ max pool.old.budget (length pool.old.state.state.nodes) }
+    ensures made { OnOk result (Makes (event.Split node.number branching.place.column branching.place.bound branching.reason ∷ []) pool.old.state pool.new.state) }
+    ensures grown { OnOk result (nodes.new.items ≡ nodes.old.items ++ children (length pool.old.state.state.nodes) node.area branching.place.column branching.place.bound branching.value) }
+    ensures unended { OnErr result (EndsNoNode pool.old.state pool.new.state) }
 {
     node_conditions_hold(pool.state(), &node);
     pool.history_holds();
@@ -135,6 +144,8 @@ pub fn process<D: Disk>(
     ensures within_cuts { length pool.new.state.state.cuts ≤ max worker.old.limit (length pool.old.state.state.cuts) }
     ensures prepared { OnOk result (IsPrepared pool.new.state.state worker.new) }
     ensures limit { worker.new.limit ≡ worker.old.limit }
+    ensures settled { OnOk result (IsSettledBy worker.old.limit node worker.old.costs worker.new.costs nodes.old.items nodes.new.items pool.old.state pool.new.state) }
+    ensures unended { OnErr result (EndsNoNode pool.old.state pool.new.state) }
 {
     match decide(alloc, pool, worker, &node)? {
         Settlement::Closed { proof } => close(alloc, pool, node.number, proof),

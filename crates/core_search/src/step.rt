@@ -4,6 +4,7 @@ ghost use Rattle.outside.specs.Faults.{Counts};
 ghost use Rattle.core_search.specs.OpenNodes.{AreOpenNodes, work_left};
 ghost use Rattle.core_search.specs.Pools.{PoolGoesOn, StaysSound, IsFaultHalt, IsHaltOf, ending_of, is_disk};
 ghost use Rattle.core_search.specs.Processing.{IsEnding};
+ghost use Rattle.core_search.specs.Visits.{EndsNoNode, Visits};
 ghost use Rattle.core_search.specs.Workers.{IsPrepared};
 
 use crate::events::{claim_node, release};
@@ -59,6 +60,8 @@ pub fn step<D: Disk>(
     ensures ended { IfSome result (λ e. IsEnding pool.old.budget e pool.new.state.state) }
     ensures halted { IfSome result (λ e. IsHaltOf e pool.new.halt) }
     ensures cause { IfSome result (λ e. Counts (D.count pool.old.journal.disk) (D.count pool.new.journal.disk) (is_disk e)) }
+    ensures visited { IfNone result (Visits worker.old.limit node worker.old.costs worker.new.costs nodes.old.items nodes.new.items pool.old.state pool.new.state) }
+    ensures broken_off { IfSome result (λ e. EndsNoNode pool.old.state pool.new.state) }
 {
     let number = node.number;
     let Ok(()) = claim_node(alloc, pool, number) else {

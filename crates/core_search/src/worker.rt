@@ -1,6 +1,7 @@
 // What the worker keeps between nodes.
-ghost use Rattle.std.specs.Prelude.{◌≡◌, ◌≤◌, IfOk, OnOk, length};
+ghost use Rattle.std.specs.Prelude.{◌≡◌, ◌≤◌, IfOk, OnOk, length, replicate};
 ghost use Rattle.dual_simplex.specs.Prepared.{IsRelaxationOf};
+ghost use Rattle.pseudo_cost.specs.ColumnGains.{no_column_gains};
 ghost use Rattle.core_search.specs.Workers.{IsPrepared};
 ghost use Rattle.problem.specs.Limits.{most_cuts};
 
@@ -36,6 +37,7 @@ impl Worker {
         requires { limit ≤ most_cuts }
         ensures prepared { IfOk result (λ w. IsPrepared state.now.state w) }
         ensures limit { IfOk result (λ w. w.limit ≡ limit) }
+        ensures costs { IfOk result (λ w. w.costs ≡ replicate (length state.now.state.problem.spans) no_column_gains) }
     {
         let relaxation = relaxation_of(alloc, state)?;
         let costs = Costs::make(alloc, state.problem().columns())?;
@@ -52,6 +54,7 @@ impl Worker {
         requires limit { self.old.limit ≤ most_cuts }
         ensures prepared { OnOk result (IsPrepared state.now.state self.new) }
         ensures limit { self.new.limit ≡ self.old.limit }
+        ensures kept { self.new.costs ≡ self.old.costs }
     {
         self.relaxation = relaxation_of(alloc, state)?;
         Ok(())

@@ -1,9 +1,10 @@
 -- What a command keeps of its journal, from the first moment on: before it is opened, while it is, and while it is searched.
-use Rattle.std.specs.Prelude.{◌≡◌, ◌⊎◌, ℕ, ◌+◌, ◌≤◌, ℤ, pos, Bool, true, false, List, [], ◌∷◌, ◌++◌, length, take, Option, Some, None, option_map, slice_get, refl}
+use Rattle.std.specs.Prelude.{◌≡◌, ◌⊎◌, ℕ, ◌+◌, ◌≤◌, ◌<◌, ℤ, pos, Bool, true, false, List, [], ◌∷◌, ◌++◌, length, take, Option, Some, None, option_map, slice_get, refl}
 use Rattle.std.specs.Option.{ForSome}
 use Rattle.std.proofs.Common.{arith, sym, ◌∙◌, ap, subst, inl, inr, length-append}
+use Rattle.std.proofs.lemmas.Bool.{cases_lt}
 use Rattle.std.proofs.lemmas.List.{take_all}
-use Rattle.std.proofs.lemmas.Option.{same_Some, slice_get_within}
+use Rattle.std.proofs.lemmas.Option.{same_Some, slice_get-get_or, slice_get_within}
 use Rattle.std.proofs.lemmas.Int.{ints}
 use Rattle.outside.specs.Faults.{Counts, Rose}
 use Rattle.outside.specs.Images.{IsImage, AtRest, LeavesOnly, NoMomentPasses}
@@ -27,9 +28,11 @@ use Rattle.resume.specs.declared.fault.ResumeFault.{ResumeFault}
 use Rattle.resume.specs.declared.fault.ResumeFault.TheVariants as fault
 use Rattle.resume.specs.Refusals.{is_disk, is_refusal}
 use Rattle.solve_top.specs.Statuses.{refusal_of}
-use Rattle.solve_top.specs.Changes.{DiskChange, IsUntouched, Rises, disk_change}
-use Rattle.solve_top.specs.Journals.{IsKept, IsKeptUnopened, IsOpened, IsUnopened, KeepsJournal}
-use Rattle.solve_top.specs.Models.{IsFreshOrWith, StandsWith, record_of}
+use Rattle.solve_top.specs.declared.request.Request.{Request}
+use Rattle.solve_top.specs.declared.request.Request.TheVariants.{Solve, Resume, Show, Drill}
+use Rattle.solve_top.specs.Changes.{SourceChange, DiskChange, IsUntouched, Rises, disk_change}
+use Rattle.solve_top.specs.Journals.{BeginsAtMost, HasNoNewEvent, IsKept, IsKeptUnopened, IsOpened, IsUnopened, KeepsJournal}
+use Rattle.solve_top.specs.Models.{IsFreshOrWith, StandsWith, model_before, record_of}
 
 -- ---- the record of a model
 same_bound : (upper : Option ℕ) → bound_of (option_map pos upper) ≡ upper
@@ -58,6 +61,15 @@ stands_before : (p : Problem) (b model c : List ℕ) → IsModelOf model p → I
 stands_before p b model c is stands (inl same) = stands_same p b c same stands
 stands_before p b model c is stands (inr begun) = inr (model ∷ [], [], begun.1, model_stands p model is)
 
+-- the same, by this record of the model
+of_same : (p : Problem) (b c model : List ℕ) → records c ≡ records b → IsFreshOrOf model p b → IsFreshOrOf model p c
+of_same p b c model same (inl fresh) = inl (same ∙ fresh)
+of_same p b c model same (inr s) = inr (s.0, s.1, same ∙ s.2, s.3, s.4)
+
+begun_before : (p : Problem) (b model c : List ℕ) → IsModelOf model p → IsFreshOrOf model p b → IsAsBeforeOrBegun (records b) model c → IsFreshOrOf model p c
+begun_before p b model c is held (inl same) = of_same p b c model same held
+begun_before p b model c is held (inr begun) = inr (model ∷ [], [], begun.1, refl, model_stands p model is)
+
 -- ---- payloads that begin those of a moment
 first_held : (ps : List (List ℕ)) (r : Records) → BeginsWith ps r → take (length ps) (payloads_held r) ≡ ps
 first_held ps (Holds rs) begins = ap payloads_held begins
@@ -67,6 +79,16 @@ first_held ps (BrokenAt place) begins = absurd cc
 first_payloads : (now : Moment) (ps : List (List ℕ)) → BeginsWith ps (records now.seen) → take (length ps) (payloads_in now) ≡ ps
 unfolding payloads_in
 first_payloads now ps begins = first_held ps (records now.seen) begins
+
+-- two lists of which one begins the other, have the same first payload
+same_first : (ps qs ps' qs' : List (List ℕ)) (x y : List ℕ) → ps ≡ x ∷ ps' → qs ≡ y ∷ qs' → take (length ps) qs ≡ ps → y ≡ x
+same_first ps qs ps' qs' x y e f g = ap model_in ((λ i. take (length (sym e i)) (sym f i)) ∙ g ∙ e)
+
+of_first : (p : Problem) (model : List ℕ) (ps rest : List (List ℕ)) (c : List ℕ) → ps ≡ model_in ps ∷ rest → model_in ps ≡ model → BeginsWith ps (records c) → IsFreshOrStands p c → IsFreshOrOf model p c
+of_first p model ps rest c parts of_model begins (inl fresh) = inl fresh
+of_first p model ps rest c parts of_model begins (inr s) =
+    let first : take (length ps) s.0 ≡ ps = ap (take (length ps)) (sym (ap payloads_held s.2)) ∙ first_held ps (records c) begins in
+    inr (s.0, s.1, s.2, same_first ps s.0 rest s.3.rest (model_in ps) (model_in s.0) parts s.3.parts first ∙ of_model, s.3)
 
 held_payloads : (now : Moment) (ps : List (List ℕ)) → records now.seen ≡ Holds ps → payloads_in now ≡ ps
 unfolding payloads_in
@@ -123,31 +145,56 @@ module _ {D : Type 0} (tells : Bool) (past : D → List Moment) (now : D → Mom
     | inr more ↦ then.stands i m c (omega (arith, more, first.next)) at is
   ]
 
+  -- a moment of the opening
+  of_opening : (i : ℕ) (m : Moment) → i < length (past b) + 1 → slice_get ms i ≡ Some m → slice_get (past b ++ now b ∷ []) i ≡ Some m
+  of_opening i m less at =
+      let within : i < length (past b ++ now b ∷ []) = omega (arith, less, length-append (past b) (now b ∷ [])) in
+      let there = slice_get-get_or (past b ++ now b ∷ []) i (now b) within in
+      there ∙ ap Some (same_Some _ m (sym (then.extends i _ there) ∙ at))
+
+  begun_whole : IsFreshOrOf model p (now a).seen → EachFrom (length (past a)) ms (IsFreshOrOf model p)
+  begun_whole held i m c ge at is = elim (cases_lt i (length (past b) + 1)) [
+    | inl less ↦
+        begun_before p (now a).seen model c (model_opened model p es opened (disk_change tells past now count a b) first) held
+        (run_each (past a) (now a) (past b) (now b) (IsAsBeforeOrBegun (records (now a).seen) model) (first.any_moment rests) i m c ge (of_opening i m less at) is)
+    | inr more ↦
+        of_first p model (payloads_in (now b)) first.stands.rest c first.stands.parts first.of_model
+        (then.history.lasting (length (past b)) i (now b) m (payloads_in (now b)) first.begun (omega (arith, more)) last_opened at first.all c is)
+        (then.stands i m c (omega (arith, more, first.begun)) at is)
+  ]
+
   -- the opening counted no fault
   unless_before : count b ≡ count a → ¬ Rises (record { before = count a; after = count e }) → ¬ Rises (record { before = count b; after = count e })
   unless_before same calm rose = calm (subst (λ (n : ℕ). Rises (record { before = n; after = count e })) same rose)
 
   -- whatever else is asked of the problem makes it this one
-  pub kept_whole : (IsOwn : Problem → Type 0) → ((o : Problem) → IsOwn o → o ≡ p) → count b ≡ count a → KeepsJournal (disk_change tells past now count a e) IsOwn
+  pub kept_whole : (IsOwn : List ℕ → Problem → Type 0) → ((l : List ℕ) (o : Problem) → IsOwn l o → (o ≡ p) × (l ≡ model)) → count b ≡ count a → KeepsJournal (disk_change tells past now count a e) IsOwn
   kept_whole IsOwn one same = record {
     extends = λ i m at. then.extends i m (continued (past a) (now a) (past b) (now b) (IsAsBeforeOrBegun (records (now a).seen) model) (first.any_moment rests) i m at);
     history = λ ps held. history_whole;
     prefixes = λ ps held calm. prefixes_whole (unless_before same calm);
-    stands = λ o own stands.
-        subst (λ (x : Problem). EachFrom (length (past a)) ms (IsFreshOrStands x)) (sym (one o own))
-        (stands_whole (subst (λ (x : Problem). IsFreshOrStands x (now a).seen) (one o own) stands));
+    stands = λ l o own stands.
+        subst (λ (x : Problem). EachFrom (length (past a)) ms (IsFreshOrStands x)) (sym (one l o own).0)
+        (stands_whole (subst (λ (x : Problem). IsFreshOrStands x (now a).seen) (one l o own).0 stands));
+    begun = λ l o own held.
+        subst (λ (x : Problem × List ℕ). EachFrom (length (past a)) ms (IsFreshOrOf x.1 x.0)) (λ i. (sym (one l o own).0 i, sym (one l o own).1 i))
+        (begun_whole (subst (λ (x : Problem × List ℕ). IsFreshOrOf x.1 x.0 (now a).seen) (λ i. ((one l o own).0 i, (one l o own).1 i)) held));
     rests = λ calm. then.rests (unless_before same calm);
   }
 
 -- ---- one that was not opened
-pub kept_unopened : (model : List ℕ) (d : DiskChange) (IsOwn : Problem → Type 0) → IsKeptUnopened model d → ((o : Problem) → IsOwn o → IsModelOf model o) → KeepsJournal d IsOwn
+pub kept_unopened : (model : List ℕ) (d : DiskChange) (IsOwn : List ℕ → Problem → Type 0) → IsKeptUnopened model d → ((l : List ℕ) (o : Problem) → IsOwn l o → IsModelOf model o × (l ≡ model)) → KeepsJournal d IsOwn
 kept_unopened model d IsOwn kept own = record {
   extends = continued d.past_before d.now_before d.past_after d.now_after (IsAsBeforeOrBegun (records d.now_before.seen) model) kept.any_moment;
   history = kept.history;
   prefixes = kept.prefixes;
-  stands = λ o is stands i m c ge at image.
-      stands_before o d.now_before.seen model c (own o is) stands
+  stands = λ l o is stands i m c ge at image.
+      stands_before o d.now_before.seen model c (own l o is).0 stands
       (run_each d.past_before d.now_before d.past_after d.now_after (IsAsBeforeOrBegun (records d.now_before.seen) model) kept.any_moment i m c ge at image);
+  begun = λ l o is held i m c ge at image.
+      subst (λ (x : List ℕ). IsFreshOrOf x o c) (sym (own l o is).1)
+      (begun_before o d.now_before.seen model c (own l o is).0 (subst (λ (x : List ℕ). IsFreshOrOf x o d.now_before.seen) (own l o is).1 held)
+      (run_each d.past_before d.now_before d.past_after d.now_after (IsAsBeforeOrBegun (records d.now_before.seen) model) kept.any_moment i m c ge at image));
   rests = kept.rests;
 }
 
@@ -157,7 +204,7 @@ module _ {D : Type 0} (tells : Bool) (past : D → List Moment) (now : D → Mom
   leaves_seen : (P : List ℕ → Type 0) → P (now a).seen → LeavesOnly (past a) (now a) (past e) (now e) P
   leaves_seen P here = stays_on (past a) (past a) (past e) (now a) (now a) (now e) P (started (past a) (now a) P (λ c is. subst P (sym (rests c is)) here)) none
 
-  pub kept_untouched : (IsOwn : Problem → Type 0) → KeepsJournal (disk_change tells past now count a e) IsOwn
+  pub kept_untouched : (IsOwn : List ℕ → Problem → Type 0) → KeepsJournal (disk_change tells past now count a e) IsOwn
   kept_untouched IsOwn = record {
     extends = continued (past a) (now a) (past e) (now e) Anything (leaves_seen Anything tt);
     history = λ ps held. history_begins (past a) (now a) (past e) (now e) ps (leaves_seen (λ c. records c ≡ Holds ps) held) (some_stands (past a) (now a) (past e) (now e) (λ c. records c ≡ Holds ps) none)
@@ -165,9 +212,21 @@ module _ {D : Type 0} (tells : Bool) (past : D → List Moment) (now : D → Mom
     prefixes = λ ps held calm. run_each (past a) (now a) (past e) (now e) (λ c. IsPrefixOf (payloads_in (now e)) (records c))
         (leaves_seen (λ c. IsPrefixOf (payloads_in (now e)) (records c))
         (prefix_of_all ps (payloads_in (now e)) (records (now a).seen) held (ap payloads_in none.same ∙ held_payloads (now a) ps held)));
-    stands = λ o own stands. run_each (past a) (now a) (past e) (now e) (IsFreshOrStands o) (leaves_seen (IsFreshOrStands o) stands);
+    stands = λ l o own stands. run_each (past a) (now a) (past e) (now e) (IsFreshOrStands o) (leaves_seen (IsFreshOrStands o) stands);
+    begun = λ l o own held. run_each (past a) (now a) (past e) (now e) (IsFreshOrOf l o) (leaves_seen (IsFreshOrOf l o) held);
     rests = λ calm. subst AtRest (sym none.same) rests;
   }
+
+pub begins_untouched : (model : List ℕ) (d : DiskChange) → IsUntouched d → AtRest d.now_before → BeginsAtMost model d
+begins_untouched model d none rests =
+    stays_on d.past_before d.past_before d.past_after d.now_before d.now_before d.now_after (IsAsBeforeOrBegun (records d.now_before.seen) model)
+    (started d.past_before d.now_before (IsAsBeforeOrBegun (records d.now_before.seen) model) (λ c is. inl (ap records (rests c is)))) none
+
+pub no_new_event : (q : Request) (m : SourceChange) (d : DiskChange) → IsUntouched d → HasNoNewEvent q m d
+no_new_event (Solve limits upper) m d none = λ told tells rests. begins_untouched (record_of m.text upper) d none rests
+no_new_event (Resume limits) m d none = λ tells rests. begins_untouched (model_before d) d none rests
+no_new_event Show m d none = none
+no_new_event (Drill seed limits) m d none = none
 
 -- ---- by the clauses of its opening
 pub same_model : (a b : Moment) → records a.seen ≡ Holds (payloads_in b) → model_in (payloads_in b) ≡ model_in (payloads_in a)

@@ -20,14 +20,15 @@ use Rattle.solve_top.specs.declared.request.Request.TheVariants.{Solve, Resume, 
 use Rattle.solve_top.specs.Requests.{limits_in}
 use Rattle.solve_top.specs.Changes.{SourceChange, SinkChange, DiskChange, Stays, TakesNothing, IsUntouched}
 use Rattle.solve_top.specs.Models.{BeganWith, HasRead, IsProblemOf, RefusesJournal, record_of}
-use Rattle.solve_top.specs.Journals.{HoldsSearch, IsUnopened, LeavesAlone}
+use Rattle.solve_top.specs.Journals.{HasEventsOf, HasNoNewEvent, HoldsSearch, IsUnopened, LeavesAlone}
 use Rattle.solve_top.specs.Searches.{Search, events_read}
 use Rattle.solve_top.specs.Steps.{IsPerformed, IsReading, IsRefusedBy, IsRefusedDrill, IsShowingOf, IsSolution, IsWithin, fails_by_disk, without_disk}
+use Rattle.solve_top.proofs.Opened.{no_new_event}
 
 -- a search that a command began
 pub searched : (q : Request) (m : SourceChange) (d : DiskChange) (cert : SinkChange) (p : Problem) (s : Search) (o : Result Answer Refusal) → IsWithin q p s → IsProblemOf q m d p → (es : List Entry) → BeganWith q m d p es
-    → events_read s.history ≡ es → IsSolution q s cert o → Stays m.faults → Counts d.faults.before d.faults.after (fails_by_disk o) → (fails_by_disk o ≡ false → HoldsSearch q m d s) → IsPerformed q m d cert (Some s) o
-searched q m d cert p s o within of es began read solution model cause journal = record {
+    → events_read s.history ≡ es → IsSolution q s cert o → Stays m.faults → Counts d.faults.before d.faults.after (fails_by_disk o) → (fails_by_disk o ≡ false → HoldsSearch q m d s) → HasEventsOf q d s → IsPerformed q m d cert (Some s) o
+searched q m d cert p s o within of es began read solution model cause journal events = record {
   solution = solution;
   search = record {
     problem = subst (IsProblemOf q m d) (sym within.same) of;
@@ -40,19 +41,20 @@ searched q m d cert p s o within of es began read solution model cause journal =
   model = model;
   cause = cause;
   journal = journal;
+  events = events;
 }
 
 -- a journal that was not opened
 module _ (q : Request) (m : SourceChange) (d : DiskChange) (cert : SinkChange) (P : ResumeFault → Type 0) (refuses : (f : ResumeFault) → (d.tells ≡ true → P f) → RefusesJournal q m d f)
-    (model : Stays m.faults) (read : HasRead q m) where
+    (model : Stays m.faults) (read : HasRead q m) (none : HasNoNewEvent q m d) where
   refused_by : (r : Refusal) → IsUnopened P d r → IsRefusedBy q m d r
   refused_by refusal.Usage h = absurd h
   refused_by (refusal.Model line k) h = absurd h
   refused_by (refusal.Journal f) h = (h.0, refuses f h.1, model, h.2, h.3, read)
   refused_by refusal.Read h = absurd h
-  refused_by refusal.Disk h = (model, h, read)
+  refused_by refusal.Disk h = (model, h, read, none)
   refused_by refusal.Sink h = absurd h
-  refused_by refusal.Memory h = (model, h)
+  refused_by refusal.Memory h = (model, h, none)
 
   pub unopened : (r : Refusal) → IsUnopened P d r → TakesNothing cert → Stays cert.faults → IsPerformed q m d cert None (Err r)
   unopened r h nothing kept = (refused_by r h, nothing, kept)
@@ -63,10 +65,10 @@ unread_by : (limits : Limits) (upper : Option ℕ) (m : SourceChange) (d : DiskC
 unread_by limits upper m d cert refusal.Usage h disk untouched nothing kept = absurd h
 unread_by limits upper m d cert (refusal.Model line k) h disk untouched nothing kept = ((h.0, h.1, disk, untouched), nothing, kept)
 unread_by limits upper m d cert (refusal.Journal f) h disk untouched nothing kept = absurd h
-unread_by limits upper m d cert refusal.Read h disk untouched nothing kept = ((h, disk, untouched), nothing, kept)
+unread_by limits upper m d cert refusal.Read h disk untouched nothing kept = ((h, disk, untouched, tt), nothing, kept)
 unread_by limits upper m d cert refusal.Disk h disk untouched nothing kept = absurd h
 unread_by limits upper m d cert refusal.Sink h disk untouched nothing kept = absurd h
-unread_by limits upper m d cert refusal.Memory h disk untouched nothing kept = ((h, disk), nothing, kept)
+unread_by limits upper m d cert refusal.Memory h disk untouched nothing kept = ((h, disk, no_new_event (Solve limits upper) m d untouched), nothing, kept)
 
 pub unread : (q : Request) (limits : Limits) (upper : Option ℕ) → q ≡ Solve limits upper → (m : SourceChange) (d : DiskChange) (cert : SinkChange) (r : Refusal) → IsReading m upper (Err r) → Stays d.faults
     → IsUntouched d → TakesNothing cert → Stays cert.faults → IsPerformed q m d cert None (Err r)
@@ -80,7 +82,7 @@ module _ (q : Request) (shows : q ≡ Show) where
   shown m d cert (Ok (answer.Spent lines)) h model nothing kept = absurd h
   shown m d cert (Ok (answer.Shown lines)) h model nothing kept = (shows, h, model, nothing, kept)
   shown m d cert (Err r) h model nothing kept =
-      unopened q m d cert (λ f. Refuses RefusesPayloads f (records d.now_before.seen)) (λ f refused. subst (λ (x : Request). RefusesJournal x m d f) (sym shows) refused) model (subst (λ (x : Request). HasRead x m) (sym shows) tt) r h.0 nothing kept
+      unopened q m d cert (λ f. Refuses RefusesPayloads f (records d.now_before.seen)) (λ f refused. subst (λ (x : Request). RefusesJournal x m d f) (sym shows) refused) model (subst (λ (x : Request). HasRead x m) (sym shows) tt) (no_new_event q m d h.1) r h.0 nothing kept
 
 -- nothing is written on it
 pub left_alone : (d : DiskChange) (o : Result Answer Refusal) → IsShowingOf d o → IsUntouched d
@@ -133,7 +135,7 @@ drilled_search q seed cert p s o within fresh solution reads =
 drilled : (seed : ℕ) (limits : Limits) (m : SourceChange) (d : DiskChange) (cert : SinkChange) (last : Option Search) (o : Result Answer Refusal) → IsDrilled (Drill seed limits) seed cert last o
     → Stays m.faults → Stays d.faults → IsUntouched d → IsPerformed (Drill seed limits) m d cert last o
 drilled seed limits m d cert (Some s) o h model disk untouched =
-    searched (Drill seed limits) m d cert s.problem s o h.3 h.2 (events_read s.history) h.4 refl h.0 model (subst (λ (b : Bool). Counts d.faults.before d.faults.after b) (sym h.1) disk) (λ e. untouched)
+    searched (Drill seed limits) m d cert s.problem s o h.3 h.2 (events_read s.history) h.4 refl h.0 model (subst (λ (b : Bool). Counts d.faults.before d.faults.after b) (sym h.1) disk) (λ e. untouched) untouched
 drilled seed limits m d cert None (Ok a) h model disk untouched = absurd h
 drilled seed limits m d cert None (Err refusal.Usage) h model disk untouched = absurd h.0
 drilled seed limits m d cert None (Err (refusal.Model line k)) h model disk untouched = ((h.0, model, disk, untouched), h.1, h.2)
@@ -141,7 +143,7 @@ drilled seed limits m d cert None (Err (refusal.Journal f)) h model disk untouch
 drilled seed limits m d cert None (Err refusal.Read) h model disk untouched = absurd h.0
 drilled seed limits m d cert None (Err refusal.Disk) h model disk untouched = absurd h.0
 drilled seed limits m d cert None (Err refusal.Sink) h model disk untouched = absurd h.0
-drilled seed limits m d cert None (Err refusal.Memory) h model disk untouched = ((model, disk), h.1, h.2)
+drilled seed limits m d cert None (Err refusal.Memory) h model disk untouched = ((model, disk, untouched), h.1, h.2)
 
 pub drilled_by : (q : Request) (seed : ℕ) (limits : Limits) → q ≡ Drill seed limits → (m : SourceChange) (d : DiskChange) (cert : SinkChange) (last : Option Search) (o : Result Answer Refusal)
     → IsDrilled q seed cert last o → Stays m.faults → Stays d.faults → IsUntouched d → IsPerformed q m d cert last o

@@ -16,12 +16,13 @@ use Rattle.solve_top.specs.declared.status.Status.TheVariants as status
 use Rattle.solve_top.specs.Requests.{requested}
 use Rattle.solve_top.specs.Changes.{SourceChange, SinkChange, DiskChange, disk_change, Stays, Takes, TakesPrefix, TakesNothing, IsTold}
 use Rattle.solve_top.specs.Models.{HasRead, IsOwnProblem, IsProblemOf}
-use Rattle.solve_top.specs.Journals.{KeepsJournal, LeavesAlone}
+use Rattle.solve_top.specs.Journals.{HasEventsOf, HasNoNewEvent, HoldsSearch, KeepsJournal, LeavesAlone}
 use Rattle.solve_top.specs.Searches.{Search, IsSearchOf}
 use Rattle.solve_top.specs.Output.{survey_lines}
 use Rattle.solve_top.specs.Steps.{IsPerformed, IsSearched, IsShown, IsRefusedBy, IsToldAs, RefusesWords}
 use Rattle.solve_top.specs.Statuses.{exit_number}
 use Rattle.solve_top.specs.Headline.{Run, EndsWith, Ends, as_done, as_shown, as_model, as_journal, as_read_fault, as_disk_fault, as_certificate_fault, as_lines_fault, as_spent, as_memory, in_answer, in_spent, in_figures, IsComplete, IsShowing, KeepsPromise}
+use Rattle.solve_top.proofs.Opened.{no_new_event}
 use Rattle.solve_top.proofs.Completeness.{no_fault_of_text, no_fault_of_journal}
 
 -- the text of a search's model reads
@@ -31,7 +32,7 @@ has_read (Resume limits) m d p of = tt
 has_read Show m d p of = tt
 has_read (Drill seed limits) m d p of = tt
 
-module _ (q : Request) (r : Run) (asked : requested r.words ≡ Some q) (t : Status) (number : EndsWith r t) where
+module _ (q : Request) (r : Run) (t : Status) (number : EndsWith r t) where
   at : (u : Status) → t ≡ u → EndsWith r u
   at u e = subst (EndsWith r) e number
 
@@ -39,6 +40,9 @@ module _ (q : Request) (r : Run) (asked : requested r.words ≡ Some q) (t : Sta
   module _ (s : Search) (last : r.last ≡ Some s) where
     only : (P : Search → Type 0) → P s → (u : Search) → r.last ≡ Some u → P u
     only P h u e = let same : s ≡ u = cc in subst P same h
+
+    begun : r.last ≡ None → ⊥
+    begun none = cc
 
     search_ends : (o : Result Answer Refusal) → IsSearched q r.model r.disk r.cert s o → IsToldAs r.out o t → Ends q r
     search_ends (Ok (answer.Done lines)) h (inl told) = as_done (record {
@@ -89,6 +93,8 @@ module _ (q : Request) (r : Run) (asked : requested r.words ≡ Some q) (t : Sta
       nothing = h.solution.0;
       kept = h.solution.1;
       search = only (IsSearchOf q r.model r.disk) h.search;
+      events = only (HasEventsOf q r.disk) h.events;
+      unsearched = λ none. absurd (begun none);
     })
     search_ends (Err refusal.Sink) h told = as_certificate_fault (record {
       number = at status.Sink told.0;
@@ -105,7 +111,9 @@ module _ (q : Request) (r : Run) (asked : requested r.words ≡ Some q) (t : Sta
       kept = h.solution.1;
       told = told.1;
       prefix = elim h.solution.0 [ inl none ↦ inl none | inr part ↦ inr (s, last, part.0, part.1) ];
-      search = only (λ u. (p : Request) × (requested r.words ≡ Some p) × IsSearchOf p r.model r.disk u) (q, asked, h.search);
+      search = only (IsSearchOf q r.model r.disk) h.search;
+      journal = only (HoldsSearch q r.model r.disk) (h.journal refl);
+      unsearched = λ none. absurd (begun none);
     })
 
   -- ---- of none
@@ -113,14 +121,16 @@ module _ (q : Request) (r : Run) (asked : requested r.words ≡ Some q) (t : Sta
     never : (P : Search → Type 0) → (u : Search) → r.last ≡ Some u → P u
     never P u e = absurd cc
 
-    no_memory : t ≡ status.Memory → Stays r.model.faults → Stays r.disk.faults → IsTold r.out (codes "no memory\n") → Ends q r
-    no_memory e model disk told = as_memory (record {
+    no_memory : t ≡ status.Memory → Stays r.model.faults → Stays r.disk.faults → IsTold r.out (codes "no memory\n") → HasNoNewEvent q r.model r.disk → Ends q r
+    no_memory e model disk told none = as_memory (record {
       number = at status.Memory e;
       well = record { model = model; disk = disk };
       kept = kept;
       told = told;
       prefix = inl nothing;
-      search = λ u e. never (λ v. (p : Request) × (requested r.words ≡ Some p) × IsSearchOf p r.model r.disk v) u e;
+      search = λ u e. never (IsSearchOf q r.model r.disk) u e;
+      journal = λ u e. never (HoldsSearch q r.model r.disk) u e;
+      unsearched = λ e. none;
     })
 
     refusal_ends : (f : Refusal) → IsRefusedBy q r.model r.disk f → IsToldAs r.out (Err f) t → Ends q r
@@ -133,7 +143,7 @@ module _ (q : Request) (r : Run) (asked : requested r.words ≡ Some q) (t : Sta
       well = record { model = h.1; disk = h.2 };
       only = record { told = told.1; unsearched = last; untouched = h.3; nothing = nothing; kept = kept };
     })
-    refusal_ends (refusal.Model line k) h (inr told) = no_memory told.0 h.1 h.2 told.1
+    refusal_ends (refusal.Model line k) h (inr told) = no_memory told.0 h.1 h.2 told.1 (no_new_event q r.model r.disk h.3)
     refusal_ends (refusal.Journal f) h (inl told) = as_journal (record {
       number = at status.Journal told.0;
       fault = f;
@@ -143,9 +153,10 @@ module _ (q : Request) (r : Run) (asked : requested r.words ≡ Some q) (t : Sta
       well = record { model = h.2; disk = h.3 };
       only = record { told = told.1; unsearched = last; untouched = h.4; nothing = nothing; kept = kept };
     })
-    refusal_ends (refusal.Journal f) h (inr told) = no_memory told.0 h.2 h.3 told.1
+    refusal_ends (refusal.Journal f) h (inr told) = no_memory told.0 h.2 h.3 told.1 (no_new_event q r.model r.disk h.4)
     refusal_ends refusal.Read h told = as_read_fault (record {
       number = at status.ReadFault told.0;
+      reads = h.3;
       rises = h.0;
       disk = h.1;
       only = record { told = told.1; unsearched = last; untouched = h.2; nothing = nothing; kept = kept };
@@ -159,9 +170,11 @@ module _ (q : Request) (r : Run) (asked : requested r.words ≡ Some q) (t : Sta
       nothing = nothing;
       kept = kept;
       search = λ u e. never (IsSearchOf q r.model r.disk) u e;
+      events = λ u e. never (HasEventsOf q r.disk) u e;
+      unsearched = λ e. h.3;
     })
     refusal_ends refusal.Sink h told = absurd h
-    refusal_ends refusal.Memory h told = no_memory told.0 h.0 h.1 told.1
+    refusal_ends refusal.Memory h told = no_memory told.0 h.0 h.1 told.1 h.2
 
     showing : (lines : List ℕ) → IsShown r.disk lines → q ≡ Show → Stays r.model.faults → (v : _) × IsShowing q r v × (lines ≡ survey_lines v)
     showing lines h shows model = (
@@ -199,7 +212,7 @@ complete law q r (as_memory h) can model disk cert out = inr (inr h.number)
 pub promise_asked : StandingIsNotRefused → (q : Request) (r : Run) (t : Status) (last : Option Search) (o : Result Answer Refusal) → requested r.words ≡ Some q → EndsWith r t → r.last ≡ last
     → LeavesAlone q r.model r.disk → IsPerformed q r.model r.disk r.cert last o → IsToldAs r.out o t → (r.disk.tells ≡ true → AtRest r.disk.now_before → KeepsJournal r.disk (IsOwnProblem q r.model r.disk)) → KeepsPromise r
 promise_asked law q r t last o asked number same alone h told journal =
-    let ends = performed_ends q r asked t number last o same h told in
+    let ends = performed_ends q r t number last o same h told in
     inr (inr (q, asked, record { ends = ends; complete = complete law q r ends; alone = alone; journal = journal }))
 
 -- the same of a run over a disk

@@ -26,6 +26,7 @@ use Rattle.core_search.specs.declared.node_loop.Ending.{Ending}
 use Rattle.core_search.specs.declared.node_loop.Ending.TheVariants as ending
 use Rattle.core_search.specs.Endings.{IsSpent}
 use Rattle.core_search.specs.Pools.{IsHaltOf, is_disk}
+use Rattle.core_search.specs.Visits.{SearchesNodes}
 use Rattle.vipr_print.specs.Unique.{IsWord}
 use Rattle.resume.specs.Models.{IsModelOf}
 use Rattle.resume.specs.Events.{IsReadAs}
@@ -34,7 +35,7 @@ use Rattle.solve_top.specs.declared.request.Request.{Request}
 use Rattle.solve_top.specs.Requests.{limits_in}
 use Rattle.solve_top.specs.Changes.{DiskChange, Rises, disk_change, moments_before, moments_after}
 use Rattle.solve_top.specs.Journals.{IsKept}
-use Rattle.solve_top.specs.Searches.{search_of, begin_of, events_made, events_read, IsOfWorkers}
+use Rattle.solve_top.specs.Searches.{search_of, begin_of, events_made, events_read, HasSearchedAlone, IsOfWorkers}
 use Rattle.solve_top.specs.Searchers.{GoesOnByWorkers, SearchesOn}
 use Rattle.solve_top.specs.Begun.{IsEnded, IsReady}
 use Rattle.solve_top.specs.Steps.{IsWithin}
@@ -75,6 +76,18 @@ made_last n (h ∷ hs) es stored all = if_none h.worker (events_made (hs ++ es))
 -- the events that were read are those that the search began with
 pub read_back : (q : Request) (old new : Recorded) → IsReadFrom old → GoesOnByWorkers (limits_in q).workers old new → events_read new.history ≡ old.history
 read_back q old new read goes = ap events_read goes.history ∙ read_first (limits_in q).workers old.history goes.entries read.1.read.stored goes.of_workers
+
+-- those that it made are of one worker
+pub made_alone : (old new : Recorded) → IsReadFrom old → GoesOnByWorkers 1 old new → All (IsOfWorkers 1) (events_made new.history)
+made_alone old new read goes =
+    subst (λ (l : List Entry). All (IsOfWorkers 1) l) (sym (ap events_made goes.history ∙ made_last 1 old.history goes.entries read.1.read.stored goes.of_workers)) goes.of_workers
+
+-- it searched on from those that were read
+pub searched_alone : (cuts : ℕ) (old new : Recorded) → old.state ≡ state_of old.state.problem old.history → IsReadFrom old → GoesOnByWorkers 1 old new → new.state.problem ≡ old.state.problem
+    → SearchesNodes cuts old new → HasSearchedAlone cuts new
+searched_alone cuts old new begins read goes same visits =
+    let first : events_read new.history ≡ old.history = ap events_read goes.history ∙ read_first 1 old.history goes.entries read.1.read.stored goes.of_workers in
+    record { begun = old; history = sym first; state = begins ∙ (λ i. state_of (sym same i) (sym first i)); visits = visits }
 
 -- ---- how far it went
 pub within_limits : (q : Request) (old new : Recorded) → old.state ≡ state_of old.state.problem old.history → IsReadFrom old → GoesOnByWorkers (limits_in q).workers old new → new.state.problem ≡ old.state.problem
@@ -182,6 +195,12 @@ module _ {D : Type 0} (tells : Bool) (past : D → List Moment) (now : D → Mom
         subst (λ (x : D). StandsFor p (payloads_in (now x)) (journaled last.history)) (sym same_disk)
         (subst (λ (r : Recorded). StandsFor p (payloads_in (now b)) (journaled r.history)) (sym same_state)
         (journal_stands p new.history new.state stands_there legal_there law_there stored few_there (payloads_in (now b)) (subst (λ (l : List ℕ). IsModelOf l p) (sym model_is) model) (journal (sound other))))
+
+-- what crashes leave of its history, on the disk that it left
+pub leaves_there : {D : Type 0} (past : D → List Moment) (now : D → Moment) (opened opened' : ℕ) (b e : D) (new last : Recorded) (h : Option Halt) → opened' ≡ opened → e ≡ b → last ≡ new
+    → LeavesPrefixes opened' (past b) (now b) new.history h → LeavesPrefixes opened (past e) (now e) last.history h
+leaves_there {D} past now opened opened' b e new last h same_opened same_disk same_state leaves =
+    subst (λ (x : ℕ × D × Recorded). LeavesPrefixes x.0 (past x.1) (now x.1) x.2.history h) (λ i. (same_opened i, sym same_disk i, sym same_state i)) leaves
 
 -- ---- what is known of the pool in which it ended
 pub ended : {D : Type 0} {d : Ghosts D} (q : Request) (old new : Pool D d) (e : Ending) → IsReady q old → SearchesOn (limits_in q) old e new → IsEnded q e new

@@ -1,12 +1,13 @@
 -- How a command goes on once it has a pool, and what came of it.
-use Rattle.std.specs.Prelude.{◌≡◌, ◌≤◌, ◌<◌, [], true, false, All, Option, Some, None, Result, option_map}
+use Rattle.std.specs.Prelude.{◌≡◌, ◌≤◌, ◌<◌, [], true, false, All, Option, Some, None, Result}
 use Rattle.outside.specs.Faults.{Counts}
 use Rattle.outside.specs.Images.{AtRest, IsImage}
 use Rattle.outside.specs.declared.disk.Disk.{Ghosts}
 use Rattle.event_core.specs.States.{open_count}
 use Rattle.event_core.specs.Histories.{journaled, state_of}
 use Rattle.node_journal.specs.Whole.{payloads_in}
-use Rattle.node_pool.specs.Payloads.{model_in}
+use Rattle.node_pool.specs.Payloads.{LeavesPrefixes, model_in}
+use Rattle.node_pool.specs.declared.halt.Halt.{Halt}
 use Rattle.node_pool.specs.declared.pool.Pool.{Pool}
 use Rattle.core_search.specs.Endings.{IsSpent}
 use Rattle.core_search.specs.declared.node_loop.Ending.{Ending}
@@ -24,7 +25,7 @@ use Rattle.solve_top.specs.Journals.{IsKept, KeepsJournal, LeavesAlone}
 use Rattle.solve_top.specs.Models.{IsOwnProblem}
 use Rattle.solve_top.specs.Requests.{limits_in}
 use Rattle.solve_top.specs.Searchers.{SearchesOn}
-use Rattle.solve_top.specs.Searches.{Search, events_read, search_of}
+use Rattle.solve_top.specs.Searches.{Search, events_read}
 use Rattle.solve_top.specs.Steps.{IsPerformed, IsSolution, IsWithin, fails_by_disk, without_disk}
 use Rattle.node_tree.specs.Limits.{most_nodes}
 
@@ -59,6 +60,7 @@ module _ {D : Type 0} {d : Ghosts D} where
     pub solution : IsSolution q s cert o
     pub cause : Counts (d.count pool.journal.disk) (d.count disk) (fails_by_disk o)
     pub seen : d.tells ≡ true → IsImage (d.now disk) (d.now disk).seen
+    pub leaves : d.tells ≡ true → (h : Option Halt) × LeavesPrefixes pool.journal.opened (d.past disk) (d.now disk) s.history h
     pub model : d.tells ≡ true → model_in (payloads_in (d.now disk)) ≡ model_in (payloads_in (d.now pool.journal.disk))
     pub kept : d.tells ≡ true → IsModelOf (model_in (payloads_in (d.now pool.journal.disk))) pool.state.state.problem
         → IsKept pool.journal.opened pool.state.state.problem (disk_change d.tells d.past d.now d.count pool.journal.disk disk)
@@ -79,9 +81,9 @@ abbrev pub LeadsOnBeside : {E : Type 0} {f : Ghosts E} → Request → SourceCha
 LeadsOnBeside {E} {f} q m handed pool = (e : E) (cert : SinkChange) (s : Search) (o : Result Answer Refusal) → IsSearchedIn q pool e cert s o
     → IsCarriedOut q m handed cert (Some s) (without_disk o)
 
--- How a command began: it is over without a search, or it leads on.
+-- How a command began: it is over, with no search to hand back, or it leads on.
 abbrev pub HasBegun : {D : Type 0} {d : Ghosts D} → Request → SourceChange → D → Begun D d → Type 0
 HasBegun {D} {d} q m a (begun.Over p) =
-    (cert : SinkChange) → TakesNothing cert → Stays cert.faults → IsCarriedOut q m (disk_change d.tells d.past d.now d.count a p.disk) cert (option_map search_of p.last) p.outcome
+    (p.last ≡ None) × ((cert : SinkChange) → TakesNothing cert → Stays cert.faults → IsCarriedOut q m (disk_change d.tells d.past d.now d.count a p.disk) cert None p.status)
 HasBegun {D} {d} q m a (begun.Search pool) = IsReady q pool × LeadsOn q m a pool
 HasBegun {D} {d} q m a (begun.Drill pool disk) = (disk ≡ a) × IsReady q pool × LeadsOnBeside q m (disk_change d.tells d.past d.now d.count a a) pool

@@ -18,8 +18,8 @@ use Rattle.solve_top.specs.declared.status.Status.{Status}
 use Rattle.solve_top.specs.declared.status.Status.TheVariants as status
 use Rattle.solve_top.specs.Requests.{requested, limits_in}
 use Rattle.solve_top.specs.Changes.{SourceChange, SinkChange, DiskChange, Rises, Stays, Takes, TakesPrefix, TakesNothing, IsTold, IsUntouched}
-use Rattle.solve_top.specs.Models.{HasRead, IsOwnProblem, IsFaultOf, RefusesJournal, record_of}
-use Rattle.solve_top.specs.Journals.{KeepsJournal, HoldsSearch, LeavesAlone}
+use Rattle.solve_top.specs.Models.{HasRead, IsOwnProblem, IsFaultOf, ReadsSource, RefusesJournal, record_of}
+use Rattle.solve_top.specs.Journals.{KeepsJournal, HasEventsOf, HasNoNewEvent, HoldsSearch, LeavesAlone}
 use Rattle.solve_top.specs.Searches.{Search, HasFinished, HasSpent, HasTooFewNodes, IsSearchOf, IsSolved, certificate_text, lines_due, lines_for}
 use Rattle.solve_top.specs.Output.{survey_lines}
 use Rattle.solve_top.specs.Statuses.{exit_number, refused_line, journal_line}
@@ -88,14 +88,15 @@ pub record EndsAsJournal (q : Request) (r : Run) : Type 0 where
   pub well : ReadsWell r
   pub only : TellsOnly r (journal_line fault)
 
--- 5: the model's source failed
-pub record EndsAsReadFault (r : Run) : Type 0 where
+-- 5: the command reads its model from the source, which failed
+pub record EndsAsReadFault (q : Request) (r : Run) : Type 0 where
   pub number : r.number ≡ exit_number status.ReadFault
+  pub reads : ReadsSource q
   pub rises : Rises r.model.faults
   pub disk : Stays r.disk.faults
   pub only : TellsOnly r (codes "fault read\n")
 
--- 6: the disk failed, before a search began or in it
+-- 6: The disk failed, before a search began or in it. A search that added an event to the journal is handed back, whole.
 pub record EndsAsDiskFault (q : Request) (r : Run) : Type 0 where
   pub number : r.number ≡ exit_number status.Disk
   pub rises : Rises r.disk.faults
@@ -105,6 +106,8 @@ pub record EndsAsDiskFault (q : Request) (r : Run) : Type 0 where
   pub nothing : TakesNothing r.cert
   pub kept : Stays r.cert.faults
   pub search : (s : Search) → r.last ≡ Some s → IsSearchOf q r.model r.disk s
+  pub events : (s : Search) → r.last ≡ Some s → HasEventsOf q r.disk s
+  pub unsearched : r.last ≡ None → HasNoNewEvent q r.model r.disk
 
 -- 0: the search is finished, the certificate is kept, and the lines are written; or the figures of the journal are
 pub record EndsAsDone (q : Request) (r : Run) : Type 0 where
@@ -169,14 +172,17 @@ pub record EndsAsLinesFault (q : Request) (r : Run) : Type 0 where
   pub rises : Rises r.out.faults
   pub lines : BreaksOff q r
 
--- 9: there was no memory, perhaps for the words; what went to the certificate is nothing, or a prefix of that of a finished search
-pub record EndsAsMemory (r : Run) : Type 0 where
+-- 9: There was no memory; what went to the certificate is nothing, or a prefix of that of a finished search. A search that added an event to the journal
+-- is handed back, whole.
+pub record EndsAsMemory (q : Request) (r : Run) : Type 0 where
   pub number : r.number ≡ exit_number status.Memory
   pub well : ReadsWell r
   pub kept : Stays r.cert.faults
   pub told : IsTold r.out (codes "no memory\n")
   pub prefix : TakesNothing r.cert ⊎ ((s : Search) × (r.last ≡ Some s) × HasFinished s × TakesPrefix r.cert (certificate_text s))
-  pub search : (s : Search) → r.last ≡ Some s → (q : Request) × (requested r.words ≡ Some q) × IsSearchOf q r.model r.disk s
+  pub search : (s : Search) → r.last ≡ Some s → IsSearchOf q r.model r.disk s
+  pub journal : (s : Search) → r.last ≡ Some s → HoldsSearch q r.model r.disk s
+  pub unsearched : r.last ≡ None → HasNoNewEvent q r.model r.disk
 
 -- ---- all that a run promises
 
@@ -186,12 +192,12 @@ pub data Ends (q : Request) (r : Run) : Type 0 where
   as_shown : EndsAsShown q r → Ends q r
   as_model : EndsAsModel q r → Ends q r
   as_journal : EndsAsJournal q r → Ends q r
-  as_read_fault : EndsAsReadFault r → Ends q r
+  as_read_fault : EndsAsReadFault q r → Ends q r
   as_disk_fault : EndsAsDiskFault q r → Ends q r
   as_certificate_fault : EndsAsCertificateFault q r → Ends q r
   as_lines_fault : EndsAsLinesFault q r → Ends q r
   as_spent : EndsAsSpent q r → Ends q r
-  as_memory : EndsAsMemory r → Ends q r
+  as_memory : EndsAsMemory q r → Ends q r
 
 -- the model and the journal that the command reads are well: a text that reads as a problem, and a journal that is fresh or stands for it
 abbrev pub CanBegin : Request → SourceChange → DiskChange → Type 0

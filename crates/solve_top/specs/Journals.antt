@@ -1,5 +1,5 @@
 -- What a run keeps of a journal, whatever crash comes.
-use Rattle.std.specs.Prelude.{◌≡◌, ◌⊎◌, ◌+◌, ◌≤◌, ℕ, true, List, length, None}
+use Rattle.std.specs.Prelude.{◌≡◌, ◌⊎◌, ◌+◌, ◌≤◌, ℕ, true, List, length, Option, None}
 use Rattle.problem.specs.Problem.{Problem}
 use Rattle.mps_reader.specs.Reading.{Reads}
 use Rattle.outside.specs.Images.{AtRest, LeavesOnly}
@@ -8,7 +8,8 @@ use Rattle.event_core.specs.Histories.{journaled}
 use Rattle.node_journal.specs.Records.{Holds, records}
 use Rattle.node_journal.specs.Whole.{payloads_in}
 use Rattle.node_journal.specs.History.{EachFrom, ExtendsMoments, IsHistory, IsPrefixOf, Keeps, KeepsHistory}
-use Rattle.node_pool.specs.Payloads.{model_in}
+use Rattle.node_pool.specs.Payloads.{LeavesPrefixes, model_in}
+use Rattle.node_pool.specs.declared.halt.Halt.{Halt}
 use Rattle.resume.specs.Journals.{StandsFor, StandsForSome, IsFreshOrOf, IsFreshOrStands}
 use Rattle.resume.specs.Refusals.{is_refusal}
 use Rattle.resume.specs.declared.fault.ResumeFault.{ResumeFault}
@@ -21,8 +22,8 @@ use Rattle.solve_top.specs.Changes.{SourceChange, DiskChange, Rises, Stays, IsUn
 use Rattle.solve_top.specs.Models.{IsFreshOrWith, model_before, record_of}
 use Rattle.solve_top.specs.Searches.{Search}
 
--- Of a disk that was at rest before the call. `IsOwn` says which problem the run is about.
-pub record KeepsJournal (d : DiskChange) (IsOwn : Problem → Type 0) : Type 0 where
+-- Of a disk that was at rest before the call. `IsOwn` says which problem the run is about, and by which record of its model.
+pub record KeepsJournal (d : DiskChange) (IsOwn : List ℕ → Problem → Type 0) : Type 0 where
   -- The moments from before the call stay the first ones.
   pub extends : ExtendsMoments (moments_before d) (moments_after d)
   -- Where the disk held a journal, so does what each crash leaves at each moment of the call; of two such journals one begins the other; and what all
@@ -31,7 +32,9 @@ pub record KeepsJournal (d : DiskChange) (IsOwn : Problem → Type 0) : Type 0 w
   -- Where no call of the disk failed, each crash leaves a prefix of the payloads that it holds at the end.
   pub prefixes : (ps : List (List ℕ)) → records d.now_before.seen ≡ Holds ps → ¬ Rises d.faults → EachFrom (length d.past_before) (moments_after d) (λ c. IsPrefixOf (payloads_in d.now_after) (records c))
   -- Where it was fresh or stood for the problem, so does what each crash leaves.
-  pub stands : (p : Problem) → IsOwn p → IsFreshOrStands p d.now_before.seen → EachFrom (length d.past_before) (moments_after d) (IsFreshOrStands p)
+  pub stands : (model : List ℕ) (p : Problem) → IsOwn model p → IsFreshOrStands p d.now_before.seen → EachFrom (length d.past_before) (moments_after d) (IsFreshOrStands p)
+  -- Where it did so by this record of the model, so does what each crash leaves.
+  pub begun : (model : List ℕ) (p : Problem) → IsOwn model p → IsFreshOrOf model p d.now_before.seen → EachFrom (length d.past_before) (moments_after d) (IsFreshOrOf model p)
   -- Where no call of the disk failed, it is at rest again.
   pub rests : ¬ Rises d.faults → AtRest d.now_after
 
@@ -71,6 +74,29 @@ pub record IsKeptUnopened (model : List ℕ) (d : DiskChange) : Type 0 where
   pub prefixes : (ps : List (List ℕ)) → records d.now_before.seen ≡ Holds ps → ¬ Rises d.faults → EachFrom (length d.past_before) (moments_after d) (λ c. IsPrefixOf (payloads_in d.now_after) (records c))
   pub any_moment : LeavesOnly d.past_before d.now_before d.past_after d.now_after (IsAsBeforeOrBegun (records d.now_before.seen) model)
   pub rests : ¬ Rises d.faults → AtRest d.now_after
+
+-- Each crash leaves what the disk held before the call, or where it held no payload, the record of this model alone.
+abbrev pub BeginsAtMost : List ℕ → DiskChange → Type 0
+BeginsAtMost model d = LeavesOnly d.past_before d.now_before d.past_after d.now_after (IsAsBeforeOrBegun (records d.now_before.seen) model)
+
+-- The journal has no event that it didn't have before the call: of a disk that was at rest.
+abbrev pub HasNoNewEvent : Request → SourceChange → DiskChange → Type 0
+HasNoNewEvent (Solve limits upper) m d = m.tells ≡ true → d.tells ≡ true → AtRest d.now_before → BeginsAtMost (record_of m.text upper) d
+HasNoNewEvent (Resume limits) m d = d.tells ≡ true → AtRest d.now_before → BeginsAtMost (model_before d) d
+HasNoNewEvent Show m d = IsUntouched d
+HasNoNewEvent (Drill seed limits) m d = IsUntouched d
+
+-- Once the journal was opened, each crash leaves a prefix of the record and of the events of this history, perhaps with the one in whose call the disk
+-- failed.
+abbrev pub LeavesEvents : DiskChange → List Entry → Type 0
+LeavesEvents d history = (h : Option Halt) × LeavesPrefixes (length d.past_before + 1) d.past_after d.now_after history h
+
+-- The search has all events that the disk may have, but perhaps one, in whose call it failed. A drill doesn't touch it.
+abbrev pub HasEventsOf : Request → DiskChange → Search → Type 0
+HasEventsOf (Solve limits upper) d s = d.tells ≡ true → LeavesEvents d s.history
+HasEventsOf (Resume limits) d s = d.tells ≡ true → LeavesEvents d s.history
+HasEventsOf Show d s = ⊥
+HasEventsOf (Drill seed limits) d s = IsUntouched d
 
 -- Nothing is written on a disk, however the command ends, but by `solve` where it held no payload or a journal of its model, and by `resume` where it
 -- held a journal. A drill counts no fault of the disk either.

@@ -28,12 +28,12 @@ IsProblemOf (Resume limits) m d p = d.tells ≡ true → IsModelOf (model_before
 IsProblemOf Show m d p = d.tells ≡ true → IsModelOf (model_before d) p
 IsProblemOf (Drill seed limits) m d p = Reads (generated seed) None p
 
--- the same, where the source tells its text; `show` and `drill` don't write on the disk, whatever problem they are about
-abbrev pub IsOwnProblem : Request → SourceChange → DiskChange → Problem → Type 0
-IsOwnProblem (Solve limits upper) m d p = (m.tells ≡ true) × Reads m.text upper p
-IsOwnProblem (Resume limits) m d p = IsModelOf (model_before d) p
-IsOwnProblem Show m d p = Unit {0}
-IsOwnProblem (Drill seed limits) m d p = Unit {0}
+-- the command reads its model from the source
+abbrev pub ReadsSource : Request → Type 0
+ReadsSource (Solve limits upper) = Unit {0}
+ReadsSource (Resume limits) = ⊥
+ReadsSource Show = ⊥
+ReadsSource (Drill seed limits) = ⊥
 
 -- the text of the command's model reads as a problem
 abbrev pub HasRead : Request → SourceChange → Type 0
@@ -52,6 +52,14 @@ IsFaultOf (Drill seed limits) m line k = IsRefused (generated seed) None line k
 -- the record of a text with an upper bound
 abbrev pub record_of : List ℕ → Option ℕ → List ℕ
 record_of text upper = model_code text (option_map pos upper)
+
+-- The problem is the one that the command is about, and this the record of its model, where the source tells its text. `show` and `drill` don't write
+-- on the disk, whatever they are about.
+abbrev pub IsOwnProblem : Request → SourceChange → DiskChange → List ℕ → Problem → Type 0
+IsOwnProblem (Solve limits upper) m d model p = (m.tells ≡ true) × Reads m.text upper p × (model ≡ record_of m.text upper)
+IsOwnProblem (Resume limits) m d model p = IsModelOf (model_before d) p × (model ≡ model_before d)
+IsOwnProblem Show m d model p = Unit {0}
+IsOwnProblem (Drill seed limits) m d model p = Unit {0}
 
 -- the bytes stand for the problem and these events of its search
 abbrev pub StandsWith : Problem → List Entry → List ℕ → Type 0

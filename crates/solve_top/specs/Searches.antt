@@ -8,6 +8,7 @@ use Rattle.event_core.specs.States.{State, open_count, cutoff}
 use Rattle.event_core.specs.Histories.{state_of, AreLegal}
 use Rattle.event_core.specs.Rooms.{Recorded}
 use Rattle.core_search.specs.Endings.{AdmitsSplit}
+use Rattle.core_search.specs.Visits.{SearchesNodes}
 use Rattle.cert_rows.specs.declared.certificate.Cert.{Cert}
 use Rattle.cert_rows.specs.declared.certificate.Goal.TheVariants.{Infeas}
 use Rattle.cert_rows.specs.Validity.{IsValid}
@@ -63,6 +64,13 @@ pub record IsSearchOf (q : Request) (m : SourceChange) (d : DiskChange) (s : Sea
   pub of_workers : All (IsOfWorkers (limits_in q).workers) (events_made s.history)
   pub within : length (end_of s).nodes ≤ max (limits_in q).nodes (length (begin_of s).nodes)
   pub few_cuts : length (end_of s).cuts ≤ max (limits_in q).cuts (length (begin_of s).cuts)
+
+-- One worker searched on from the events that were read, and looked at each node with the room that was left for so many cuts.
+pub record HasSearchedAlone (cuts : ℕ) (t : Recorded) : Type 0 where
+  pub begun : Recorded
+  pub history : begun.history ≡ events_read t.history
+  pub state : begun.state ≡ begin_of (search_of t)
+  pub visits : SearchesNodes cuts begun t
 
 -- its events are legal in turn, and no node is left open
 abbrev pub HasFinished : Search → Type 0

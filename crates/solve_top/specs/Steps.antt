@@ -21,8 +21,8 @@ use Rattle.solve_top.specs.declared.status.Status.{Status}
 use Rattle.solve_top.specs.declared.status.Status.TheVariants as status
 use Rattle.solve_top.specs.Requests.{limits_in}
 use Rattle.solve_top.specs.Changes.{SourceChange, SinkChange, DiskChange, Rises, Stays, Takes, TakesPrefix, TakesNothing, IsTold, IsUntouched}
-use Rattle.solve_top.specs.Models.{HasRead, IsFaultOf, RefusesJournal}
-use Rattle.solve_top.specs.Journals.{HoldsSearch, IsUnopened}
+use Rattle.solve_top.specs.Models.{HasRead, IsFaultOf, ReadsSource, RefusesJournal}
+use Rattle.solve_top.specs.Journals.{HasEventsOf, HasNoNewEvent, HoldsSearch, IsUnopened}
 use Rattle.solve_top.specs.Searches.{Search, begin_of, end_of, events_made, HasFinished, HasSpent, HasTooFewNodes, IsOfWorkers, IsSearchOf, IsSolved, certificate_text, lines_due, lines_for}
 use Rattle.solve_top.specs.Output.{survey_lines}
 use Rattle.solve_top.specs.Statuses.{status_of, refusal_line, refused_line, journal_line}
@@ -71,23 +71,25 @@ fails_by_disk (Err refusal.Disk) = true
 fails_by_disk (Err refusal.Sink) = false
 fails_by_disk (Err refusal.Memory) = false
 
--- What came of a search that a command began: it is the command's, its disk failed exactly where it ended by that, and else the disk has its events.
+-- What came of a search that a command began: it is the command's, its disk failed exactly where it ended by that, and else the disk has its events. It
+-- has all events that the disk has, but perhaps one, in whose call the disk failed.
 pub record IsSearched (q : Request) (m : SourceChange) (d : DiskChange) (cert : SinkChange) (s : Search) (o : Result Answer Refusal) : Type 0 where
   pub solution : IsSolution q s cert o
   pub search : IsSearchOf q m d s
   pub model : Stays m.faults
   pub cause : Counts d.faults.before d.faults.after (fails_by_disk o)
   pub journal : fails_by_disk o ≡ false → HoldsSearch q m d s
+  pub events : HasEventsOf q d s
 
 -- why a command came to nothing before a search began
 abbrev pub IsRefusedBy : Request → SourceChange → DiskChange → Refusal → Type 0
 IsRefusedBy q m d refusal.Usage = ⊥
 IsRefusedBy q m d (refusal.Model line k) = IsFaultOf q m line k × Stays m.faults × Stays d.faults × IsUntouched d
 IsRefusedBy q m d (refusal.Journal f) = (is_refusal f ≡ true) × RefusesJournal q m d f × Stays m.faults × Stays d.faults × IsUntouched d × HasRead q m
-IsRefusedBy q m d refusal.Read = Rises m.faults × Stays d.faults × IsUntouched d
-IsRefusedBy q m d refusal.Disk = Stays m.faults × Rises d.faults × HasRead q m
+IsRefusedBy q m d refusal.Read = Rises m.faults × Stays d.faults × IsUntouched d × ReadsSource q
+IsRefusedBy q m d refusal.Disk = Stays m.faults × Rises d.faults × HasRead q m × HasNoNewEvent q m d
 IsRefusedBy q m d refusal.Sink = ⊥
-IsRefusedBy q m d refusal.Memory = Stays m.faults × Stays d.faults
+IsRefusedBy q m d refusal.Memory = Stays m.faults × Stays d.faults × HasNoNewEvent q m d
 
 -- these lines have the figures of the journal, on which nothing was done
 pub record IsShown (d : DiskChange) (lines : List ℕ) : Type 0 where

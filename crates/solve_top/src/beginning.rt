@@ -8,7 +8,8 @@ ghost use Rattle.solve_top.specs.Requests.{HasRanges, limits_in};
 use crate::drill::drilled_pool;
 use crate::model::read_model;
 use crate::opening::{open_kept, open_of};
-use crate::outcome::{Performed, Refusal};
+use crate::outcome::{Answer, Refusal};
+use crate::ran::Ran;
 use crate::request::Request;
 use crate::show::show;
 use event_codec::laws::records_tell_apart;
@@ -20,7 +21,7 @@ use std::hash::BuildHasher;
 /// How a command began.
 pub enum Begun<D: Disk> {
     /// It is over, with no search.
-    Over(Performed<D>),
+    Over(Ran<D, Result<Answer, Refusal>>),
     /// It searches on in this pool.
     Search(Pool<D>),
     /// It searches in this pool of a drill, and leaves its disk alone.
@@ -54,18 +55,18 @@ fn solve<B: BuildHasher + Clone + Drop, S: Source, D: Disk>(
     ensures { HasBegun request.now (source_change S.tells S.left S.faults model.old model.new) disk result }
 {
     let Ok(again) = keys.clone() else {
-        return Begun::Over(Performed::refused(Refusal::Memory, disk));
+        return Begun::Over(Ran::refused(Refusal::Memory, disk));
     };
     let read = match read_model(alloc, keys, model, upper) {
         Ok(read) => read,
-        Err(refusal) => return Begun::Over(Performed::refused(refusal, disk)),
+        Err(refusal) => return Begun::Over(Ran::refused(refusal, disk)),
     };
     match open_of(alloc, again, disk, read, upper, request.limits().nodes) {
         Ok(pool) => {
             pool_is_ready(&pool, request);
             Begun::Search(pool)
         }
-        Err((refusal, disk)) => Begun::Over(Performed::refused(refusal, disk)),
+        Err((refusal, disk)) => Begun::Over(Ran::refused(refusal, disk)),
     }
 }
 
@@ -86,7 +87,7 @@ fn resume<B: BuildHasher + Drop, D: Disk>(
             pool_is_ready(&pool, request);
             Begun::Search(pool)
         }
-        Err((refusal, disk)) => Begun::Over(Performed::refused(refusal, disk)),
+        Err((refusal, disk)) => Begun::Over(Ran::refused(refusal, disk)),
     }
 }
 
@@ -107,7 +108,7 @@ fn drill<B: BuildHasher + Clone + Drop, D: Disk>(
             pool_is_ready(&pool, request);
             Begun::Drill(pool, disk)
         }
-        Err(refusal) => Begun::Over(Performed::refused(refusal, disk)),
+        Err(refusal) => Begun::Over(Ran::refused(refusal, disk)),
     }
 }
 
@@ -127,9 +128,9 @@ pub fn begin<B: BuildHasher + Clone + Drop, S: Source, D: Disk>(
         Request::Resume { limits: _ } => resume(alloc, keys, request, disk),
         Request::Show => {
             let mut disk = disk;
-            let outcome = show(alloc, keys, &mut disk);
-            Begun::Over(Performed {
-                outcome,
+            let status = show(alloc, keys, &mut disk);
+            Begun::Over(Ran {
+                status,
                 disk,
                 last: None,
             })

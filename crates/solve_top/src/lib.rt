@@ -10,6 +10,7 @@
 //! - `search`: ends a search, and writes the certificate.
 //! - `outcome`: what comes of that: an answer, or why there is none.
 //! - `output`: the lines.
+//! - `ran`: how a run ended.
 //! - `telling`: tells the outcome.
 //! - `status`: how a run ends.
 //! - `top_call`: `run` and `run_one`, all of this in its order.
@@ -21,6 +22,7 @@ mod model;
 mod opening;
 mod outcome;
 mod output;
+mod ran;
 mod request;
 mod search;
 mod searcher;
@@ -31,6 +33,7 @@ mod top_call;
 
 pub use command_words::{Paths, Words, WordsFault, paths_of};
 pub use event_core::State;
+pub use ran::Ran;
 pub use status::Status;
 pub use telling::tell_no_place;
-pub use top_call::{Ran, run, run_one};
+pub use top_call::{run, run_one};

@@ -1,5 +1,5 @@
 // Ends a search: writes the certificate of one that is finished.
-ghost use Rattle.std.specs.Prelude.{◌≡◌, ◌<◌, ◌++◌, true, false, None, All, OnOk, OnErr};
+ghost use Rattle.std.specs.Prelude.{◌≡◌, ◌<◌, ◌++◌, true, false, Some, None, All, OnOk, OnErr};
 ghost use Rattle.outside.specs.Faults.{Counts};
 ghost use Rattle.outside.specs.Images.{AtRest, IsImage};
 ghost use Rattle.outside.specs.Stream.{AppendsPrefix};
@@ -19,6 +19,7 @@ ghost use Rattle.solve_top.specs.Steps.{IsSolution, fails_by_disk};
 
 use crate::outcome::{Answer, Refusal};
 use crate::output::{finished_text, spent_text};
+use crate::ran::Ran;
 use crate::request::Request;
 use cert_merge::merge;
 use cert_rows::Cert;
@@ -111,17 +112,6 @@ fn spend(alloc: Global, state: &State, request: &Request) -> Result<Answer, Refu
     Ok(Answer::Spent(lines))
 }
 
-/// A search that has ended.
-#[derive(Drop)]
-pub struct Searched<D> {
-    /// What came of it.
-    pub outcome: Result<Answer, Refusal>,
-    /// The state at which it ended.
-    pub state: State,
-    /// The disk of its journal.
-    pub disk: D,
-}
-
 // What comes of a search that ended so.
 fn conclude<C: Sink>(
     alloc: Global,
@@ -164,18 +154,19 @@ pub fn end_search<D: Disk, C: Sink>(
     pool: Pool<D>,
     request: &Request,
     cert: &mut C,
-) -> Searched<D>
+) -> Ran<D, Result<Answer, Refusal>>
     requires { IsEnded request.now ending pool }
-    ensures { IsSearchedSince request.now ending pool result.disk (sink_change C.tells C.taken C.kept C.faults cert.old cert.new) (search_of result.state) result.outcome }
+    ensures last { result.last ≡ Some pool.state }
+    ensures since { IsSearchedSince request.now ending pool result.disk (sink_change C.tells C.taken C.kept C.faults cert.old cert.new) (search_of pool.state) result.status }
 {
     pool.history_holds();
     let (state, disk) = part(pool);
     state.conditions_hold();
     journals_are_legal(state.problem());
     let outcome = conclude(alloc, ending, &state, request, cert);
-    Searched {
-        outcome,
-        state,
+    Ran {
+        status: outcome,
         disk,
+        last: Some(state),
     }
 }

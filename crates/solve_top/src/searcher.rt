@@ -1,7 +1,8 @@
 //! Searches on in pools: by one worker alone, or by a crew.
 ghost use Rattle.solve_top.specs.Begun.{IsEnded, IsReady};
 ghost use Rattle.solve_top.specs.Requests.{HasRanges, limits_in};
-ghost use Rattle.solve_top.specs.Searchers.{SearchesOn};
+ghost use Rattle.core_search.specs.Visits.{SearchesNodes};
+ghost use Rattle.solve_top.specs.Searchers.{GoesOnByWorkers, SearchesOn};
 
 use crate::request::Request;
 use core_search::{Ending, search};
@@ -18,6 +19,10 @@ pub fn search_alone<D: Disk>(alloc: Global, pool: Pool<D>, request: &Request) ->
     requires ready { IsReady request.now pool }
     ensures goes_on { SearchesOn (limits_in request.now) pool result.0 result.1 }
     ensures ended { IsEnded request.now result.0 result.1 }
+    // Its events are of worker 0 alone, whatever number of workers is asked for.
+    ensures by_worker { GoesOnByWorkers 1 pool.state result.1.state }
+    // Each node that ends was looked at with the room that was left for cuts.
+    ensures visits { SearchesNodes (limits_in request.now).cuts pool.state result.1.state }
 {
     let mut pool = pool;
     let limits = request.limits();

@@ -39,13 +39,13 @@ fn write_lines<O: Sink>(out: &mut O, lines: &[u8], wanted: Status) -> Status
 }
 
 // Tells an answer, and gives the status of the run.
-fn tell_answer<O: Sink>(answer: Answer, out: &mut O) -> Status
-    ensures { IsToldAs (sink_change O.tells O.taken O.kept O.faults out.old out.new) (Ok answer) result }
+fn tell_answer<O: Sink>(answer: &Answer, out: &mut O) -> Status
+    ensures { IsToldAs (sink_change O.tells O.taken O.kept O.faults out.old out.new) (Ok answer.now) result }
 {
     match answer {
-        Answer::Done(lines) => write_lines(out, &lines, Status::Done),
-        Answer::Spent(lines) => write_lines(out, &lines, Status::Spent),
-        Answer::Shown(lines) => write_lines(out, &lines, Status::Done),
+        Answer::Done(lines) => write_lines(out, lines, Status::Done),
+        Answer::Spent(lines) => write_lines(out, lines, Status::Spent),
+        Answer::Shown(lines) => write_lines(out, lines, Status::Done),
     }
 }
 
@@ -88,11 +88,15 @@ fn tell_refusal<O: Sink>(alloc: Global, refusal: Refusal, out: &mut O) -> Status
 }
 
 /// Tells an outcome, and gives the status of the run.
-pub fn tell_outcome<O: Sink>(alloc: Global, outcome: Result<Answer, Refusal>, out: &mut O) -> Status
-    ensures { IsToldAs (sink_change O.tells O.taken O.kept O.faults out.old out.new) outcome result }
+pub fn tell_outcome<O: Sink>(
+    alloc: Global,
+    outcome: &Result<Answer, Refusal>,
+    out: &mut O,
+) -> Status
+    ensures { IsToldAs (sink_change O.tells O.taken O.kept O.faults out.old out.new) outcome.now result }
 {
     match outcome {
         Ok(answer) => tell_answer(answer, out),
-        Err(refusal) => tell_refusal(alloc, refusal, out),
+        Err(refusal) => tell_refusal(alloc, *refusal, out),
     }
 }

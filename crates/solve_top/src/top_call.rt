@@ -1,54 +1,29 @@
 // All that the program does.
-ghost use Rattle.std.specs.Prelude.{◌≡◌, option_map};
+ghost use Rattle.std.specs.Prelude.{◌≡◌, All, Some, IfSome, option_map};
 ghost use Rattle.solve_top.specs.Begun.{IsCarriedOut};
 ghost use Rattle.solve_top.specs.Changes.{disk_change, sink_change, source_change};
 ghost use Rattle.solve_top.specs.Headline.{KeepsPromise};
-ghost use Rattle.solve_top.specs.Requests.{HasRanges};
-ghost use Rattle.solve_top.specs.Searches.{search_of};
+ghost use Rattle.solve_top.specs.Requests.{HasRanges, limits_in, requested};
+ghost use Rattle.solve_top.specs.Searches.{HasSearchedAlone, IsOfWorkers, events_made, search_of};
 ghost use Rattle.solve_top.specs.Statuses.{exit_number};
 ghost use Rattle.solve_top.specs.Steps.{IsToldAs};
+ghost use Rattle.solve_top.specs.declared.request.Request.{Request};
 ghost use Rattle.solve_top.specs.declared.status.Status.{Status};
 
+use crate::Words;
 use crate::beginning::{Begun, begin};
-use crate::outcome::Performed;
+use crate::outcome::{Answer, Refusal};
+use crate::ran::Ran;
 use crate::request::{Request, request_of};
 use crate::search::end_search;
 use crate::searcher::{search_alone, search_by_crew};
 use crate::telling::tell_outcome;
-use crate::{Status, Words};
-use event_core::State;
 use outside::{Disk, Hold, Sink, Source};
 use resume::laws::what_stands_is_not_refused;
 use std::alloc::Global;
 use std::hash::BuildHasher;
 use std::sync::Wait;
 use std::thread::Threads;
-
-/// How a run ended, with the disk that it was given.
-#[derive(Drop)]
-pub struct Ran<D> {
-    /// The exit status of the program: the number of a `Status`.
-    pub status: u8,
-    /// The disk that the run was handed.
-    pub disk: D,
-    /// The state at which the search ended, with its history; none where no search began.
-    pub last: Option<State>,
-}
-
-impl<D> Ran<D> {
-    // A run that ended with this status.
-    fn new(status: Status, disk: D, last: Option<State>) -> Self
-        ensures status { result.status ≡ exit_number status }
-        ensures disk { result.disk ≡ disk }
-        ensures last { result.last ≡ last }
-    {
-        Ran {
-            status: status.number(),
-            disk,
-            last,
-        }
-    }
-}
 
 // Does what is asked for, but for telling what came of it. One worker searches.
 fn perform_alone<B: BuildHasher + Clone + Drop, S: Source, D: Disk, C: Sink>(
@@ -58,19 +33,21 @@ fn perform_alone<B: BuildHasher + Clone + Drop, S: Source, D: Disk, C: Sink>(
     model: &mut S,
     disk: D,
     cert: &mut C,
-) -> Performed<D>
+) -> Ran<D, Result<Answer, Refusal>>
     requires { HasRanges request.now }
-    ensures { IsCarriedOut request.now (source_change S.tells S.left S.faults model.old model.new) (disk_change D.tells D.past D.now D.count disk result.disk) (sink_change C.tells C.taken C.kept C.faults cert.old cert.new) (option_map search_of result.last) result.outcome }
+    ensures carried_out { IsCarriedOut request.now (source_change S.tells S.left S.faults model.old model.new) (disk_change D.tells D.past D.now D.count disk result.disk) (sink_change C.tells C.taken C.kept C.faults cert.old cert.new) (option_map search_of result.last) result.status }
+    ensures by_worker { IfSome result.last (λ t. All (IsOfWorkers 1) (events_made t.history)) }
+    ensures visits { IfSome result.last (λ t. HasSearchedAlone (limits_in request.now).cuts t) }
 {
     match begin(alloc, keys, request, model, disk) {
-        Begun::Over(performed) => performed,
+        Begun::Over(ran) => ran,
         Begun::Search(pool) => {
             let (ending, pool) = search_alone(alloc, pool, request);
-            Performed::searched(end_search(alloc, ending, pool, request, cert))
+            end_search(alloc, ending, pool, request, cert)
         }
         Begun::Drill(pool, disk) => {
             let (ending, pool) = search_alone(alloc, pool, request);
-            Performed::drilled(end_search(alloc, ending, pool, request, cert), disk)
+            end_search(alloc, ending, pool, request, cert).drilled(disk)
         }
     }
 }
@@ -92,43 +69,39 @@ fn perform_by_crew<
     disk: D,
     cert: &mut C,
     hold: &H,
-) -> Performed<D>
+) -> Ran<D, Result<Answer, Refusal>>
     requires { HasRanges request.now }
-    ensures { IsCarriedOut request.now (source_change S.tells S.left S.faults model.old model.new) (disk_change D.tells D.past D.now D.count disk result.disk) (sink_change C.tells C.taken C.kept C.faults cert.old cert.new) (option_map search_of result.last) result.outcome }
+    ensures { IsCarriedOut request.now (source_change S.tells S.left S.faults model.old model.new) (disk_change D.tells D.past D.now D.count disk result.disk) (sink_change C.tells C.taken C.kept C.faults cert.old cert.new) (option_map search_of result.last) result.status }
 {
     match begin(alloc, keys, request, model, disk) {
-        Begun::Over(performed) => performed,
+        Begun::Over(ran) => ran,
         Begun::Search(pool) => {
             let (ending, pool) = search_by_crew(rt, alloc, pool, request, hold);
-            Performed::searched(end_search(alloc, ending, pool, request, cert))
+            end_search(alloc, ending, pool, request, cert)
         }
         Begun::Drill(pool, disk) => {
             let (ending, pool) = search_by_crew(rt, alloc, pool, request, hold);
-            Performed::drilled(end_search(alloc, ending, pool, request, cert), disk)
+            end_search(alloc, ending, pool, request, cert).drilled(disk)
         }
     }
 }
 
 // Tells what came of a command.
-fn tell<D, O: Sink>(alloc: Global, performed: Performed<D>, out: &mut O) -> Ran<D>
-    ensures status { (t : Status) × (result.status ≡ exit_number t) × IsToldAs (sink_change O.tells O.taken O.kept O.faults out.old out.new) performed.outcome t }
-    ensures disk { result.disk ≡ performed.disk }
-    ensures last { result.last ≡ performed.last }
+fn tell<D, O: Sink>(alloc: Global, ran: Ran<D, Result<Answer, Refusal>>, out: &mut O) -> Ran<D>
+    ensures status { (t : Status) × (result.status ≡ exit_number t) × IsToldAs (sink_change O.tells O.taken O.kept O.faults out.old out.new) ran.status t }
+    ensures disk { result.disk ≡ ran.disk }
+    ensures last { result.last ≡ ran.last }
 {
-    let Performed {
-        outcome,
-        disk,
-        last,
-    } = performed;
-    Ran::new(tell_outcome(alloc, outcome, out), disk, last)
+    let status = tell_outcome(alloc, &ran.status, out);
+    ran.told(status)
 }
 
 /// Does what the words ask for with one worker: reads a model from `model`, keeps the journal of its search on `disk`,
 /// writes its certificate to `cert` and a few lines to `out`.
 ///
-/// It is `run` with one worker, whatever number the words ask for. It takes no runtime, so it always returns. `keys` is
-/// for the hashing of the model's names and changes no answer. The disk is handed back in every case. The steps are
-/// taken in this order, and the first refusal decides:
+/// It is `run` with one worker, whatever number the words ask for: the events of its search are of worker 0. It takes no
+/// runtime, so it always returns. `keys` is for the hashing of the model's names and changes no answer. The disk is
+/// handed back in every case. The steps are taken in this order, and the first refusal decides:
 ///
 /// - The words are read. 2: they are no command; `out` gets `refused usage`.
 /// - `solve` reads the model. 5: it can't be read, which its source counted; `fault read`. 3: it has a fault;
@@ -161,7 +134,7 @@ pub fn run_one<B: BuildHasher + Clone + Drop, S: Source, D: Disk, C: Sink, O: Si
     cert: &mut C,
     out: &mut O,
 ) -> Ran<D>
-    ensures { KeepsPromise (record {
+    ensures promise { KeepsPromise (record {
       words = words.now;
       model = source_change S.tells S.left S.faults model.old model.new;
       disk = disk_change D.tells D.past D.now D.count disk result.disk;
@@ -170,14 +143,17 @@ pub fn run_one<B: BuildHasher + Clone + Drop, S: Source, D: Disk, C: Sink, O: Si
       last = option_map search_of result.last;
       number = result.status;
     }) }
+    ensures by_worker { IfSome result.last (λ t. All (IsOfWorkers 1) (events_made t.history)) }
+    // It looks at each node with the room that the words leave for cuts.
+    ensures visits { IfSome result.last (λ t. (q : Request) × (requested words.now ≡ Some q) × HasSearchedAlone (limits_in q).cuts t) }
 {
     what_stands_is_not_refused();
     match request_of(alloc, words) {
         Ok(request) => {
-            let performed = perform_alone(alloc, keys, &request, model, disk, cert);
-            tell(alloc, performed, out)
+            let ran = perform_alone(alloc, keys, &request, model, disk, cert);
+            tell(alloc, ran, out)
         }
-        Err(refusal) => tell(alloc, Performed::refused(refusal, disk), out),
+        Err(refusal) => tell(alloc, Ran::refused(refusal, disk), out),
     }
 }
 
@@ -218,8 +194,8 @@ pub fn run<
     if let Ok(request) = request_of(alloc, words) {
         if request.limits().workers > 1 {
             what_stands_is_not_refused();
-            let performed = perform_by_crew(rt, alloc, keys, &request, model, disk, cert, hold);
-            return tell(alloc, performed, out);
+            let ran = perform_by_crew(rt, alloc, keys, &request, model, disk, cert, hold);
+            return tell(alloc, ran, out);
         }
     }
     run_one(alloc, keys, words, model, disk, cert, out)

@@ -1,6 +1,6 @@
 use Rattle.std.proofs.Common.{sym, ap, ◌∙◌, subst, refl, ◌<◌, length}
 use Rattle.std.specs.Prelude.{IfSome}
-use Rattle.std.proofs.lemmas.Result.{IfOk-weaker}
+use Rattle.std.proofs.lemmas.Result.{IfOk-weaker, on_ok_weaker}
 use Rattle.problem.specs.Problem.{Problem}
 use Rattle.incumbent.specs.Offers.{cutoff_of}
 use Rattle.event_core.specs.States.{cutoff}
@@ -8,7 +8,7 @@ use Rattle.expand.specs.Expansion.{IsExpansion}
 use Rattle.expand.specs.Findings.{Holds}
 use Rattle.expand.specs.Lemmas.Rooms.{without_room}
 use Rattle.core_search.specs.Deciding.{IsLastLook}
-use Rattle.core_search.proofs.Looking.{glance_same, holds_same, prepared_still}
+use Rattle.core_search.proofs.Looking.{costs_same, expansion_same, glance_same, holds_same, prepared_still}
 use Rattle.core_search.proofs.deciding.look.Goals as goal
 
 pub expand-requires-clause-glance : goal.expand-requires-clause-glance
@@ -49,3 +49,20 @@ returns-clause-last c =
 pub returns-clause-prepared : goal.returns-clause-prepared
 returns-clause-prepared c =
     prepared_still c.args.state.now.state c.args.worker.now (record c.args.worker.now { costs = c.expand.new.costs }) c.requires.prepared refl refl c.expand.ensures.columns
+
+pub returns-clause-found : goal.returns-clause-found
+returns-clause-found c =
+    let s = c.args.state.now.state in
+    let p = c.problem.result.now in
+    let cs = c.book.result.now.cuts in
+    let box = c.args.node.now.area in
+    let costs = c.expand.new.costs in
+    IfOk-weaker c.expand.result (IsExpansion p cs box c.cutoff.result costs c.args.room) (IsExpansion s.problem s.cuts box (cutoff s) costs c.args.room)
+    (λ f h. expansion_same s p cs box c.cutoff.result costs c.args.room f c.problem.ensures c.book.ensures (c.cutoff.ensures ∙ ap cutoff_of c.incumbent.ensures) h) c.expand.ensures.found
+
+pub returns-clause-noted : goal.returns-clause-noted
+returns-clause-noted c =
+    on_ok_weaker c.expand.result
+    (λ e.
+    e ∙ costs_same c.args.state.now.state c.problem.result.now c.book.result.now.cuts c.args.node.now.area c.cutoff.result c.args.node.now.origin c.args.worker.now.costs
+    c.problem.ensures c.book.ensures (c.cutoff.ensures ∙ ap cutoff_of c.incumbent.ensures)) c.expand.ensures.noted

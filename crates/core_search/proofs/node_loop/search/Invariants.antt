@@ -2,6 +2,7 @@ use Rattle.std.proofs.Common.{◌≡◌, [], ◌≤◌, length}
 use Rattle.std.specs.Prelude.{max}
 use Rattle.core_search.specs.OpenNodes.{AreOpenNodes, work_left}
 use Rattle.core_search.specs.Pools.{PoolGoesOn, StaysSound}
+use Rattle.core_search.specs.Visits.{AreVisits}
 use Rattle.core_search.specs.Workers.{IsPrepared}
 use Rattle.core_search.proofs.node_loop.search.Given as goal
 
@@ -15,6 +16,7 @@ invariant-loop-node g l = record {
   prepared : IsPrepared l.pool.state.state l.worker;
   within_cuts : length l.pool.state.state.cuts ≤ max l.cuts (length l.fn.pool.state.state.cuts);
   limit : l.worker.limit ≡ l.cuts;
+  visits : AreVisits l.cuts l.fn.pool.state l.pool.state l.worker.costs l.nodes.items;
 }
 
 abbrev pub decreases-loop-node : goal.decreases-loop-node

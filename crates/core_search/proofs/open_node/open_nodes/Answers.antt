@@ -1,7 +1,10 @@
 use Rattle.std.proofs.Common.{◌≡◌, ℕ, ◌<◌, ◌∙◌, sym, ap, subst, refl, ◌+◌, ◌++◌, ◌∷◌, [], Vec, Global, None, length, arith}
+use Rattle.std.specs.Prelude.{All}
+use Rattle.std.proofs.lemmas.List.Elements.{All-nil, All-cons, All-append}
 use Rattle.node_tree.specs.Paths.{box_at}
 use Rattle.node_tree.specs.Lemmas.Boxes.{box_of_root}
 use Rattle.core_search.specs.declared.open_node.OpenNode.{OpenNode}
+use Rattle.core_search.specs.OpenNodes.{HasNoOrigin}
 use Rattle.core_search.proofs.OpenLists.{AreOpenNodesBelow, none_below, node_more, node_passed, same_box}
 use Rattle.core_search.proofs.open_node.open_nodes.Goals as goal
 use Rattle.core_search.proofs.open_node.open_nodes.Goals.{then-is_open+in_ok-area+in_ok-push, else-is_open}
@@ -11,6 +14,7 @@ loop-number-init c =
     let t = c.tree-tree.result.now in
     record {
       listed = subst (AreOpenNodesBelow c.args.state.now.state 0) (sym c.new-nodes.ensures.items) (none_below c.args.state.now.state);
+      new = subst (All HasNoOrigin) (sym c.new-nodes.ensures.items) (All-nil HasNoOrigin);
       there = c.conditions_hold.ensures.tree.root_there;
       box = c.in_ok-walked.ensures ∙ c.root.ensures ∙ sym (box_of_root 0 t.root);
     }
@@ -33,6 +37,7 @@ loop-number-preserved c =
                   area = w.in_ok-area.ensures ∙ w.walk.ensures ∙ same_box s t n c.tree-tree.ensures.root c.tree-tree.ensures.nodes;
                   origin = tt;
                 }));
+            new = subst (All HasNoOrigin) (sym items) (All-append HasNoOrigin os (o ∷ []) c.loop-number.invariant.new (All-cons HasNoOrigin o [] refl (All-nil HasNoOrigin)));
             there = subst (λ (p : ℕ). p < length t.nodes) (sym w.place-is) there;
             box = w.walked-is ∙ w.walk.ensures ∙ ap (box_at t) (sym w.place-is);
           })
@@ -41,6 +46,7 @@ loop-number-preserved c =
           record {
             listed = subst (AreOpenNodesBelow s (n + 1)) (sym items)
                 (node_passed s n os c.loop-number.invariant.listed (λ e. let f = c.is_open.ensures ∙ e in let g = w.if-is_open.false in cc));
+            new = subst (All HasNoOrigin) (sym items) c.loop-number.invariant.new;
             there = subst (λ (p : ℕ). p < length t.nodes) (sym w.place-is) c.loop-number.invariant.there;
             box = w.walked-is ∙ c.loop-number.invariant.box ∙ ap (box_at t) (sym w.place-is);
           })

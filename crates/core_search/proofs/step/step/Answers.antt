@@ -5,6 +5,9 @@ use Rattle.core_search.proofs.EndedBy.{ended_by}
 use Rattle.core_search.proofs.OpenLists.{last_node, last_greatest}
 use Rattle.core_search.proofs.Pooling.{goes_on}
 use Rattle.core_search.proofs.Stepping.{held_claimed}
+use Rattle.node_events.specs.declared.event.Event.TheVariants.{Release}
+use Rattle.core_search.specs.Visits.{EndsNoNode}
+use Rattle.core_search.proofs.Visiting.{unended_both, unended_one}
 use Rattle.core_search.proofs.step.step.Goals as goal
 
 pub claim_node-requires-clause-greatest : goal.claim_node-requires-clause-greatest
@@ -33,3 +36,19 @@ returns-in-Err-clause-ended g c =
     let released = ap (λ (r : Recorded). r.state) c.end_by-in-Err.ensures.state ∙ c.release.ensures.released in
     subst (λ x. IsEnding a.budget x t) (sym c.end_by-in-Err.ensures.ending)
     (ended_by a.budget c.in-Err.fault s t (λ q. subst (λ n. IsExhausted n s) c.claim_node.ensures.goes_on.budget (c.process.ensures.spent (c.in-Err.is ∙ ap Err q))) released)
+
+pub returns-in-Ok-process-clause-visited : goal.returns-in-Ok-process-clause-visited
+returns-in-Ok-process-clause-visited g c = record { claimed = c.claim_node.new.pool.state; claims = c.in-Ok.ensures.made; settled = c.in-Ok-process.ensures.settled }
+
+pub returns-in-Err-clause-broken_off : goal.returns-in-Err-clause-broken_off
+returns-in-Err-clause-broken_off g c =
+    let a = c.args.pool.now.state in
+    let b = c.claim_node.new.pool.state in
+    let p = c.process.new.pool.state in
+    let r = c.release.new.pool.state in
+    let n = c.args.node.number in
+    subst (EndsNoNode a) (sym c.end_by-in-Err.ensures.state)
+    (unended_both a p r (unended_both a b p c.claim_node.ensures.unended c.in-Err.ensures.unended) (unended_one p r (Release n) tt c.release.ensures.made))
+
+pub returns-in_default-clause-broken_off : goal.returns-in_default-clause-broken_off
+returns-in_default-clause-broken_off g c = subst (EndsNoNode c.args.pool.now.state) (sym c.end_by.ensures.state) c.claim_node.ensures.unended

@@ -18,15 +18,18 @@ pub returns-in-Resume : goal.returns-in-Resume
 returns-in-Resume g c = c.resume.ensures _ refl
 
 pub returns-in-Show : goal.returns-in-Show
-returns-in-Show g c = λ cert nothing unwritten.
-    let m = source_change g.S.Source.tells g.S.Source.left g.S.Source.faults c.args.model.now c.args.model.now in
-    let d = disk_change g.D.Disk.tells g.D.Disk.past g.D.Disk.now g.D.Disk.count c.args.disk c.show-outcome.new.disk in
-    let untouched = left_alone d c.show-outcome.result c.show-outcome.ensures in
-    record {
-      alone = alone_shown c.args.request.now m d c.in-Show.is untouched;
-      outcome = shown c.args.request.now c.in-Show.is m d cert c.show-outcome.result c.show-outcome.ensures refl nothing unwritten;
-      journal = λ told rests. kept_untouched g.D.Disk.tells g.D.Disk.past g.D.Disk.now g.D.Disk.count c.args.disk c.show-outcome.new.disk untouched rests (IsOwnProblem c.args.request.now m d);
-    }
+returns-in-Show g c = (
+  refl,
+  λ cert nothing unwritten.
+      let m = source_change g.S.Source.tells g.S.Source.left g.S.Source.faults c.args.model.now c.args.model.now in
+      let d = disk_change g.D.Disk.tells g.D.Disk.past g.D.Disk.now g.D.Disk.count c.args.disk c.show-status.new.disk in
+      let untouched = left_alone d c.show-status.result c.show-status.ensures in
+      record {
+        alone = alone_shown c.args.request.now m d c.in-Show.is untouched;
+        outcome = shown c.args.request.now c.in-Show.is m d cert c.show-status.result c.show-status.ensures refl nothing unwritten;
+        journal = λ told rests. kept_untouched g.D.Disk.tells g.D.Disk.past g.D.Disk.now g.D.Disk.count c.args.disk c.show-status.new.disk untouched rests (IsOwnProblem c.args.request.now m d);
+      },
+)
 
 pub returns-in-Drill : goal.returns-in-Drill
 returns-in-Drill g c = c.drill.ensures _ refl

@@ -18,9 +18,12 @@ returns-in-Ok g c = λ m stays. (
 )
 
 pub returns-in-Err : goal.returns-in-Err
-returns-in-Err g c = λ m stays cert nothing unwritten.
-    rw (c.refused.ensures.outcome, c.refused.ensures.disk, c.refused.ensures.last) (record {
-      alone = alone_by c.args.request.now m _ (record { none = refl; same = refl }) refl;
-      outcome = drilled_by c.args.request.now c.args.seed _ c.requires.drills m _ cert None (Err c.in-Err.refusal) (c.in-Err.ensures.refused, nothing, unwritten) stays refl (record { none = refl; same = refl });
-      journal = λ told rests. kept_untouched g.D.Disk.tells g.D.Disk.past g.D.Disk.now g.D.Disk.count c.args.disk c.args.disk (record { none = refl; same = refl }) rests _;
-    })
+returns-in-Err g c = λ m stays. (
+  c.refused.ensures.last,
+  λ cert nothing unwritten.
+      rw (c.refused.ensures.status, c.refused.ensures.disk) (record {
+        alone = alone_by c.args.request.now m _ (record { none = refl; same = refl }) refl;
+        outcome = drilled_by c.args.request.now c.args.seed _ c.requires.drills m _ cert None (Err c.in-Err.refusal) (c.in-Err.ensures.refused, nothing, unwritten) stays refl (record { none = refl; same = refl });
+        journal = λ told rests. kept_untouched g.D.Disk.tells g.D.Disk.past g.D.Disk.now g.D.Disk.count c.args.disk c.args.disk (record { none = refl; same = refl }) rests _;
+      }),
+)
