@@ -1,5 +1,10 @@
 -- A list of entries that only grows, and what a pass knows of it.
-use Rattle.std.specs.Prelude.{◌≡◌, ℕ, List, ◌++◌, length, Option, Some, Contains, nat_le, if◌then◌else◌}
+use Rattle.std.specs.Prelude.{◌≡◌, ℕ, List, ◌++◌, length, Option, Some, Contains, Box, nat_le, if◌then◌else◌}
+use Rattle.std.specs.declared.alloc.Global.{Global}
+
+-- the list of a value that lies apart
+abbrev pub list_in : {V E : Type 0} → (V → List E) → Box V Global → List E
+list_in list box = list box.value
 
 module _ {E : Type 0} (name : E → Option ℕ) (names : List ℕ) where
   -- no entry has one of the names

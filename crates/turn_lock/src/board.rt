@@ -1,5 +1,5 @@
 // The table of a lock. Word 0 counts the tickets that were drawn, word 1 those that were served, word 2 the entries.
-// Slot 0 has the value.
+// Slot 0 has the value, which lies apart: what a turn takes out and gives back is where it lies.
 use crate::Kept;
 use atomic_table::{Join, Play, Seat, Shared, Split, TableRule};
 use std::collections::LinkedList;
@@ -30,17 +30,18 @@ pub struct Turns<V> {
     of: PhantomData<V>,
 }
 
-impl<V: Kept> TableRule<Option<V>, View<V::Entry>, Start<V>> for Turns<V> {
+impl<V: Kept> TableRule<Option<Box<V>>, View<V::Entry>, Start<V>> for Turns<V> {
+    ghost use Rattle.turn_lock.specs.Lists.{list_in};
     ghost use Rattle.turn_lock.specs.Turns.{TakesTurns, first_view};
 
-    ghost holds = { λ key s. TakesTurns V.list V.name key.weight s };
+    ghost holds = { λ key s. TakesTurns (list_in V.list) V.name key.weight s };
 
     ghost first = { λ key. first_view key.weight (V.list key.value.value) };
 }
 
-pub type Board<V> = Shared<Option<V>, View<<V as Kept>::Entry>, Start<V>, Turns<V>>;
+pub type Board<V> = Shared<Option<Box<V>>, View<<V as Kept>::Entry>, Start<V>, Turns<V>>;
 
-pub type Place<V> = Seat<Option<V>, View<<V as Kept>::Entry>>;
+pub type Place<V> = Seat<Option<Box<V>>, View<<V as Kept>::Entry>>;
 
 pub struct Draw;
 
@@ -54,27 +55,29 @@ pub struct Look<V> {
     of: PhantomData<V>,
 }
 
-impl<V: Kept> Play<Option<V>, View<V::Entry>> for Look<V> {
+impl<V: Kept> Play<Option<Box<V>>, View<V::Entry>> for Look<V> {
+    ghost use Rattle.turn_lock.specs.Lists.{list_in};
     ghost use Rattle.turn_lock.specs.Steps.{Looked};
 
-    ghost then = { Looked V.list V.name };
+    ghost then = { Looked (list_in V.list) V.name };
 }
 
 pub struct Note<V> {
     of: PhantomData<V>,
 }
 
-impl<V: Kept> Play<Option<V>, View<V::Entry>> for Note<V> {
+impl<V: Kept> Play<Option<Box<V>>, View<V::Entry>> for Note<V> {
+    ghost use Rattle.turn_lock.specs.Lists.{list_in};
     ghost use Rattle.turn_lock.specs.Steps.{Noted};
 
-    ghost then = { Noted V.list };
+    ghost then = { Noted (list_in V.list) };
 }
 
 pub struct Tell<V> {
     of: PhantomData<V>,
 }
 
-impl<V: Kept> Play<Option<V>, View<V::Entry>> for Tell<V> {
+impl<V: Kept> Play<Option<Box<V>>, View<V::Entry>> for Tell<V> {
     ghost use Rattle.turn_lock.specs.Steps.{Told};
 
     ghost then = { Told V.name };

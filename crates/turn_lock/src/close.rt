@@ -15,6 +15,6 @@ impl<V: Kept> TurnLock<V> {
         let mut closed = table.close_with(place);
         let slot = closed.take(0);
         closed.free();
-        slot.unwrap()
+        Box::into_inner(slot.unwrap())
     }
 }
