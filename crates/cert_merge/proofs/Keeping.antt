@@ -1,10 +1,10 @@
 -- The setters of a node, one step up or down.
-use Rattle.std.specs.Prelude.{◌≡◌, ◌≢◌, ◌<◌, ℕ, zero, suc, Bool, true, false, cond, eqb, ◌&&◌, List, [], ◌∷◌, ◌++◌, length, All, Option, Some, None, slice_index_or, slice_set, replicate, refl}
+use Rattle.std.specs.Prelude.{◌≡◌, ◌≢◌, ◌<◌, ℕ, zero, suc, Bool, true, false, cond, eqb, ◌&&◌, List, [], ◌∷◌, ◌++◌, length, All, Option, Some, None, slice_index_or, slice_set, refl}
 use Rattle.std.proofs.Common.{ap, sym, subst, ◌∙◌, arith}
 use Rattle.std.specs.Option.{option_map}
 use Rattle.std.proofs.lemmas.Option.{same_Some}
 use Rattle.std.proofs.lemmas.Bool.{eqb-true, eqb-false, and_parts}
-use Rattle.std.proofs.lemmas.List.{length-set, length-replicate, get_or-replicate, get_or-set_same, get_or-set_other}
+use Rattle.std.proofs.lemmas.List.{length-set, get_or-set_same, get_or-set_other}
 use Rattle.std.proofs.lemmas.List.Elements.{All-nil, All-cons, All-head, All-tail}
 use Rattle.node_tree.specs.declared.branch.Side.{Side}
 use Rattle.node_tree.specs.declared.branch.Side.TheVariants.{Low, High}
@@ -17,7 +17,7 @@ use Rattle.node_tree.specs.Lemmas.Boxes.{length-box}
 use Rattle.node_tree.specs.Lemmas.Insides.{reached_by, downwards}
 use Rattle.cert_merge.specs.declared.setters.Setter.{Setter}
 use Rattle.cert_merge.specs.declared.path_setters.PathSetters.{PathSetters}
-use Rattle.cert_merge.specs.Setters.{no_setter, set_by, set_at, with_setter, with_set, AreSetters, NameNodes}
+use Rattle.cert_merge.specs.Setters.{no_setter, set_by, set_at, with_setter, with_set, NameNodes}
 use Rattle.cert_merge.specs.Kept.{AreReplaced, AreKept, IsWay}
 use Rattle.cert_merge.specs.Lemmas.Setting.{same_side}
 
@@ -115,25 +115,6 @@ way_next t top i k [] h = (h.2 ∙ ap Some h.3, sym h.1)
 way_next t top i k (n ∷ ks) h = let rest = way_next t top h.0 k ks h.3 in (rest.0, (h.0, h.1, h.2, rest.1))
 
 -- ---- what is kept
--- node 0 has an empty path
-pub kept_first : (t : Tree) → IsTree t → (s : PathSetters) → s.place ≡ 0 → s.table ≡ replicate (length t.root) no_setter → length s.replaced.items ≡ length t.nodes → AreKept t s
-kept_first t tree s first none long = record {
-  there = omega (arith, first, tree.root_there);
-  columns = ap (λ (ts : List Setter). length ts) none ∙ length-replicate (length t.root) no_setter;
-  nodes = long;
-  setters = λ j side l. unset j side l ∙ ap (λ i. setter j side (path_at t i)) (sym first);
-  replaced = subst (λ i. AreReplaced s.replaced.items (path_at t i)) (sym first) tt;
-}
-  where
-    unset_on : (side : Side) → set_by side no_setter ≡ None
-    unset_on Low = refl
-    unset_on High = refl
-
-    unset : (j : ℕ) (side : Side) → j < length s.table → set_at s.table j side ≡ None
-    unset j side l =
-        let there : j < length t.root = omega (arith, l, ap (λ (ts : List Setter). length ts) none, length-replicate (length t.root) no_setter) in
-        ap (λ ts. set_at ts j side) none ∙ ap (set_by side) (get_or-replicate (length t.root) j no_setter no_setter there) ∙ unset_on side
-
 module _ (t : Tree) (tree : IsTree t) where
   -- only node 0 has no branch
   pub reached : (i : ℕ) → 0 < i → i < length t.nodes → None ≡ branch_at t i → ⊥

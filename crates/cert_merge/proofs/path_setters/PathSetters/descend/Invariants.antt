@@ -1,4 +1,3 @@
-use Rattle.std.proofs.Common.{length}
 use Rattle.cert_merge.specs.Kept.{AreKept, IsWay}
 use Rattle.cert_merge.proofs.path_setters.PathSetters.descend.Given as goal
 
