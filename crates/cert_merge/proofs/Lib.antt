@@ -1,6 +1,6 @@
 pub mod Parts
 pub mod Claims
-pub mod Tracing
+pub mod Keeping
 pub mod Places
 pub mod NodeLines
 pub mod Sources

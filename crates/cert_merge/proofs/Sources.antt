@@ -7,6 +7,7 @@ use Rattle.fraction.specs.Rational.{ℚ, whole}
 use Rattle.problem_box.specs.declared.span.Span.{Span}
 use Rattle.problem.specs.Rising.{AreRising}
 use Rattle.node_tree.specs.declared.branch.Side.TheVariants.{Low, High}
+use Rattle.node_tree.specs.declared.branch.Node.{Node}
 use Rattle.node_tree.specs.Nodes.{Tree}
 use Rattle.node_tree.specs.Paths.{setter, path_at}
 use Rattle.node_tree.specs.Trees.{IsTree}
@@ -20,13 +21,24 @@ use Rattle.cert_merge.specs.declared.setters.Setter.{Setter}
 use Rattle.cert_merge.specs.Closing.{BoundSource, bound_multipliers}
 use Rattle.cert_merge.specs.Numbers.{set_line, sources_from, sources_of}
 use Rattle.cert_merge.specs.Merged.{node_multipliers}
-use Rattle.cert_merge.specs.Setters.{no_setter, set_at, AreSetters, AreSettersOf, sources_by}
+use Rattle.cert_merge.specs.declared.path_setters.PathSetters.{PathSetters}
+use Rattle.cert_merge.specs.Setters.{no_setter, set_at, AreSetters, NameNodes, AreSettersOf, sources_by}
+use Rattle.cert_merge.specs.Kept.{AreKept}
 use Rattle.cert_merge.specs.Lemmas.Placing.{sorted_is}
 use Rattle.cert_merge.specs.Lemmas.BoundLines.{bounds_fresh}
+use Rattle.cert_merge.proofs.Keeping.{kept_named}
 
 -- ---- setters of a tree with the same nodes
 pub same_setters : (t : Tree) (s : State) (i : ℕ) (ts : List Setter) → t.nodes ≡ s.nodes → AreSetters t i ts → AreSetters (tree_of s) i ts
 same_setters t s i ts e h = subst (λ ns. AreSetters (record { root = s.problem.spans; nodes = ns; room = 0 }) i ts) e h
+
+-- what is kept for a node is the table of the node of a state, where the tree is the state's
+pub kept_of : (t : Tree) → IsTree t → (s : State) (k : PathSetters) (i : ℕ) → t.root ≡ s.problem.spans → t.nodes ≡ s.nodes → AreKept t k → k.place ≡ i → AreSettersOf s i k.table
+kept_of t tree s k i root nodes h e = record {
+  columns = h.columns ∙ ap (λ (ss : List Span). length ss) root;
+  nodes = subst (λ n. NameNodes n k.table) (ap (λ (ns : List Node). length ns) nodes) (kept_named t tree k h);
+  setters = same_setters t s i k.table nodes (subst (λ j. AreSetters t j k.table) e h.setters);
+}
 
 -- ---- sources
 -- the table from column j on

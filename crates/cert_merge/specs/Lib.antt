@@ -5,4 +5,5 @@ pub mod Merged
 pub mod Tree
 pub mod Laws
 pub mod Setters
+pub mod Kept
 pub mod Lemmas

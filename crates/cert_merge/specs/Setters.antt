@@ -1,9 +1,7 @@
 -- For each column, the nodes of a path that set its bounds: the table behind the lines of a node's bounds.
 use Rattle.std.specs.Prelude.{◌≡◌, ◌<◌, ℕ, ◌+◌, List, [], ◌∷◌, length, Option, Some, None, slice_index_or, slice_set}
-use Rattle.std.specs.Option.{option_or}
 use Rattle.node_tree.specs.declared.branch.Side.{Side}
 use Rattle.node_tree.specs.declared.branch.Side.TheVariants.{Low, High}
-use Rattle.node_tree.specs.declared.branch.Branch.{Branch}
 use Rattle.node_tree.specs.Nodes.{Tree}
 use Rattle.node_tree.specs.Paths.{setter, path_at}
 use Rattle.event_core.specs.States.{State, tree_of}
@@ -25,14 +23,14 @@ set_by High t = t.high
 abbrev pub set_at : List Setter → ℕ → Side → Option ℕ
 set_at ts j side = set_by side (slice_index_or ts j no_setter)
 
--- node k set the bound, unless a deeper one did
-abbrev pub with_setter : Side → ℕ → Setter → Setter
-with_setter Low k t = record t { low = option_or t.low (Some k) }
-with_setter High k t = record t { high = option_or t.high (Some k) }
+-- the same, but that this node, or none, set the bound
+abbrev pub with_setter : Side → Option ℕ → Setter → Setter
+with_setter Low o t = record t { low = o }
+with_setter High o t = record t { high = o }
 
--- the table, where node k set the bound of its branch unless a deeper node did
-abbrev pub noted : List Setter → ℕ → Branch → List Setter
-noted ts k b = slice_set ts b.column (with_setter b.side k (slice_index_or ts b.column no_setter))
+-- the table, where this node, or none, set this bound of column j
+abbrev pub with_set : List Setter → ℕ → Side → Option ℕ → List Setter
+with_set ts j side o = slice_set ts j (with_setter side o (slice_index_or ts j no_setter))
 
 -- the table of node i
 abbrev pub AreSetters : Tree → ℕ → List Setter → Type 0

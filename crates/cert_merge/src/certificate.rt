@@ -8,7 +8,7 @@ ghost use Rattle.cert_merge.specs.Merged.{cut_lines, assumption_lines, node_line
 use crate::closings::closings;
 use crate::lines::{assumption, cut_line, node_line};
 use crate::part::problem_part;
-use crate::setters::Setters;
+use crate::path_setters::PathSetters;
 use cert_rows::{Cert, CertRow, Derived, Goal, Points, Why};
 use derivation_book::Book;
 use event_core::State;
@@ -81,11 +81,11 @@ fn push_nodes(
     let tree = state.tree();
     tree.conditions_hold();
     let closings = closings(alloc, state.history(), tree.len())?;
-    let mut setters = Setters::new(alloc, state.problem().columns())?;
+    let mut setters = PathSetters::make(alloc, tree)?;
     for done in 0..tree.len() {
         let node = (tree.len() - 1 - done) as u32;
-        setters.trace(tree, node);
-        lines.push(node_line(alloc, state, &closings, &setters, node)?)?;
+        setters.walk(alloc, tree, node)?;
+        lines.push(node_line(alloc, state, &closings, &setters.table, node)?)?;
     }
     Ok(())
 }

@@ -8,6 +8,7 @@ mod lines;
 mod multipliers;
 mod numbers;
 mod part;
+mod path_setters;
 mod setters;
 
 pub use certificate::merge;

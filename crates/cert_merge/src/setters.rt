@@ -1,8 +1,8 @@
 // The nodes of a path that set the bounds of a node's box.
-ghost use Rattle.std.specs.Prelude.{◌≡◌, ◌<◌, ℕ, IfOk, length, slice_index_or};
-ghost use Rattle.cert_merge.specs.Setters.{no_setter, set_by, set_at, with_setter, noted, AreSetters, NameNodes};
+ghost use Rattle.std.specs.Prelude.{◌≡◌, ◌<◌, IfOk, length, replicate};
+ghost use Rattle.cert_merge.specs.Setters.{no_setter, set_by, set_at, with_setter, with_set};
 
-use node_tree::{Branch, Side, Tree};
+use node_tree::Side;
 use std::alloc::{AllocError, Global};
 use std::marker::Model;
 
@@ -24,24 +24,24 @@ impl Setter {
         }
     }
 
-    /// Node `node` set the bound, unless a deeper one did.
-    fn with(self, side: Side, node: u32) -> Setter
+    /// The same, but that this node, or none, set the bound.
+    fn with(self, side: Side, node: Option<u32>) -> Setter
         ensures { result ≡ with_setter side node self }
     {
         match side {
             Side::Low => Setter {
-                low: self.low.or(Some(node)),
+                low: node,
                 high: self.high,
             },
             Side::High => Setter {
                 low: self.low,
-                high: self.high.or(Some(node)),
+                high: node,
             },
         }
     }
 }
 
-/// The setters of each column, seen as a list. One table serves all nodes in turn.
+/// The setters of each column, seen as a list.
 #[derive(Drop)]
 pub struct Setters {
     columns: Vec<Setter>,
@@ -57,25 +57,16 @@ impl Model for Setters {
 }
 
 impl Setters {
-    /// A table of so many columns. The one error is want of memory.
+    /// A table of so many columns in which no node set a bound. The one error is want of memory.
     pub fn new(alloc: Global, columns: usize) -> Result<Setters, AllocError>
-        ensures { IfOk result (λ t. length t ≡ columns) }
+        ensures { IfOk result (λ t. t ≡ replicate columns no_setter) }
     {
-        let mut table = Vec::new(alloc);
-        for _ in 0..columns {
-            table.push(Setter {
-                low: None,
-                high: None,
-            })?;
-        }
-        Ok(Setters { columns: table })
-    }
-
-    /// How many columns there are.
-    pub fn len(&self) -> usize
-        ensures { result ≡ length self.now }
-    {
-        self.columns.len()
+        let unset = Setter {
+            low: None,
+            high: None,
+        };
+        let columns = vec![in alloc; unset; columns]?;
+        Ok(Setters { columns })
     }
 
     /// The node that set a bound of a column that is there.
@@ -86,43 +77,12 @@ impl Setters {
         self.columns[column].get(side)
     }
 
-    /// Notes what a branch to a node sets, where no deeper node did.
-    fn note(&mut self, node: u32, branch: Branch)
-        requires { branch.column < length self.old }
-        ensures { self.new ≡ noted self.old node branch }
+    /// Enters the node, or none, that set a bound of a column that is there.
+    pub fn set(&mut self, column: usize, side: Side, node: Option<u32>)
+        requires { column < length self.old }
+        ensures { self.new ≡ with_set self.old column side node }
     {
-        let column = branch.column as usize;
         let setter = self.columns[column];
-        self.columns[column] = setter.with(branch.side, node);
-    }
-
-    /// Forgets all nodes.
-    fn clear(&mut self)
-        ensures length { length self.new ≡ length self.old }
-        ensures empty { (j : ℕ) → j < length self.new → slice_index_or self.new j no_setter ≡ no_setter }
-    {
-        for setter in self.columns.iter_mut() {
-            *setter = Setter {
-                low: None,
-                high: None,
-            };
-        }
-    }
-
-    /// Makes this the table of a node: one walk up its path, the deepest node first.
-    pub fn trace(&mut self, tree: &Tree, node: u32)
-        requires there { node < length tree.now.nodes }
-        requires columns { length self.old ≡ length tree.now.root }
-        ensures length { length self.new ≡ length self.old }
-        ensures setters { AreSetters tree.now node self.new }
-        ensures nodes { NameNodes (length tree.now.nodes) self.new }
-    {
-        tree.conditions_hold();
-        self.clear();
-        let mut at = node;
-        while let Some(branch) = tree.branch(at) {
-            self.note(at, branch);
-            at = branch.parent;
-        }
+        self.columns[column] = setter.with(side, node);
     }
 }

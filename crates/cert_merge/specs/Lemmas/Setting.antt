@@ -27,7 +27,7 @@ on_path_of f (suc n) i = step (on_path_of f n) (f i) refl
 pub on_path : (t : Tree) (i : ℕ) → All (LeadsTo (branch_at t)) (path_at t i)
 on_path t i = on_path_of (branch_at t) i i
 
-same_side : (a b : Side) → is_same_side a b ≡ true → b ≡ a
+pub same_side : (a b : Side) → is_same_side a b ≡ true → b ≡ a
 same_side Low Low e = refl
 same_side High High e = refl
 same_side Low High e = absurd (false≢true e)
