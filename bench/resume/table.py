@@ -1,6 +1,7 @@
 """Runs the programs in turn, and prints what bench/resume.sh says."""
 
 import os
+import random
 import shutil
 import subprocess
 import sys
@@ -17,6 +18,11 @@ DEEP = (
     ("4 columns", (12223, 12224, 36674, 61119), 200_001),
 )
 RIGHT_SIDE = 89643481
+# rows of large numbers, whose linear programs are cramped at many nodes: columns, rows, bits of a coefficient, and the budget of nodes
+CRAMPED = (
+    (8, 3, 25, 4_001),
+    (12, 8, 25, 4_001),
+)
 # splits of a journal whose tree is a chain, alone, and with its leaves closed from either end
 CHAIN = 100_000
 RUNS = 5
@@ -54,6 +60,38 @@ def make_equality(name, coefficients):
     with open(path, "w", encoding="ascii") as file:
         file.write(f"NAME {name.split()[0]}\nROWS\n N cost\n E row\nCOLUMNS\n{marked}RHS\n rhs row {RIGHT_SIDE}\nBOUNDS\n{bounds}ENDATA\n")
     return path
+
+
+def make_large(columns, rows, bits):
+    """Equality rows whose coefficients are large and have little in common, so that fractions are soon too large; no point is near at hand."""
+    numbers = random.Random(f"{columns} {rows} {bits}")
+    path = os.path.join(folder, f"large-{columns}-{rows}-{bits}.mps")
+    coefficients = [[numbers.randint(1, 1 << bits) for _ in range(columns)] for _ in range(rows)]
+    lines = ["NAME large", "ROWS", " N cost"] + [f" E r{i}" for i in range(rows)] + ["COLUMNS", " m 'MARKER' 'INTORG'"]
+    for j in range(columns):
+        lines.append(f" x{j} cost {numbers.randint(1, 1000)}")
+        lines += [f" x{j} r{i} {row[j]}" for i, row in enumerate(coefficients)]
+    lines += [" m 'MARKER' 'INTEND'", "RHS"] + [f" rhs r{i} {2 * sum(row) + 1}" for i, row in enumerate(coefficients)]
+    lines += ["BOUNDS"] + [f" UP box x{j} 1000" for j in range(columns)] + ["ENDATA", ""]
+    with open(path, "w", encoding="ascii") as file:
+        file.write("\n".join(lines))
+    return path
+
+
+def cramped_steps():
+    """How many splits of the journal there are, and how many of these name a cramped run (docs/JOURNAL.md has the format)."""
+    with open(journal, "rb") as file:
+        content = file.read()
+    splits = cramped = 0
+    gate = 8
+    while content[gate] == 1:
+        size = int.from_bytes(content[gate + 1 : gate + 5], "little")
+        payload = content[gate + 5 : gate + 5 + size]
+        if payload[0] == 4:
+            splits += 1
+            cramped += payload[17] == 1
+        gate += 5 + size
+    return splits, cramped
 
 
 def number(lines, name):
@@ -95,6 +133,12 @@ for kind, columns, rows, seed, budget, cuts in LONG:
 for name, coefficients, budget in DEEP:
     nodes, searched = solve(make_equality(name, coefficients), budget, 0)
     print(f"equality knapsack, {name}: {nodes:,} nodes searched in {searched:.2f} s")
+    read_row("show", (), 0, searched)
+    read_row("resume", (certificate, "--cuts", 0, "--nodes", budget), SPENT, searched)
+for columns, rows, bits, budget in CRAMPED:
+    nodes, searched = solve(make_large(columns, rows, bits), budget, 0)
+    splits, cramped = cramped_steps()
+    print(f"rows of large numbers, {columns} x {rows}: {nodes:,} nodes searched in {searched:.2f} s, {cramped:,} of {splits:,} splits name a cramped run")
     read_row("show", (), 0, searched)
     read_row("resume", (certificate, "--cuts", 0, "--nodes", budget), SPENT, searched)
 for order in ("", "deepest", "first"):

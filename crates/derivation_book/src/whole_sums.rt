@@ -18,6 +18,10 @@ fn common_multiple(number: u64, factor: Frac) -> Option<u64>
     ensures positive { IfSome result (λ n. 0 < n) }
     ensures small { IfSome result (λ n. n < denominator_limit) }
 {
+    // Most multipliers are whole.
+    if factor.is_whole() {
+        return Some(number);
+    }
     factor.limits_hold();
     // In lowest terms, the number over the denominator has that part of the denominator which the number lacks.
     let lacking = Frac::make(number as i128, factor.denom() as i128).denom();

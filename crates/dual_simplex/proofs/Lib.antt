@@ -7,3 +7,4 @@ mod CommonDenominator
 mod AnswerThere
 mod Ending
 mod Scaling
+mod Stopping

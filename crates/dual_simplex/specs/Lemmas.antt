@@ -9,3 +9,4 @@ pub mod Holds
 pub mod WholePoints
 pub mod Closing
 pub mod ReadOff
+pub mod Kept

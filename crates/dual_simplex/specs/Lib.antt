@@ -7,5 +7,6 @@ pub mod Sizes
 pub mod Prepared
 pub mod Forms
 pub mod Ends
+pub mod Claims
 pub mod Laws
 pub mod Lemmas

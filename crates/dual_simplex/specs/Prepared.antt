@@ -1,5 +1,5 @@
 -- A relaxation that was prepared, to be solved over many boxes.
-use Rattle.std.specs.Prelude.{◌≡◌, ℕ, ◌<◌, List, Option, IfSome}
+use Rattle.std.specs.Prelude.{◌≡◌, ℕ, ◌<◌, ◌≤◌, List, Option, IfSome, length, take}
 use Rattle.problem.specs.Problem.{Problem}
 use Rattle.derivation_book.specs.declared.cut.Cut.{Cut}
 use Rattle.tableau.specs.LinearProgram.{LinearProgram}
@@ -20,3 +20,12 @@ pub record IsIntegerProgramOf (p : Problem) (cs : List Cut) (lp : LinearProgram)
 pub record IsRelaxationOf (p : Problem) (cs : List Cut) (r : Prepared) : Type 0 where
   pub numbered : r.cuts < most_numbered_cuts
   pub program : IfSome r.program (IsIntegerProgramOf p cs)
+
+-- prepared for a problem and the first of these cuts
+pub record IsPreparedOf (p : Problem) (cs : List Cut) (r : Prepared) : Type 0 where
+  pub few : r.cuts ≤ length cs
+  pub prepared : IsRelaxationOf p (take r.cuts cs) r
+
+-- what is kept, if anything is, was prepared for a problem and the first of these cuts
+abbrev pub IsKept : Problem → List Cut → Option Prepared → Type 0
+IsKept p cs o = IfSome o (IsPreparedOf p cs)

@@ -18,7 +18,7 @@ use problem_box::IntBox;
 use std::alloc::{AllocError, Global};
 
 /// Whether the numbers of a box and of a tableau over it are so small that what its answer asks for is there.
-fn is_small(area: &IntBox, tableau: &IntegerTableau) -> bool
+pub(crate) fn is_small(area: &IntBox, tableau: &IntegerTableau) -> bool
     ensures { IsTrue result → IsSmallEnd area.now tableau.now }
 {
     is_modest(area) && tableau.common_denominator().is_some()

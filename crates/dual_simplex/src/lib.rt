@@ -3,9 +3,11 @@
 
 mod answer;
 mod answering;
+mod cramped_run;
 mod final_tableau;
 mod fraction_run;
 mod integer_run;
+mod kept_relaxation;
 pub mod laws;
 mod narrow_sums;
 mod point_sums;
@@ -20,6 +22,7 @@ mod sums;
 
 pub use answer::Answer;
 pub use final_tableau::FinalTableau;
+pub use kept_relaxation::KeptRelaxation;
 pub use point_sums::checked_sum;
 pub use prepared_sums::PointSums;
 pub use relaxation::{Relaxation, solve};

@@ -47,6 +47,16 @@ fn compare_fractions(point: &RationalPoint, terms: &[Term], rhs: Frac) -> Option
 }
 
 impl<'a> PointSums<'a> {
+    /// The point as it is, which takes no time, for so few rows that the preparation takes longer than it saves.
+    pub fn plain(point: &'a RationalPoint) -> PointSums<'a>
+        ensures { result ≡ point.now }
+    {
+        PointSums {
+            point,
+            scaled: None,
+        }
+    }
+
     /// The point, prepared. The one error is want of memory.
     pub fn make(alloc: Global, point: &'a RationalPoint) -> Result<PointSums<'a>, AllocError>
         ensures { IfOk result (λ s. s ≡ point.now) }

@@ -1,10 +1,12 @@
 //! The relaxation of a problem and cuts, over many boxes.
 
-ghost use Rattle.std.specs.Prelude.{◌≡◌, ◌<◌, ◌≤◌, ◌^◌, IfOk, IfSome, Some, length, take};
+ghost use Rattle.std.specs.Prelude.{◌≡◌, ◌↔◌, ◌<◌, ◌≤◌, ◌^◌, IsTrue, IfOk, IfSome, Some, length, take};
 ghost use Rattle.dual_simplex.specs.Answers.{linear_program, run, HasPivots, answer};
 ghost use Rattle.dual_simplex.specs.Prepared.{IsIntegerProgramOf, IsRelaxationOf};
 ghost use Rattle.dual_simplex.specs.Sizes.{most_numbered_cuts};
 
+use crate::answer::Answer;
+use crate::cramped_run::{is_cramped_by_fractions, is_cramped_by_integers};
 use crate::fraction_run::solve_by_fractions;
 use crate::integer_run::solve_by_integers;
 use crate::program::linear_program;
@@ -113,6 +115,76 @@ impl Relaxation {
         match self.solution_by_integers(alloc, problem, book, area)? {
             Some(solution) => Ok(solution),
             None => solve_by_fractions(alloc, problem, book, self.cuts, area),
+        }
+    }
+
+    /// How many of the cuts it has.
+    pub fn cuts(&self) -> usize
+        ensures { result ≡ self.now.cuts }
+    {
+        self.cuts
+    }
+
+    /// Whether the run over a box that starts on whole numbers is cramped after so many pivots; none where there is no such start. The one error is
+    /// want of memory.
+    fn is_cramped_by_integers(
+        &self,
+        alloc: Global,
+        problem: &Problem,
+        book: &Book,
+        area: &IntBox,
+        claim: u32,
+    ) -> Result<Option<bool>, AllocError>
+        requires few { self.now.cuts ≤ length book.now.cuts }
+        requires prepared { IsRelaxationOf problem.now (take self.now.cuts book.now.cuts) self.now }
+        requires columns { length area.now ≡ length problem.now.spans }
+        ensures { IfOk result (λ o. IfSome o (λ b. IsTrue b ↔ (answer problem.now (take self.now.cuts book.now.cuts) area.now ≡ Answer.Cramped claim))) }
+    {
+        match &self.program {
+            Some(program) => {
+                is_cramped_by_integers(alloc, problem, book, self.cuts, area, program, claim)
+            }
+            None => Ok(None),
+        }
+    }
+
+    /// Whether what `solve` answers over a box is that it is cramped after so many pivots, as somebody claims. The run ends behind the pivot that has to
+    /// be cramped by the claim, however long `solve` would go on. The one error is want of memory.
+    pub fn is_cramped_after(
+        &self,
+        alloc: Global,
+        problem: &Problem,
+        book: &Book,
+        area: &IntBox,
+        claim: u32,
+    ) -> Result<bool, AllocError>
+        requires few { self.now.cuts ≤ length book.now.cuts }
+        requires prepared { IsRelaxationOf problem.now (take self.now.cuts book.now.cuts) self.now }
+        requires columns { length area.now ≡ length problem.now.spans }
+        ensures { IfOk result (λ b. IsTrue b ↔ (answer problem.now (take self.now.cuts book.now.cuts) area.now ≡ Answer.Cramped claim)) }
+    {
+        match self.is_cramped_by_integers(alloc, problem, book, area, claim)? {
+            Some(cramped) => Ok(cramped),
+            None => is_cramped_by_fractions(alloc, problem, book, self.cuts, area, claim),
+        }
+    }
+
+    /// Whether what `solve` answers over a box is that it is stalled. The one error is want of memory.
+    pub fn is_stalled(
+        &self,
+        alloc: Global,
+        problem: &Problem,
+        book: &Book,
+        area: &IntBox,
+    ) -> Result<bool, AllocError>
+        requires few { self.now.cuts ≤ length book.now.cuts }
+        requires prepared { IsRelaxationOf problem.now (take self.now.cuts book.now.cuts) self.now }
+        requires columns { length area.now ≡ length problem.now.spans }
+        ensures { IfOk result (λ b. IsTrue b ↔ (answer problem.now (take self.now.cuts book.now.cuts) area.now ≡ Answer.Stalled)) }
+    {
+        match self.solve(alloc, problem, book, area)?.answer {
+            Answer::Stalled => Ok(true),
+            _ => Ok(false),
         }
     }
 }

@@ -8,3 +8,4 @@ pub mod Points
 pub mod Boxes
 pub mod Reasons
 pub mod Sounding
+pub mod Kept

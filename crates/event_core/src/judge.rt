@@ -2,6 +2,7 @@
 ghost use Rattle.std.specs.Prelude.{◌≡◌, ◌≤◌, true, IfOk, length, All};
 ghost use Rattle.problem.specs.Limited.{IsModestSpan};
 ghost use Rattle.problem.specs.Limits.{most_cuts};
+ghost use Rattle.dual_simplex.specs.Prepared.{IsKept};
 ghost use Rattle.event_core.specs.States.{is_open, box_of};
 ghost use Rattle.event_core.specs.Holds.{is_held, is_holding, holds_node, is_busy, is_yours};
 ghost use Rattle.event_core.specs.Judging.{judged_claim, judged_release, judged_cut, judged_offer, judged_split, judged_close, judged};
@@ -10,6 +11,7 @@ use crate::admit::Admit;
 use crate::parts::Parts;
 use crate::split_place::SplitPlace;
 use crate::split_rule::{has_both, is_reason};
+use dual_simplex::KeptRelaxation;
 use node_events::{Event, Mult, Proof, Reason};
 use node_tree::laws::boxes_are_cut;
 use problem::{MOST_CUTS, Point};
@@ -144,9 +146,12 @@ impl Parts {
         column: u32,
         bound: i64,
         reason: &Reason,
+        kept: &mut KeptRelaxation,
     ) -> Result<Admit, AllocError>
-        requires { length self.now.state.cuts ≤ most_cuts }
-        ensures { IfOk result (λ a. a ≡ judged_split self.now.state worker node column bound reason.now) }
+        requires few { length self.now.state.cuts ≤ most_cuts }
+        requires kept { IsKept self.now.state.problem self.now.state.cuts kept.old }
+        ensures answer { IfOk result (λ a. a ≡ judged_split self.now.state worker node column bound reason.now) }
+        ensures kept { IsKept self.now.state.problem self.now.state.cuts kept.new }
     {
         if !self.is_open(node) {
             return Ok(Admit::NotOpen);
@@ -160,7 +165,16 @@ impl Parts {
         }
         let cutoff = self.incumbent.cutoff();
         let at = SplitPlace { column, bound };
-        if !is_reason(alloc, &self.problem, &self.book, &area, cutoff, at, reason)? {
+        if !is_reason(
+            alloc,
+            &self.problem,
+            &self.book,
+            kept,
+            &area,
+            cutoff,
+            at,
+            reason,
+        )? {
             return Ok(Admit::BadReason);
         }
         Ok(Admit::Yes)
@@ -199,9 +213,12 @@ impl Parts {
         alloc: Global,
         worker: Option<u32>,
         event: &Event,
+        kept: &mut KeptRelaxation,
     ) -> Result<Admit, AllocError>
-        requires { length self.now.state.cuts ≤ most_cuts }
-        ensures { IfOk result (λ a. a ≡ judged self.now.state worker event.now) }
+        requires few { length self.now.state.cuts ≤ most_cuts }
+        requires kept { IsKept self.now.state.problem self.now.state.cuts kept.old }
+        ensures answer { IfOk result (λ a. a ≡ judged self.now.state worker event.now) }
+        ensures kept { IsKept self.now.state.problem self.now.state.cuts kept.new }
     {
         match event {
             Event::Claim { node } => Ok(self.judge_claim(worker, *node)),
@@ -213,7 +230,7 @@ impl Parts {
                 column,
                 bound,
                 reason,
-            } => self.judge_split(alloc, worker, *node, *column, *bound, reason),
+            } => self.judge_split(alloc, worker, *node, *column, *bound, reason, kept),
             Event::Close { node, proof } => self.judge_close(alloc, worker, *node, proof),
         }
     }

@@ -18,6 +18,9 @@ use problem_box::{IntBox, Span};
 use std::alloc::{AllocError, Global};
 use std::cmp::Ordering;
 
+/// From so many rows on, their sums take longer than the preparation of the point that makes them short.
+const WORTH_PREPARING: usize = 4;
+
 /// Whether the number lies between the ends of the span.
 fn lies_in(span: Span, number: Frac) -> bool
     ensures { result ≡ lies_in span number }
@@ -94,6 +97,16 @@ fn satisfies_cuts(book: &Book, cuts: usize, sums: &PointSums) -> bool
     true
 }
 
+/// The point for the sums of so many rows, prepared unless they are few. The one error is want of memory.
+fn sums_of(alloc: Global, point: &RationalPoint, rows: usize) -> Result<PointSums<'_>, AllocError>
+    ensures { IfOk result (λ s. s ≡ point.now) }
+{
+    if rows < WORTH_PREPARING {
+        return Ok(PointSums::plain(point));
+    }
+    PointSums::make(alloc, point)
+}
+
 /// Whether the point lies in the box and satisfies all rows and the first cuts, and each sum is there. The one error is want of memory.
 pub fn is_relaxed(
     alloc: Global,
@@ -109,7 +122,7 @@ pub fn is_relaxed(
     if !lies_in_box(area, point) {
         return Ok(false);
     }
-    let sums = PointSums::make(alloc, point)?;
+    let sums = sums_of(alloc, point, problem.rows().saturating_add(cuts))?;
     Ok(satisfies_rows(problem, &sums) && satisfies_cuts(book, cuts, &sums))
 }
 

@@ -8,13 +8,14 @@ ghost use Rattle.problem.specs.Limited.{IsModestSpan};
 ghost use Rattle.problem.specs.Limits.{most_cuts};
 ghost use Rattle.dual_simplex.specs.Relaxation.{rational_at};
 ghost use Rattle.dual_simplex.specs.Answers.{answer};
+ghost use Rattle.dual_simplex.specs.Prepared.{IsKept};
 ghost use Rattle.dual_simplex.specs.Sizes.{most_numbered_cuts};
 ghost use Rattle.event_core.specs.Splits.{has_both, cuts_of, is_between, is_middle, is_cramped, is_stalled, is_fractional, is_given, is_reason};
 
 use crate::relaxed::{is_below_cutoff, is_relaxed};
 use crate::split_place::{SplitPlace, middle};
 use derivation_book::Book;
-use dual_simplex::{Answer, solve};
+use dual_simplex::KeptRelaxation;
 use fraction::Frac;
 use node_events::{RationalPoint, Reason};
 use problem::Problem;
@@ -77,19 +78,19 @@ fn is_cramped(
     alloc: Global,
     problem: &Problem,
     book: &Book,
+    kept: &mut KeptRelaxation,
     cuts: usize,
     area: &IntBox,
     pivots: u32,
 ) -> Result<bool, AllocError>
+    requires kept { IsKept problem.now book.now.cuts kept.old }
     requires few { cuts ≤ length book.now.cuts }
     requires numbered { cuts < most_numbered_cuts }
     requires columns { length area.now ≡ length problem.now.spans }
-    ensures { IfOk result (λ b. b ≡ is_cramped pivots (answer problem.now (take cuts book.now.cuts) area.now)) }
+    ensures value { IfOk result (λ b. b ≡ is_cramped pivots (answer problem.now (take cuts book.now.cuts) area.now)) }
+    ensures kept { IsKept problem.now book.now.cuts kept.new }
 {
-    match solve(alloc, problem, book, cuts, area)?.answer {
-        Answer::Cramped { pivots: found } => Ok(found == pivots),
-        _ => Ok(false),
-    }
+    kept.is_cramped_after(alloc, problem, book, cuts, area, pivots)
 }
 
 /// Whether the run with the first cuts is stalled. The one error is want of memory.
@@ -97,18 +98,18 @@ fn is_stalled(
     alloc: Global,
     problem: &Problem,
     book: &Book,
+    kept: &mut KeptRelaxation,
     cuts: usize,
     area: &IntBox,
 ) -> Result<bool, AllocError>
+    requires kept { IsKept problem.now book.now.cuts kept.old }
     requires few { cuts ≤ length book.now.cuts }
     requires numbered { cuts < most_numbered_cuts }
     requires columns { length area.now ≡ length problem.now.spans }
-    ensures { IfOk result (λ b. b ≡ is_stalled (answer problem.now (take cuts book.now.cuts) area.now)) }
+    ensures value { IfOk result (λ b. b ≡ is_stalled (answer problem.now (take cuts book.now.cuts) area.now)) }
+    ensures kept { IsKept problem.now book.now.cuts kept.new }
 {
-    match solve(alloc, problem, book, cuts, area)?.answer {
-        Answer::Stalled => Ok(true),
-        _ => Ok(false),
-    }
+    kept.is_stalled(alloc, problem, book, cuts, area)
 }
 
 /// How many cuts the reason's linear program has.
@@ -149,16 +150,19 @@ fn is_given(
     alloc: Global,
     problem: &Problem,
     book: &Book,
+    kept: &mut KeptRelaxation,
     area: &IntBox,
     cutoff: Option<Frac>,
     at: SplitPlace,
     reason: &Reason,
 ) -> Result<bool, AllocError>
+    requires kept { IsKept problem.now book.now.cuts kept.old }
     requires few { cuts_of reason.now ≤ length book.now.cuts }
     requires few_cuts { length book.now.cuts ≤ most_cuts }
     requires columns { length area.now ≡ length problem.now.spans }
     requires modest { All IsModestSpan area.now }
-    ensures { IfOk result (λ b. b ≡ is_given problem.now book.now.cuts area.now cutoff at.column at.bound reason.now) }
+    ensures value { IfOk result (λ b. b ≡ is_given problem.now book.now.cuts area.now cutoff at.column at.bound reason.now) }
+    ensures kept { IsKept problem.now book.now.cuts kept.new }
 {
     match reason {
         Reason::Fractional { cuts, point } => {
@@ -177,13 +181,13 @@ fn is_given(
             if !is_middle(area, at.column, at.bound) {
                 return Ok(false);
             }
-            is_cramped(alloc, problem, book, *cuts as usize, area, *pivots)
+            is_cramped(alloc, problem, book, kept, *cuts as usize, area, *pivots)
         }
         Reason::Stalled { cuts } => {
             if !is_middle(area, at.column, at.bound) {
                 return Ok(false);
             }
-            is_stalled(alloc, problem, book, *cuts as usize, area)
+            is_stalled(alloc, problem, book, kept, *cuts as usize, area)
         }
     }
 }
@@ -204,18 +208,21 @@ pub fn is_reason(
     alloc: Global,
     problem: &Problem,
     book: &Book,
+    kept: &mut KeptRelaxation,
     area: &IntBox,
     cutoff: Option<Frac>,
     at: SplitPlace,
     reason: &Reason,
 ) -> Result<bool, AllocError>
+    requires kept { IsKept problem.now book.now.cuts kept.old }
     requires few_cuts { length book.now.cuts ≤ most_cuts }
     requires columns { length area.now ≡ length problem.now.spans }
     requires modest { All IsModestSpan area.now }
-    ensures { IfOk result (λ b. b ≡ is_reason problem.now book.now.cuts area.now cutoff at.column at.bound reason.now) }
+    ensures value { IfOk result (λ b. b ≡ is_reason problem.now book.now.cuts area.now cutoff at.column at.bound reason.now) }
+    ensures kept { IsKept problem.now book.now.cuts kept.new }
 {
     if !is_nonempty(area) || cuts_of(reason) as usize > book.len() {
         return Ok(false);
     }
-    is_given(alloc, problem, book, area, cutoff, at, reason)
+    is_given(alloc, problem, book, kept, area, cutoff, at, reason)
 }

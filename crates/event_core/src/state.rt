@@ -1,5 +1,6 @@
 // The state of a search.
 ghost use Rattle.std.specs.Prelude.{◌≡◌, ◌++◌, ◌∷◌, [], None, IfOk, OnOk};
+ghost use Rattle.dual_simplex.specs.Prepared.{IsKept};
 ghost use Rattle.event_core.specs.States.{first_state, is_open, open_count};
 ghost use Rattle.event_core.specs.Judging.{judged};
 ghost use Rattle.event_core.specs.After.{after};
@@ -11,6 +12,7 @@ use crate::admit::Admit;
 use crate::entry::Entry;
 use crate::parts::Parts;
 use derivation_book::{Book, Cut};
+use dual_simplex::KeptRelaxation;
 use incumbent::Incumbent;
 use node_events::Event;
 use node_tree::Tree;
@@ -126,8 +128,24 @@ impl State {
     ) -> Result<Admit, AllocError>
         ensures { IfOk result (λ a. a ≡ judged self.now.state worker event.now) }
     {
+        self.admits_with(alloc, worker, event, &mut KeptRelaxation::none())
+    }
+
+    /// The same with the relaxation that was kept of the events that were judged before, which is kept again. Whoever judges many events of one search
+    /// so prepares it once for those with as many cuts.
+    pub fn admits_with(
+        &self,
+        alloc: Global,
+        worker: Option<u32>,
+        event: &Event,
+        kept: &mut KeptRelaxation,
+    ) -> Result<Admit, AllocError>
+        requires { IsKept self.now.state.problem self.now.state.cuts kept.old }
+        ensures answer { IfOk result (λ a. a ≡ judged self.now.state worker event.now) }
+        ensures kept { IsKept self.now.state.problem self.now.state.cuts kept.new }
+    {
         self.conditions_hold();
-        self.parts.admits(alloc, worker, event)
+        self.parts.admits(alloc, worker, event, kept)
     }
 
     /// Makes ready what `apply` needs for the event, so that it takes no memory: for a claim also what the release of its node needs. The nodes of a

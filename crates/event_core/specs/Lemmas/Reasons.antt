@@ -206,7 +206,7 @@ decides-middle box j b = (forth, back)
     back h = join (is_first_free box j) (is_half (slice_get box j) b) (first_at box j h.free) ((decides-half (slice_get box j) b h.free.span h.free.there).1 h.bound)
 
 -- ---- answers
-decides-cramped : (n : ℕ) (a : Answer) → Decides (is_cramped n a) (a ≡ CrampedRun n)
+pub decides-cramped : (n : ℕ) (a : Answer) → Decides (is_cramped n a) (a ≡ CrampedRun n)
 decides-cramped n (Infeasible mult) = never (λ e. cc)
 decides-cramped n (Optimal x mult v) = never (λ e. cc)
 decides-cramped n (CrampedRun pivots) = Decides-like _ (ap CrampedRun) same (Decides-eqb pivots n)
@@ -215,7 +215,7 @@ decides-cramped n (CrampedRun pivots) = Decides-like _ (ap CrampedRun) same (Dec
     same e = cc
 decides-cramped n StalledRun = never (λ e. cc)
 
-decides-stalled : (a : Answer) → Decides (is_stalled a) (a ≡ StalledRun)
+pub decides-stalled : (a : Answer) → Decides (is_stalled a) (a ≡ StalledRun)
 decides-stalled (Infeasible mult) = never (λ e. cc)
 decides-stalled (Optimal x mult v) = never (λ e. cc)
 decides-stalled (CrampedRun pivots) = never (λ e. cc)
