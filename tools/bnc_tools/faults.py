@@ -101,6 +101,8 @@ def run(tool: str, action, words) -> int:
         return told(tool, "interrupted", INTERRUPTED)
     except OSError as error:
         return told(tool, f"standard output can't be written: {error.strerror}", UNWRITTEN)
+    finally:
+        signal.signal(signal.SIGINT, signal.SIG_IGN)  # all is said: Ctrl-C must not meet the interpreter on its way out
 
 
 def told(tool: str, what: str, status: int) -> int:

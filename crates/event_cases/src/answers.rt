@@ -191,11 +191,11 @@ fn show_many_cuts<R: Print + Alloc<A = Global>>(rt: &R, state: &mut State) -> Re
 /// Prints the answers on the first model, with its offers and cuts.
 fn show_one_column<R: Print + Alloc<A = Global>>(rt: &R) -> Result<()> {
     let mut state = State::new(rt.alloc(), problem_of(rt.alloc(), ONE_COLUMN)?)?;
-    for plan in FIRST {
-        show_asked(rt, &state, plan)?;
+    for plan in &FIRST {
+        show_asked(rt, &state, *plan)?;
     }
-    for plan in OFFERS {
-        show_applied(rt, &mut state, plan)?;
+    for plan in &OFFERS {
+        show_applied(rt, &mut state, *plan)?;
     }
     let cutoff = NumberOrNone(state.incumbent().cutoff());
     println!(rt; "answer: the cutoff is {cutoff}")?;
@@ -205,11 +205,11 @@ fn show_one_column<R: Print + Alloc<A = Global>>(rt: &R) -> Result<()> {
 /// Prints the answers on the second model, and how its search ends.
 fn show_two_columns<R: Print + Alloc<A = Global>>(rt: &R) -> Result<()> {
     let mut state = State::new(rt.alloc(), problem_of(rt.alloc(), TWO_COLUMNS)?)?;
-    for plan in SPLITS {
-        show_asked(rt, &state, plan)?;
+    for plan in &SPLITS {
+        show_asked(rt, &state, *plan)?;
     }
-    for plan in SEARCH {
-        show_applied(rt, &mut state, plan)?;
+    for plan in &SEARCH {
+        show_applied(rt, &mut state, *plan)?;
     }
     let (nodes, open) = (state.tree().len(), state.open_count());
     let (entries, columns) = (state.history().len(), state.problem().columns());

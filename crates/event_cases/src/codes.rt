@@ -83,10 +83,10 @@ fn show_model<R: Print + Alloc<A = Global>>(rt: &R, text: &str) -> Result<()> {
 
 /// Prints what payloads spell.
 pub(crate) fn show<R: Print + Alloc<A = Global>>(rt: &R) -> Result<()> {
-    for text in EVENTS {
+    for text in &EVENTS {
         show_payload(rt, text)?;
     }
-    for text in MODELS {
+    for text in &MODELS {
         show_model(rt, text)?;
     }
     Ok(())
