@@ -70,7 +70,7 @@ impl<'a, R: Files<File = File>> FileDisk<'a, R> {
 
     /// What the system said of the last fault; none where there was none.
     pub fn met(&self) -> Option<Error>
-        ensures { result ≡ self.met }
+        ensures { result ≡ self.now.met }
     {
         self.met
     }
