@@ -11,18 +11,18 @@ use Rattle.event_core.specs.States.{State, cutoff}
 use Rattle.expand.specs.declared.finding.Finding.{Finding}
 use Rattle.expand.specs.declared.origin.Origin.{Origin}
 use Rattle.expand.specs.Expansion.{IsExpansion, costs_after}
-use Rattle.expand.specs.Findings.{Holds}
+use Rattle.expand.specs.Findings.{IsTrueFinding}
 use Rattle.pseudo_cost.specs.declared.column_gains.ColumnGains.{ColumnGains}
-use Rattle.expand.specs.Glances.{IsGlance}
+use Rattle.expand.specs.Subproblems.{IsSubproblem}
 use Rattle.core_search.specs.declared.worker.Worker.{Worker}
 use Rattle.core_search.specs.Workers.{IsPrepared}
 
 -- by the state's own parts
-pub glance_same : (s : State) (p : Problem) (cs : List Cut) (r : Prepared) (box : List Span) → p ≡ s.problem → cs ≡ s.cuts → IsGlance s.problem s.cuts r box → IsGlance p cs r box
-glance_same s p cs r box e f h = subst (λ (q : Problem × List Cut). IsGlance q.0 q.1 r box) (λ i. (sym e i, sym f i)) h
+pub subproblem_same : (s : State) (p : Problem) (cs : List Cut) (r : Prepared) (box : List Span) → p ≡ s.problem → cs ≡ s.cuts → IsSubproblem s.problem s.cuts r box → IsSubproblem p cs r box
+subproblem_same s p cs r box e f h = subst (λ (q : Problem × List Cut). IsSubproblem q.0 q.1 r box) (λ i. (sym e i, sym f i)) h
 
-pub holds_same : (s : State) (p : Problem) (cs : List Cut) (box : List Span) (c : Option ℚ) (f : Finding) → p ≡ s.problem → cs ≡ s.cuts → c ≡ cutoff s → Holds p cs box c f → Holds s.problem s.cuts box (cutoff s) f
-holds_same s p cs box c f e g k h = subst (λ (q : Problem × List Cut × Option ℚ). Holds q.0 q.1 box q.2 f) (λ i. (e i, g i, k i)) h
+pub holds_same : (s : State) (p : Problem) (cs : List Cut) (box : List Span) (c : Option ℚ) (f : Finding) → p ≡ s.problem → cs ≡ s.cuts → c ≡ cutoff s → IsTrueFinding p cs box c f → IsTrueFinding s.problem s.cuts box (cutoff s) f
+holds_same s p cs box c f e g k h = subst (λ (q : Problem × List Cut × Option ℚ). IsTrueFinding q.0 q.1 box q.2 f) (λ i. (e i, g i, k i)) h
 
 pub expansion_same : (s : State) (p : Problem) (cs : List Cut) (box : List Span) (c : Option ℚ) (costs : List ColumnGains) (room : ℕ) (f : Finding) → p ≡ s.problem → cs ≡ s.cuts → c ≡ cutoff s
     → IsExpansion p cs box c costs room f → IsExpansion s.problem s.cuts box (cutoff s) costs room f

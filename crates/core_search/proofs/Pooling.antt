@@ -12,7 +12,7 @@ use Rattle.node_journal.specs.declared.journal.Journal.{Journal}
 use Rattle.node_journal.specs.Whole.{payloads_in}
 use Rattle.node_pool.specs.Halting.{is_disk_fault}
 use Rattle.node_pool.specs.Payloads.{model_in}
-use Rattle.node_pool.specs.Steps.{Applies, Stays}
+use Rattle.node_pool.specs.Applied.{Applies, AppliesNothing}
 use Rattle.node_pool.specs.declared.answers.CommitFault.{CommitFault}
 use Rattle.node_pool.specs.declared.pool.Pool.{Pool}
 use Rattle.core_search.specs.Entries.{ExtendsHistory, IsGreatestIfClaim}
@@ -20,7 +20,7 @@ use Rattle.core_search.specs.Pools.{PoolGoesOn, StaysSound, FailsBy}
 use Rattle.core_search.proofs.Entering.{one_event, joined, stays}
 
 -- an event after nothing
-pub applied_then : (a b c : Recorded) (e : Event) → Stays a b → Applies b (Some 0) e c → IsGreatestIfClaim a.state e → ExtendsHistory a c
+pub applied_then : (a b c : Recorded) (e : Event) → AppliesNothing a b → Applies b (Some 0) e c → IsGreatestIfClaim a.state e → ExtendsHistory a c
 applied_then a b c e h k g =
     one_event a c e (k.state ∙ ap (λ (s : State). after s (Some 0) e) h.state) (k.history ∙ ap (λ (es : List Entry). es ++ record { worker = Some 0; event = e } ∷ []) h.history) g
 

@@ -12,7 +12,7 @@ use Rattle.event_core.specs.Histories.{state_from}
 use Rattle.event_core.specs.Rooms.{Recorded}
 use Rattle.event_core.specs.Lemmas.Running.{state_from-append}
 use Rattle.expand.specs.Laws.{entries_of}
-use Rattle.node_pool.specs.Steps.{Applies, Stays}
+use Rattle.node_pool.specs.Applied.{Applies, AppliesNothing}
 use Rattle.pseudo_cost.specs.declared.column_gains.ColumnGains.{ColumnGains}
 use Rattle.expand.specs.declared.settlement.Settlement.{Settlement}
 use Rattle.core_search.specs.declared.open_node.OpenNode.{OpenNode}
@@ -22,7 +22,7 @@ use Rattle.core_search.specs.Visits.{Makes, EndsNone, EndsNoNode, IsDecision, at
 abbrev entry : Event → Entry
 entry e = record { worker = Some 0; event = e }
 
-pub nothing : (a b : Recorded) → Stays a b → Makes [] a b
+pub nothing : (a b : Recorded) → AppliesNothing a b → Makes [] a b
 nothing a b h = record { history = h.history ∙ sym (append-nil a.history); state = h.state }
 
 pub no_change : (a : Recorded) → Makes [] a a

@@ -3,7 +3,7 @@ ghost use Rattle.std.specs.Prelude.{◌≡◌, ◌≤◌, ◌+◌, max, map, Non
 ghost use Rattle.node_events.specs.declared.event.Event.TheVariants.{Cut};
 ghost use Rattle.event_core.specs.States.{cutoff};
 ghost use Rattle.expand.specs.Expansion.{IsExpansion, costs_after};
-ghost use Rattle.expand.specs.Findings.{Holds};
+ghost use Rattle.expand.specs.Findings.{IsTrueFinding};
 ghost use Rattle.expand.specs.Settlements.{IsSettlement, AreNewCuts};
 ghost use Rattle.core_search.specs.Deciding.{IsLastLook, IsFinal, IsSameButCuts, KeepsToLimit};
 ghost use Rattle.core_search.specs.OpenNodes.{IsOpenNode};
@@ -16,7 +16,7 @@ use crate::events::apply_event;
 use crate::open_node::{OpenNode, node_conditions_hold};
 use crate::worker::Worker;
 use event_core::State;
-use expand::{Finding, Glance, Mults, Settlement, expand, settle};
+use expand::{Finding, Mults, Settlement, Subproblem, expand, settle};
 use node_events::Event;
 use node_pool::{CommitFault, Pool};
 use outside::Disk;
@@ -32,7 +32,7 @@ fn look(
 ) -> Result<Finding, AllocError>
     requires node { IsOpenNode state.now.state node.now }
     requires prepared { IsPrepared state.now.state worker.old }
-    ensures holds { IfOk result (λ f. Holds state.now.state.problem state.now.state.cuts node.now.area (cutoff state.now.state) f) }
+    ensures holds { IfOk result (λ f. IsTrueFinding state.now.state.problem state.now.state.cuts node.now.area (cutoff state.now.state) f) }
     ensures found { IfOk result (λ f. IsExpansion state.now.state.problem state.now.state.cuts node.now.area (cutoff state.now.state) worker.new.costs room f) }
     ensures noted { OnOk result (worker.new.costs ≡ costs_after state.now.state.problem state.now.state.cuts node.now.area (cutoff state.now.state) node.now.origin worker.old.costs) }
     ensures last { IfOk result (λ f. IsLastLook room f) }
@@ -40,14 +40,14 @@ fn look(
     ensures limit { worker.new.limit ≡ worker.old.limit }
 {
     node_conditions_hold(state, node);
-    let glance = Glance {
+    let subproblem = Subproblem {
         problem: state.problem(),
         book: state.book(),
         relaxation: &worker.relaxation,
         area: &node.area,
         cutoff: state.incumbent().cutoff(),
     };
-    expand(alloc, &glance, &mut worker.costs, node.origin, room)
+    expand(alloc, &subproblem, &mut worker.costs, node.origin, room)
 }
 
 /// How what is found of the node settles it. The one error is want of memory.

@@ -29,14 +29,14 @@ use Rattle.worker_gate.specs.Calls.{entry_by, Claims, Commits, Releases, Halts, 
 use Rattle.worker_gate.specs.Conditions.{HoldsNone, HoldsNode}
 use Rattle.worker_gate.specs.Entries.{happened, is_opened, opening_in, events_in, halt_in, state_in}
 use Rattle.worker_gate.specs.Gates.{Stepped}
-use Rattle.worker_gate.specs.Laws.{Stays}
+use Rattle.worker_gate.specs.Laws.{KeepsConditions}
 use Rattle.worker_gate.specs.Lemmas.Holding.{held_open}
 use Rattle.worker_gate.specs.Lemmas.Lists.{events-append, events-happened, halt-first, halt-none, state-append}
 use Rattle.worker_gate.specs.Lemmas.Staying.{kept_in, conditions_stay}
 use Rattle.crew.specs.declared.node_work.Step.{Step}
 use Rattle.crew.specs.declared.node_work.Step.TheVariants.{Ended, Separated, Refused}
 use Rattle.crew.specs.Lists.{IsFront, Worked, IsHolding, IsOver}
-use Rattle.crew.specs.Steps.{Leaves, AreAllHeld, step_of}
+use Rattle.crew.specs.WorkerSteps.{Leaves, AreAllHeld, step_of}
 use Rattle.crew.proofs.Fronts.{front_on}
 use Rattle.crew.proofs.Holding.{IsJournaled, all_first, all_quiet, settled_journaled, separated_holds, ended_none, ended_closed, claimed_held, lone}
 
@@ -50,7 +50,7 @@ module _ (w : ℕ) (old new : List PoolEntry) (Made : List PoolEntry → List Po
   pub kept_at : IsKept (state_in step.at)
   kept_at = kept_in step.at step.found
 
-  pub stays_at : is_opened old ≡ true → Stays w old step.at
+  pub stays_at : is_opened old ≡ true → KeepsConditions w old step.at
   stays_at opened = conditions_stay w old step.at opened step.found step.goes_on
 
   pub same_if : step.makes.own ≡ [] → new ≡ step.at

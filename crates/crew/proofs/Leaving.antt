@@ -11,7 +11,7 @@ use Rattle.worker_gate.specs.Gates.{Stepped}
 use Rattle.crew.specs.declared.worker_loop.Taken.{Taken}
 use Rattle.crew.specs.declared.worker_loop.Taken.TheVariants.{Node, Idle, Over}
 use Rattle.crew.specs.Lists.{IsFront, IsHolding}
-use Rattle.crew.specs.Steps.{Leaves, Takes, step_of}
+use Rattle.crew.specs.WorkerSteps.{Leaves, Takes, step_of}
 use Rattle.crew.proofs.Calling.{committed, refused}
 
 pub takes_front : (w : ℕ) (old new : List PoolEntry) (t : Taken) → Takes w old new t → IsFront old new

@@ -23,7 +23,7 @@ EachChange {T} P xs ys = (i : ℕ) (d : T) → i < length xs → P (slice_index_
 
 -- The gate of worker w is ready for its work: it has this worker's number, and has seen an opened list of this problem, in which the worker holds no
 -- node.
-pub record IsReady (p : Problem) (w worker : ℕ) (seen : List PoolEntry) : Type 0 where
+pub record IsReadyGate (p : Problem) (w worker : ℕ) (seen : List PoolEntry) : Type 0 where
   pub number : worker ≡ w
   pub opened : is_opened seen ≡ true
   pub problem : (state_in seen).problem ≡ p

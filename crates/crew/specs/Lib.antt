@@ -1,6 +1,6 @@
 pub mod Origins
 pub mod Lists
 pub mod Workers
-pub mod Steps
+pub mod WorkerSteps
 pub mod Gates
 pub mod Runs

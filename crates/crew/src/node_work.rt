@@ -7,7 +7,7 @@ ghost use Rattle.worker_gate.specs.Entries.{is_opened, state_in};
 ghost use Rattle.core_search.specs.Deciding.{IsLastLook};
 ghost use Rattle.crew.specs.Lists.{IsHolding, Worked, IsOver};
 ghost use Rattle.crew.specs.Origins.{MayNote};
-ghost use Rattle.crew.specs.Steps.{Leaves, step_of};
+ghost use Rattle.crew.specs.WorkerSteps.{Leaves, step_of};
 ghost use Rattle.crew.specs.Workers.{IsViewOf, IsNodeOf, Knows};
 
 use crate::node_view::NodeView;

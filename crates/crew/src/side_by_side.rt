@@ -1,6 +1,6 @@
 //! Workers at gates of any kind, each in a thread of its own where one can be made.
 ghost use Rattle.std.specs.Prelude.{◌≡◌, ◌<◌, length};
-ghost use Rattle.crew.specs.Gates.{worker_at, IsReady, EachAt, EachChange};
+ghost use Rattle.crew.specs.Gates.{worker_at, IsReadyGate, EachAt, EachChange};
 ghost use Rattle.crew.specs.Lists.{Worked, IsOver};
 
 use crate::settings::Settings;
@@ -24,7 +24,7 @@ fn work_at<G: PoolGate, R: Wait, H: Hold>(
     hold: &H,
 )
     requires place { index < settings.now.workers }
-    requires ready { IsReady problem.now (worker_at settings.now.workers index) (G.worker gate.old) (G.seen gate.old) }
+    requires ready { IsReadyGate problem.now (worker_at settings.now.workers index) (G.worker gate.old) (G.seen gate.old) }
     ensures same { G.worker gate.new ≡ G.worker gate.old }
     ensures stays { G.home gate.new ≡ G.home gate.old }
     ensures worked { Worked (G.worker gate.old) (G.seen gate.old) (G.seen gate.new) }
@@ -45,7 +45,7 @@ pub(crate) fn work_each<G: PoolGate + Send, R: Threads + Wait + Sync, H: Hold + 
 )
     requires some { 0 < settings.now.workers }
     requires count { length gates.old ≡ settings.now.workers }
-    requires ready { EachAt (λ i g. IsReady problem.now (worker_at settings.now.workers i) (G.worker g) (G.seen g)) gates.old }
+    requires ready { EachAt (λ i g. IsReadyGate problem.now (worker_at settings.now.workers i) (G.worker g) (G.seen g)) gates.old }
     ensures same { EachChange (λ g h. G.worker h ≡ G.worker g) gates.old gates.new }
     ensures stays { EachChange (λ g h. G.home h ≡ G.home g) gates.old gates.new }
     ensures worked { EachChange (λ g h. Worked (G.worker g) (G.seen g) (G.seen h)) gates.old gates.new }

@@ -9,9 +9,9 @@ ghost use Rattle.worker_gate.specs.Conditions.{HoldsNone, HoldsNode, IsFound};
 ghost use Rattle.worker_gate.specs.Entries.{name_of, is_opened, opening_in, state_in};
 ghost use Rattle.worker_gate.specs.Gates.{Stepped};
 ghost use Rattle.worker_gate.specs.Passes.{seen_in};
-ghost use Rattle.crew.specs.Gates.{first_list, IsNewGate, IsReady};
+ghost use Rattle.crew.specs.Gates.{first_list, IsNewGate, IsReadyGate};
 ghost use Rattle.crew.specs.Lists.{IsHolding};
-ghost use Rattle.crew.specs.Steps.{Leaves, Takes, step_of};
+ghost use Rattle.crew.specs.WorkerSteps.{Leaves, Takes, step_of};
 
 pub use crate::node_work::Step;
 use crate::node_work::find;
@@ -41,8 +41,8 @@ pub fn two_gates<'a, D: Disk>(
     requires unheld { (state_in (first_list lock.now)).holds ≡ [] }
     ensures first { IsNewGate lock.now 0 result.0 }
     ensures second { IsNewGate lock.now 1 result.1 }
-    ensures first_ready { IsReady (state_in (first_list lock.now)).problem 0 result.0.worker (seen_in result.0.pass) }
-    ensures second_ready { IsReady (state_in (first_list lock.now)).problem 1 result.1.worker (seen_in result.1.pass) }
+    ensures first_ready { IsReadyGate (state_in (first_list lock.now)).problem 0 result.0.worker (seen_in result.0.pass) }
+    ensures second_ready { IsReadyGate (state_in (first_list lock.now)).problem 1 result.1.worker (seen_in result.1.pass) }
 {
     let (second, rest) = split_gate(lock, pass, 1);
     (LockGate::make(lock, rest, 0), second)

@@ -3,7 +3,7 @@ ghost use Rattle.std.specs.Prelude.{◌≡◌, ◌≤◌, ◌+◌, ◌++◌, ◌
 ghost use Rattle.derivation_book.specs.Cuts.{AreCutsAfter};
 ghost use Rattle.dual_simplex.specs.Prepared.{IsRelaxationOf};
 ghost use Rattle.expand.specs.Expansion.{IsExpansion, costs_after};
-ghost use Rattle.expand.specs.Findings.{Holds};
+ghost use Rattle.expand.specs.Findings.{IsTrueFinding};
 ghost use Rattle.core_search.specs.Deciding.{IsLastLook};
 ghost use Rattle.crew.specs.Origins.{origin_in};
 ghost use Rattle.crew.specs.Workers.{IsPrepared, IsNodeOf};
@@ -14,7 +14,7 @@ use crate::node_view::NodeView;
 use crate::split_values::SplitValues;
 use derivation_book::{Book, Cut};
 use dual_simplex::Relaxation;
-use expand::{Finding, Glance, expand};
+use expand::{Finding, Subproblem, expand};
 use problem::Problem;
 use pseudo_cost::Costs;
 use std::alloc::{AllocError, Global};
@@ -93,20 +93,20 @@ impl Worker {
         requires node { IsNodeOf problem.now node.now }
         ensures found { IfOk result (λ f. IsExpansion problem.now self.old.book.cuts node.now.area node.now.cutoff self.new.costs room f) }
         ensures noted { OnOk result (self.new.costs ≡ costs_after problem.now self.old.book.cuts node.now.area node.now.cutoff (origin_in self.old.splits node.now.branch) self.old.costs) }
-        ensures holds { IfOk result (λ f. Holds problem.now self.old.book.cuts node.now.area node.now.cutoff f) }
+        ensures holds { IfOk result (λ f. IsTrueFinding problem.now self.old.book.cuts node.now.area node.now.cutoff f) }
         ensures last { IfOk result (λ f. IsLastLook room f) }
         ensures prepared { IsPrepared problem.now self.new }
         ensures book { self.new.book ≡ self.old.book }
         ensures splits { self.new.splits ≡ self.old.splits }
     {
         let origin = self.splits.origin_of(&node.branch);
-        let glance = Glance {
+        let subproblem = Subproblem {
             problem,
             book: &self.book,
             relaxation: &self.relaxation,
             area: &node.area,
             cutoff: node.cutoff,
         };
-        expand(alloc, &glance, &mut self.costs, origin, room)
+        expand(alloc, &subproblem, &mut self.costs, origin, room)
     }
 }

@@ -3,7 +3,7 @@ ghost use Rattle.std.specs.Prelude.{◌≡◌, true};
 ghost use Rattle.worker_gate.specs.Conditions.{HoldsNone};
 ghost use Rattle.worker_gate.specs.Entries.{is_opened, state_in};
 ghost use Rattle.crew.specs.Lists.{Worked, IsOver};
-ghost use Rattle.crew.specs.Steps.{Takes, AreAllHeld};
+ghost use Rattle.crew.specs.WorkerSteps.{Takes, AreAllHeld};
 ghost use Rattle.crew.specs.Workers.{Knows};
 
 use crate::node_work::work_on;

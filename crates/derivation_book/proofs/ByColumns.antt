@@ -11,7 +11,7 @@ use Rattle.cert_rows.specs.Lines.{CertLine, row_at}
 use Rattle.derivation_book.specs.Sums.{combined_columns}
 use Rattle.derivation_book.specs.Adding.{columns_added}
 use Rattle.derivation_book.specs.Lemmas.Combining.{columns_from, columns_step, columns_done, columns_begun}
-use Rattle.derivation_book.specs.Lemmas.Steps.{next_item}
+use Rattle.derivation_book.specs.Lemmas.OptionChains.{next_item}
 
 pub first_columns : (ls : List CertLine) (mult : List (ℕ × ℚ)) (n k : ℕ) → k ≡ n → (ss : List ℚ) → ss ≡ replicate k (whole (pos 0)) → columns_from ls (drop 0 mult) 0 ss ≡ combined_columns ls mult 0 n
 first_columns ls mult n k e ss f = ap (columns_from ls mult 0) (f ∙ ap (λ i. replicate i (whole (pos 0))) e) ∙ columns_begun ls mult 0 n

@@ -25,7 +25,7 @@ use Rattle.derivation_book.specs.declared.place.Place.{Place}
 use Rattle.derivation_book.specs.declared.place.Place.TheVariants.{Lower, Upper}
 use Rattle.derivation_book.specs.Places.{row_in, no_span}
 use Rattle.derivation_book.specs.Sums.{with_product, sum_from, coefficient_at, side_at, combined_at, combined_side, combined_columns, Sums, sums_of, combined}
-use Rattle.derivation_book.specs.Lemmas.Steps.{was_mapped}
+use Rattle.derivation_book.specs.Lemmas.OptionChains.{was_mapped}
 use Rattle.derivation_book.specs.Lemmas.OneDenominator.{add_over, mul_over, zero_over}
 use Rattle.derivation_book.specs.OverOne.{IsTimes, IsScaled, AreScaled, IsWholeRow, NamesWholeRow, over, sums_over}
 

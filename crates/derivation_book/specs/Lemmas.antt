@@ -1,5 +1,5 @@
 -- Lemmas that other crates, or the definitions themselves, stand on. Contracts cite none of them.
-pub mod Steps
+pub mod OptionChains
 pub mod Held
 pub mod Columns
 pub mod Combining

@@ -45,7 +45,7 @@ use Rattle.dual_simplex.specs.Lemmas.RationalValues.{rational_value-dot}
 use Rattle.dual_simplex.specs.Lemmas.Numbers.{length-numbers, row_there, all_numbered, relaxation_rows}
 use Rattle.dual_simplex.specs.Lemmas.Prices.{mult_from, reduced_is_factor}
 use Rattle.dual_simplex.specs.Lemmas.Optimum.{point_cost}
-use Rattle.dual_simplex.specs.Lemmas.Holds.{rows_and_cuts, numbers, size, variables_are, balanced_value, cost_multipliers, point_is, costs_balanced, row_multipliers_are, row_balanced}
+use Rattle.dual_simplex.specs.Lemmas.TrueAnswers.{rows_and_cuts, numbers, size, variables_are, balanced_value, cost_multipliers, point_is, costs_balanced, row_multipliers_are, row_balanced}
 use Rattle.dual_simplex.proofs.CommonDenominator.{IsThereWithin, Multiplies, whole_within, neg_within, integer_within, integer_coefficient, integer_coefficients, sum_there, columns_there, dot_there, with_columns_there}
 use Rattle.integer_tableau.specs.Range.{size_limit}
 

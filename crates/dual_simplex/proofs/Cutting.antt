@@ -8,7 +8,7 @@ use Rattle.problem_box.specs.declared.span.Span.{Span}
 use Rattle.problem.specs.declared.row.Row.{Row}
 use Rattle.problem.specs.Problem.{Problem}
 use Rattle.derivation_book.specs.declared.cut.Cut.{Cut}
-use Rattle.derivation_book.specs.Lemmas.Steps.{was_mapped}
+use Rattle.derivation_book.specs.Lemmas.OptionChains.{was_mapped}
 use Rattle.tableau.specs.LinearProgram.{LinearProgram, relaxation, with_cut}
 use Rattle.tableau.specs.Lemmas.Programs.{relaxation-with_cut}
 use Rattle.dual_simplex.specs.Answers.{linear_program}

@@ -33,7 +33,7 @@ use Rattle.dual_simplex.specs.PointSums.{sums_fit}
 use Rattle.dual_simplex.specs.Answers.{linear_program, pivot_limit, run_of_start, run, HasPivots, infeasible_answer, optimal_answer, answer_or_cramped, answer_at, answer}
 use Rattle.dual_simplex.specs.Meaning.{IsTableauAt}
 use Rattle.dual_simplex.specs.Ends.{IsEnd, AreMultipliers}
-use Rattle.dual_simplex.specs.Lemmas.Holds.{size, variables_are, start_is_tableau, cost_multipliers_usable, row_multipliers_usable}
+use Rattle.dual_simplex.specs.Lemmas.TrueAnswers.{size, variables_are, start_is_tableau, cost_multipliers_usable, row_multipliers_usable}
 
 abbrev row_of_cut : Cut → Row
 row_of_cut c = c.row

@@ -24,7 +24,7 @@ use Rattle.problem.specs.Linear.{Terms}
 use Rattle.problem.specs.Limits.{most_columns}
 use Rattle.derivation_book.specs.Sums.{with_product}
 use Rattle.derivation_book.specs.Lemmas.OneDenominator.{add_over, times_over}
-use Rattle.derivation_book.specs.Lemmas.Steps.{next_item}
+use Rattle.derivation_book.specs.Lemmas.OptionChains.{next_item}
 use Rattle.dual_simplex.specs.Relaxation.{RationalPoint, rational_at}
 use Rattle.dual_simplex.specs.PointSums.{checked_sum}
 use Rattle.dual_simplex.specs.Sizes.{IsIntegerTo, largest_integer}

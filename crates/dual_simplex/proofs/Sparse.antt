@@ -15,7 +15,7 @@ use Rattle.problem.specs.Lemmas.Linear.{past_first}
 use Rattle.derivation_book.specs.Sums.{with_product}
 use Rattle.derivation_book.specs.Lemmas.Held.{held_product, zero_with}
 use Rattle.derivation_book.specs.Lemmas.Columns.{later_rise}
-use Rattle.derivation_book.specs.Lemmas.Steps.{next_item}
+use Rattle.derivation_book.specs.Lemmas.OptionChains.{next_item}
 use Rattle.tableau.specs.Elimination.{zero_ℚ}
 use Rattle.tableau.specs.LinearProgram.{coefficients_from}
 use Rattle.dual_simplex.specs.Relaxation.{RationalPoint, rational_at}

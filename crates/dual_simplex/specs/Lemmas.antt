@@ -5,7 +5,7 @@ pub mod Numbers
 pub mod Prices
 pub mod Below
 pub mod Optimum
-pub mod Holds
+pub mod TrueAnswers
 pub mod WholePoints
 pub mod Closing
 pub mod ReadOff

@@ -1,7 +1,7 @@
 -- Steps that met no fault.
 use Rattle.std.proofs.Common.{◌≡◌, Bool, true, false, Result, Ok, Err, refl, subst}
 use Rattle.event_codec.specs.declared.fault.CodecFault.{CodecFault}
-use Rattle.event_codec.specs.Steps.{◌>>=◌, test}
+use Rattle.event_codec.specs.ReadResults.{◌>>=◌, test}
 
 pub bind_ok : {A B : Type 0} (r : Result A CodecFault) (f : A → Result B CodecFault) (y : B) → (r >>= f) ≡ Ok y → (x : A) × (r ≡ Ok x) × (f x ≡ Ok y)
 bind_ok (Ok x) f y e = (x, refl, e)

@@ -2,7 +2,7 @@
 use Rattle.std.proofs.Common.{◌≡◌, ℕ, Bool, cond, eqb, List, [], ◌∷◌, ◌++◌, Ok, refl, ap, subst, ◌∙◌, append_assoc, ◌⊎◌, inl, inr}
 use Rattle.std.proofs.lemmas.Bool.Decides.{eqb_tells}
 use Rattle.event_codec.specs.Places.{Place}
-use Rattle.event_codec.specs.Steps.{Read, ◌>>=◌}
+use Rattle.event_codec.specs.ReadResults.{Read, ◌>>=◌}
 use Rattle.event_codec.proofs.Binds.{bind_ok, ok_then}
 use Rattle.event_codec.proofs.Numbers.{IsBytes}
 use Rattle.event_codec.proofs.Fields.{Takes, Takes-then, IsField, at_place}

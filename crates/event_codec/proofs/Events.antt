@@ -13,7 +13,7 @@ use Rattle.node_events.specs.declared.proof.Proof.{Proof}
 use Rattle.event_codec.specs.declared.fault.CodecFault.TheVariants.{BadTag, Long}
 use Rattle.event_codec.specs.declared.fault.CodecError.{CodecError}
 use Rattle.event_codec.specs.Places.{Place, beginning}
-use Rattle.event_codec.specs.Steps.{◌>>=◌, test, Gives}
+use Rattle.event_codec.specs.ReadResults.{◌>>=◌, test, Gives}
 use Rattle.event_codec.specs.Codes.{u32_code, i64_code, list_code, mult_code, reason_code, proof_code, code, IsShort, IsCodable}
 use Rattle.event_codec.specs.Types.{FitsU32, IsMult, IsPoint, IsEvent}
 use Rattle.event_codec.specs.Reading.{byte_at, u32_at, i64_at, point_at, mult_at, reason_at, proof_at, cut_at, offer_at, split_at, close_at, event_at, event_of}

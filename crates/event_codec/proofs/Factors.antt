@@ -8,7 +8,7 @@ use Rattle.fraction.specs.Rational.{ℚ, whole}
 use Rattle.problem.specs.Rising.{RiseFrom, AreRising, AreNonzero}
 use Rattle.event_codec.specs.declared.fault.CodecFault.TheVariants.{BadValue}
 use Rattle.event_codec.specs.Places.{Place}
-use Rattle.event_codec.specs.Steps.{◌>>=◌, test}
+use Rattle.event_codec.specs.ReadResults.{◌>>=◌, test}
 use Rattle.event_codec.specs.Reading.{is_factor, u32_at, fraction_at, factor_at, factors_at}
 use Rattle.event_codec.proofs.Binds.{bind_ok, test_ok, ok_then}
 use Rattle.event_codec.proofs.Fractions.{nonzero, factor_passes, passed_num}

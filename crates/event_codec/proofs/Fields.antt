@@ -9,7 +9,7 @@ use Rattle.std.proofs.lemmas.Int.{to_z-of_z, of_z-to_z}
 use Rattle.event_codec.specs.declared.fault.CodecFault.{CodecFault}
 use Rattle.event_codec.specs.declared.fault.CodecFault.TheVariants.{Short, BadValue}
 use Rattle.event_codec.specs.Places.{Place, further}
-use Rattle.event_codec.specs.Steps.{Read, ◌>>=◌, test}
+use Rattle.event_codec.specs.ReadResults.{Read, ◌>>=◌, test}
 use Rattle.event_codec.specs.Codes.{u32_code, i64_code, i128_code, flag_code}
 use Rattle.event_codec.specs.Types.{FitsU32}
 use Rattle.event_codec.specs.Reading.{bytes_at, byte_at, u32_at, i64_at, i128_at, flag_at}

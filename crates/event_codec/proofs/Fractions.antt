@@ -16,7 +16,7 @@ use Rattle.fraction.specs.Lemmas.Checked.{zero_test, zero_from_test}
 use Rattle.fraction.specs.Lemmas.Bounds.{is_small_from}
 use Rattle.event_codec.specs.declared.fault.CodecFault.TheVariants.{BadValue}
 use Rattle.event_codec.specs.Places.{Place}
-use Rattle.event_codec.specs.Steps.{◌>>=◌, test}
+use Rattle.event_codec.specs.ReadResults.{◌>>=◌, test}
 use Rattle.event_codec.specs.Codes.{i128_code, fraction_code}
 use Rattle.event_codec.specs.Reading.{is_lowest, is_factor, i128_at, denominator_at, fraction_at}
 use Rattle.event_codec.proofs.Binds.{bind_ok, test_ok, ok_is, ok_then}

@@ -9,7 +9,7 @@ use Rattle.fraction.specs.Checked.{is_small}
 use Rattle.fraction.specs.Fits.{FitsFraction}
 use Rattle.event_codec.specs.declared.fault.CodecFault.TheVariants.{BadValue}
 use Rattle.event_codec.specs.Places.{Place}
-use Rattle.event_codec.specs.Steps.{Read, ◌>>=◌, test}
+use Rattle.event_codec.specs.ReadResults.{Read, ◌>>=◌, test}
 use Rattle.event_codec.specs.Codes.{u32_code, i64_code, fraction_code, factor_code, list_code, mult_code, IsShort}
 use Rattle.event_codec.specs.Types.{IsFactor, AreFactors, IsMult, IsPoint}
 use Rattle.event_codec.specs.Reading.{is_factor, u32_at, i64_at, fraction_at, elements_at, point_at, rational_point_at, factor_at, factors_at, mult_at}

@@ -4,7 +4,7 @@ use Rattle.std.proofs.lemmas.List.{append-nil}
 use Rattle.fraction.specs.Rational.{ℚ}
 use Rattle.event_codec.specs.declared.fault.CodecFault.{CodecFault}
 use Rattle.event_codec.specs.Places.{Place}
-use Rattle.event_codec.specs.Steps.{Read, ◌>>=◌}
+use Rattle.event_codec.specs.ReadResults.{Read, ◌>>=◌}
 use Rattle.event_codec.specs.Reading.{elements_at, factor_at, factors_at}
 
 -- what was read before, and what is still read

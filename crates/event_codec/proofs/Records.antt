@@ -10,7 +10,7 @@ use Rattle.event_codec.specs.declared.fault.CodecFault.{CodecFault}
 use Rattle.event_codec.specs.declared.fault.CodecFault.TheVariants.{BadTag, BadValue}
 use Rattle.event_codec.specs.declared.model.ModelRecord.{ModelRecord}
 use Rattle.event_codec.specs.Places.{Place, beginning}
-use Rattle.event_codec.specs.Steps.{◌>>=◌, test}
+use Rattle.event_codec.specs.ReadResults.{◌>>=◌, test}
 use Rattle.event_codec.specs.Codes.{i64_code, flag_code}
 use Rattle.event_codec.specs.Models.{Model, IsUpper, is_upper, upper_code, model_code, known_at, upper_at, model_of, record_of, GivesModel}
 use Rattle.event_codec.specs.Reading.{byte_at, flag_at, i64_at}

@@ -1,7 +1,7 @@
 pub mod Codes
 pub mod Types
 pub mod Places
-pub mod Steps
+pub mod ReadResults
 pub mod Reading
 pub mod Models
 pub mod Laws

@@ -6,7 +6,7 @@ use Rattle.event_codec.specs.declared.fault.CodecFault.TheVariants.{BadTag, BadV
 use Rattle.event_codec.specs.declared.model.ModelRecord.{ModelRecord}
 use Rattle.event_codec.specs.Places.{Place, beginning}
 use Rattle.event_codec.specs.Codes.{i64_code}
-use Rattle.event_codec.specs.Steps.{Read, ◌>>=◌, test}
+use Rattle.event_codec.specs.ReadResults.{Read, ◌>>=◌, test}
 use Rattle.event_codec.specs.Reading.{byte_at, flag_at, i64_at}
 use Rattle.problem.specs.Limits.{largest_bound}
 

@@ -15,7 +15,7 @@ use Rattle.node_events.specs.declared.proof.Proof.TheVariants.{Empty, Refute, Bo
 use Rattle.event_codec.specs.declared.fault.CodecFault.{CodecFault}
 use Rattle.event_codec.specs.declared.fault.CodecFault.TheVariants.{Short, Long, BadTag, BadValue}
 use Rattle.event_codec.specs.Places.{Place, beginning, further}
-use Rattle.event_codec.specs.Steps.{Read, ◌>>=◌, test}
+use Rattle.event_codec.specs.ReadResults.{Read, ◌>>=◌, test}
 
 -- ---- numbers
 

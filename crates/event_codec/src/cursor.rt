@@ -2,7 +2,7 @@
 
 ghost use Rattle.std.specs.Prelude.{◌≡◌};
 ghost use Rattle.event_codec.specs.Places.{beginning};
-ghost use Rattle.event_codec.specs.Steps.{Reads};
+ghost use Rattle.event_codec.specs.ReadResults.{Reads};
 ghost use Rattle.event_codec.specs.Reading.{bytes_at, byte_at, u32_at, i64_at, i128_at, flag_at};
 
 use crate::fault::CodecFault;

@@ -4,7 +4,7 @@ ghost use Rattle.std.specs.Prelude.{◌≡◌, IfOk, Ok};
 ghost use Rattle.node_events.specs.declared.event.Event.{Event as SeenEvent};
 ghost use Rattle.event_codec.specs.Codes.{code, IsCodable};
 ghost use Rattle.event_codec.specs.Types.{IsEvent};
-ghost use Rattle.event_codec.specs.Steps.{Gives};
+ghost use Rattle.event_codec.specs.ReadResults.{Gives};
 ghost use Rattle.event_codec.specs.Reading.{event_of};
 
 use crate::cursor::Cursor;

@@ -2,7 +2,7 @@
 
 ghost use Rattle.std.specs.Prelude.{◌≡◌, ℤ, List, ℕ, Option, Ok, IfOk, IfSome};
 ghost use Rattle.std.specs.Option.{ForSome};
-ghost use Rattle.event_codec.specs.Steps.{Reads};
+ghost use Rattle.event_codec.specs.ReadResults.{Reads};
 ghost use Rattle.event_codec.specs.Models.{model_code, IsUpper, is_upper, known_at, upper_at, model_of, GivesModel};
 
 use crate::cursor::Cursor;

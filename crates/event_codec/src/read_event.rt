@@ -1,7 +1,7 @@
 //! Readers of events and of their parts.
 
 ghost use Rattle.std.specs.Prelude.{◌≡◌};
-ghost use Rattle.event_codec.specs.Steps.{ReadsUnlessMemory};
+ghost use Rattle.event_codec.specs.ReadResults.{ReadsUnlessMemory};
 ghost use Rattle.event_codec.specs.Reading.{fractional_at, cramped_at, stalled_at, reason_at, refute_at, bound_at, empty_at, proof_at, cut_at, offer_at, split_at, close_at, event_at};
 
 use crate::cursor::Cursor;

@@ -3,7 +3,7 @@
 ghost use Rattle.std.specs.Prelude.{◌≡◌, ◌<◌, ◌^◌, nat_abs, if◌then◌else◌};
 ghost use Rattle.fraction.specs.Rational.{frac};
 ghost use Rattle.fraction.specs.Checked.{is_small};
-ghost use Rattle.event_codec.specs.Steps.{Reads, ReadsUnlessMemory, ReadsList};
+ghost use Rattle.event_codec.specs.ReadResults.{Reads, ReadsUnlessMemory, ReadsList};
 ghost use Rattle.event_codec.specs.Reading.{is_lowest, is_factor, denominator_at, fraction_at, i64_at, elements_at, point_at, rational_point_at, factor_at, factors_at, mult_at};
 
 use crate::cursor::Cursor;

@@ -14,7 +14,7 @@ use Rattle.dual_simplex.specs.Relaxation.{RationalPoint, LiesInBox}
 use Rattle.dual_simplex.specs.Answers.{linear_program, run, answer}
 use Rattle.dual_simplex.specs.Meaning.{IsOptimal, AnswerHolds}
 use Rattle.dual_simplex.specs.Laws.{IsBoxOf}
-use Rattle.dual_simplex.specs.Lemmas.Holds.{answers_hold}
+use Rattle.dual_simplex.specs.Lemmas.TrueAnswers.{answers_hold}
 
 module _ (p : Problem) (cs : List Cut) (box : List Span) (n : ℕ) (e : n ≡ length cs) where
   all_cuts : take n cs ≡ cs

@@ -26,13 +26,13 @@ use Rattle.dual_simplex.specs.Relaxation.{RationalPoint}
 use Rattle.dual_simplex.specs.Answers.{linear_program, run, answer}
 use Rattle.dual_simplex.specs.Meaning.{IsOptimal, AnswerHolds}
 use Rattle.dual_simplex.specs.Laws.{IsBoxOf}
-use Rattle.dual_simplex.specs.Lemmas.Holds.{answers_hold}
+use Rattle.dual_simplex.specs.Lemmas.TrueAnswers.{answers_hold}
 use Rattle.gomory_cuts.specs.Separation.{separation}
 use Rattle.gomory_cuts.specs.Laws.{IsSeparating, SeparationsSeparate}
 use Rattle.expand.specs.declared.finding.Finding.{Finding}
 use Rattle.expand.specs.Verdicts.{multiplier, corner, verdict_proof}
 use Rattle.expand.specs.Expansion.{is_separated, separation_by, cuts_found, IsOfOptimum, IsOfAnswer, IsOfVerdict}
-use Rattle.expand.specs.Findings.{HasRow, IsWholePoint, Holds}
+use Rattle.expand.specs.Findings.{HasRow, IsWholePoint, IsTrueFinding}
 use Rattle.expand.proofs.Legal.{corner_is, by_verdict}
 use Rattle.expand.proofs.Nodes.{IsNodeBox}
 use Rattle.expand.proofs.Optima.{infeasible_shut}
@@ -85,7 +85,7 @@ module _ (p : Problem) (cs : List Cut) (box : List Span) (cutoff : Option ℚ) (
   with_all a e = ap (λ ds. answer p ds box) all_cuts ∙ e
 
   optimum_holds : (costs : List ColumnGains) (room : ℕ) (x : RationalPoint) (mult : Multipliers) (v : ℚ) (f : Finding) → IsOpen box → answer p cs box ≡ Optimal x mult v
-      → IsOfOptimum costs (length cs) x mult v (cuts_found p cs box cutoff room x v) f → Holds p cs box cutoff f
+      → IsOfOptimum costs (length cs) x mult v (cuts_found p cs box cutoff room x v) f → IsTrueFinding p cs box cutoff f
   optimum_holds costs room x mult v f o e h = step (cuts_found p cs box cutoff room x v) (found_rows p cs separations box cutoff room x v) h
     where
       b : IsBoxOf p box
@@ -94,23 +94,23 @@ module _ (p : Problem) (cs : List Cut) (box : List Span) (cutoff : Option ℚ) (
       optimum : IsOptimal p (take (length cs) cs) box x mult v
       optimum = subst (AnswerHolds p (take (length cs) cs) box) (with_all (Optimal x mult v) e) (answers_hold p (take (length cs) cs) box b)
 
-      step : (ms : List Multipliers) → AreRows p cs ms → IsOfOptimum costs (length cs) x mult v ms f → Holds p cs box cutoff f
-      step [] r k = subst (Holds p cs box cutoff) (sym k.found) (record {
+      step : (ms : List Multipliers) → AreRows p cs ms → IsOfOptimum costs (length cs) x mult v ms f → IsTrueFinding p cs box cutoff f
+      step [] r k = subst (IsTrueFinding p cs box cutoff) (sym k.found) (record {
         nonempty = o.nonempty;
         few_cuts = omega arith;
         optimal = optimum;
         fractional = chosen_is_fractional costs x k.column k.chosen;
       })
-      step (m ∷ ms) r k = subst (Holds p cs box cutoff) (sym k) (record { some = omega arith; few = r.few; rows = r.rows })
+      step (m ∷ ms) r k = subst (IsTrueFinding p cs box cutoff) (sym k) (record { some = omega arith; few = r.few; rows = r.rows })
 
-  answer_holds : (costs : List ColumnGains) (room : ℕ) (f : Finding) (a : Answer) → IsOpen box → answer p cs box ≡ a → IsOfAnswer p cs box cutoff costs room a f → Holds p cs box cutoff f
+  answer_holds : (costs : List ColumnGains) (room : ℕ) (f : Finding) (a : Answer) → IsOpen box → answer p cs box ≡ a → IsOfAnswer p cs box cutoff costs room a f → IsTrueFinding p cs box cutoff f
   answer_holds costs room f (Infeasible mult) o e h =
-      subst (Holds p cs box cutoff) (sym h) (infeasible_shut p cs box cutoff (length cs) mult (record { columns = n.columns; nonempty = o.nonempty }) (with_all (Infeasible mult) e))
+      subst (IsTrueFinding p cs box cutoff) (sym h) (infeasible_shut p cs box cutoff (length cs) mult (record { columns = n.columns; nonempty = o.nonempty }) (with_all (Infeasible mult) e))
   answer_holds costs room f (Optimal x mult v) o e h = optimum_holds costs room x mult v f o e h
   answer_holds costs room f (Cramped pivots) o e h =
-      subst (Holds p cs box cutoff) (sym h.found) (record { nonempty = o.nonempty; run = (omega arith, with_all (Cramped pivots) e); middle = h.middle })
+      subst (IsTrueFinding p cs box cutoff) (sym h.found) (record { nonempty = o.nonempty; run = (omega arith, with_all (Cramped pivots) e); middle = h.middle })
   answer_holds costs room f Stalled o e h =
-      subst (Holds p cs box cutoff) (sym h.found) (record { nonempty = o.nonempty; run = (omega arith, with_all Stalled e); middle = h.middle })
+      subst (IsTrueFinding p cs box cutoff) (sym h.found) (record { nonempty = o.nonempty; run = (omega arith, with_all Stalled e); middle = h.middle })
 
   whole_holds : IsOnePoint p box cutoff → IsWholePoint p box (corner box)
   whole_holds h = record {
@@ -120,9 +120,9 @@ module _ (p : Problem) (cs : List Cut) (box : List Span) (cutoff : Option ℚ) (
   }
 
   -- by the verdict
-  pub verdict_holds : (costs : List ColumnGains) (room : ℕ) (f : Finding) (v : Verdict) → verdict p box cutoff ≡ v → IsOfVerdict p cs box cutoff costs room v f → Holds p cs box cutoff f
-  verdict_holds costs room f (Empty j) e h = subst (Holds p cs box cutoff) (sym h) (by_verdict p cs box n.limits n.columns n.modest cutoff (Crossed j) (ap verdict_proof e))
-  verdict_holds costs room f (Refuted i s) e h = subst (Holds p cs box cutoff) (sym h) (by_verdict p cs box n.limits n.columns n.modest cutoff (Refute ((i, multiplier s) ∷ [])) (ap verdict_proof e))
-  verdict_holds costs room f Priced e h = subst (Holds p cs box cutoff) (sym h) (by_verdict p cs box n.limits n.columns n.modest cutoff (Bound [] false) (ap verdict_proof e))
-  verdict_holds costs room f OnePoint e h = subst (Holds p cs box cutoff) (sym h) (whole_holds (verdict_meaning p box cutoff OnePoint e))
+  pub verdict_holds : (costs : List ColumnGains) (room : ℕ) (f : Finding) (v : Verdict) → verdict p box cutoff ≡ v → IsOfVerdict p cs box cutoff costs room v f → IsTrueFinding p cs box cutoff f
+  verdict_holds costs room f (Empty j) e h = subst (IsTrueFinding p cs box cutoff) (sym h) (by_verdict p cs box n.limits n.columns n.modest cutoff (Crossed j) (ap verdict_proof e))
+  verdict_holds costs room f (Refuted i s) e h = subst (IsTrueFinding p cs box cutoff) (sym h) (by_verdict p cs box n.limits n.columns n.modest cutoff (Refute ((i, multiplier s) ∷ [])) (ap verdict_proof e))
+  verdict_holds costs room f Priced e h = subst (IsTrueFinding p cs box cutoff) (sym h) (by_verdict p cs box n.limits n.columns n.modest cutoff (Bound [] false) (ap verdict_proof e))
+  verdict_holds costs room f OnePoint e h = subst (IsTrueFinding p cs box cutoff) (sym h) (whole_holds (verdict_meaning p box cutoff OnePoint e))
   verdict_holds costs room f Unsettled e h = answer_holds costs room f (answer p cs box) (verdict_meaning p box cutoff Unsettled e) refl h

@@ -13,7 +13,7 @@ use Rattle.dual_simplex.specs.declared.answer.Answer.TheVariants.{Optimal}
 use Rattle.dual_simplex.specs.Relaxation.{RationalPoint}
 use Rattle.dual_simplex.specs.Answers.{linear_program, run, answer}
 use Rattle.dual_simplex.specs.Meaning.{AreReadOff}
-use Rattle.dual_simplex.specs.Lemmas.Holds.{variables_are}
+use Rattle.dual_simplex.specs.Lemmas.TrueAnswers.{variables_are}
 use Rattle.dual_simplex.specs.Lemmas.ReadOff.{optimal_is_read_off}
 
 module _ (p : Problem) (cs : List Cut) (box : List Span) (x : RationalPoint) (mult : Multipliers) (v : ℚ) where

@@ -27,7 +27,7 @@ use Rattle.expand.specs.declared.settlement.Branching.{Branching}
 use Rattle.expand.specs.declared.settlement.Settlement.TheVariants.{Closed, Improved}
 use Rattle.expand.specs.Verdicts.{IsPart}
 use Rattle.expand.specs.Expansion.{is_rounded}
-use Rattle.expand.specs.Findings.{HasRow, AreCutsFound, IsSolved, IsLoose, Holds}
+use Rattle.expand.specs.Findings.{HasRow, AreCutsFound, IsRelaxationOptimum, IsLoose, IsTrueFinding}
 use Rattle.expand.specs.Settlements.{IsSettlement, IsShut, IsBranching, AreNewCuts}
 use Rattle.expand.specs.Settling.{floors, bound_of, improved_or_closed, closed_or_branched, branching_at, settled_optimum, settled}
 use Rattle.expand.proofs.Legal.{corner_closes, low_closes}
@@ -75,7 +75,7 @@ module _ (s : State) (box : List Span) where
     few = omega (arith, l, few, length-take (limit - length s.cuts) mults);
   }
 
-  optimum_settles : (k : ℕ) (x : RationalPoint) (mult : Multipliers) (v : ℚ) (column : Option ℕ) → IsPart s.problem box → IsSolved s.problem s.cuts box k x mult v column
+  optimum_settles : (k : ℕ) (x : RationalPoint) (mult : Multipliers) (v : ℚ) (column : Option ℕ) → IsPart s.problem box → IsRelaxationOptimum s.problem s.cuts box k x mult v column
       → IsSettlement s box (settled_optimum s k x mult v column)
   optimum_settles k x mult v None part h =
       point_settles (floors x) (bound_of s mult v) (whole_feasible s.problem s.cuts box k x mult v h.optimal h.fractional part) (whole_closes s.problem s.cuts box k x mult v h.optimal h.fractional)
@@ -97,7 +97,7 @@ module _ (s : State) (box : List Span) where
         (λ e. record { both = has_both_here box j h.middle.free b h.middle.bound; holds = middle_reason s.problem s.cuts box (cutoff s) j b reason h.nonempty h.middle h.run })
 
     -- by the definition of how it is settled
-    pub settled_is_legal : (limit : ℕ) (f : Finding) → limit ≤ most_cuts → length s.cuts ≤ most_cuts → Holds s.problem s.cuts box (cutoff s) f → IsSettlement s box (settled s box limit f)
+    pub settled_is_legal : (limit : ℕ) (f : Finding) → limit ≤ most_cuts → length s.cuts ≤ most_cuts → IsTrueFinding s.problem s.cuts box (cutoff s) f → IsSettlement s box (settled s box limit f)
     settled_is_legal limit (Cuts mults) l few h = cuts_settle limit mults l few h
     settled_is_legal limit (Shut proof) l few h = h
     settled_is_legal limit (Whole x) l few h = point_settles x (Bound [] false) h.feasible (λ z k. corner_closes s.problem s.cuts box n.limits n.columns n.modest x z h.fixed h.point k)

@@ -44,7 +44,7 @@ IsFractionalIn x None = All IsWhole x
 IsFractionalIn x (Some j) = (j < length x) × (IsWhole (rational_at x j) → ⊥)
 
 -- the optimum of the relaxation with the first k cuts, and a column where it isn't whole
-pub record IsSolved (p : Problem) (cs : List Cut) (box : List Span) (k : ℕ) (x : RationalPoint) (mult : Multipliers) (v : ℚ) (column : Option ℕ) : Type 0 where
+pub record IsRelaxationOptimum (p : Problem) (cs : List Cut) (box : List Span) (k : ℕ) (x : RationalPoint) (mult : Multipliers) (v : ℚ) (column : Option ℕ) : Type 0 where
   pub nonempty : All (λ (s : Span). s.lo ≤ℤ s.hi) box
   pub few_cuts : k ≤ length cs
   pub optimal : IsOptimal p (take k cs) box x mult v
@@ -63,9 +63,9 @@ pub record IsLoose (p : Problem) (cs : List Cut) (box : List Span) (reason : Rea
   pub middle : IsMiddle box j b
 
 -- the finding is true of the problem, its cuts, the box and the cutoff
-abbrev pub Holds : Problem → List Cut → List Span → Option ℚ → Finding → Type 0
-Holds p cs box cutoff (Cuts mults) = AreCutsFound p cs mults
-Holds p cs box cutoff (Shut proof) = is_legal_proof p cs box cutoff proof ≡ true
-Holds p cs box cutoff (Whole x) = IsWholePoint p box x
-Holds p cs box cutoff (Solved k x mult v column) = IsSolved p cs box k x mult v column
-Holds p cs box cutoff (Loose reason j b) = IsLoose p cs box reason j b
+abbrev pub IsTrueFinding : Problem → List Cut → List Span → Option ℚ → Finding → Type 0
+IsTrueFinding p cs box cutoff (Cuts mults) = AreCutsFound p cs mults
+IsTrueFinding p cs box cutoff (Shut proof) = is_legal_proof p cs box cutoff proof ≡ true
+IsTrueFinding p cs box cutoff (Whole x) = IsWholePoint p box x
+IsTrueFinding p cs box cutoff (Solved k x mult v column) = IsRelaxationOptimum p cs box k x mult v column
+IsTrueFinding p cs box cutoff (Loose reason j b) = IsLoose p cs box reason j b

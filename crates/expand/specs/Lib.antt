@@ -1,5 +1,5 @@
 pub mod Verdicts
-pub mod Glances
+pub mod Subproblems
 pub mod Findings
 pub mod Notes
 pub mod Columns

@@ -5,11 +5,11 @@ ghost use Rattle.dual_simplex.specs.declared.answer.Answer.TheVariants.{Optimal}
 ghost use Rattle.dual_simplex.specs.Answers.{linear_program, run, answer};
 ghost use Rattle.expand.specs.Columns.{fractional_columns};
 ghost use Rattle.expand.specs.Expansion.{cuts_found};
-ghost use Rattle.expand.specs.Glances.{IsGlance};
+ghost use Rattle.expand.specs.Subproblems.{IsSubproblem};
 
-use crate::glance::Glance;
 use crate::mults::Mults;
 use crate::optimum::is_reached;
+use crate::subproblem::Subproblem;
 use dual_simplex::FinalTableau;
 use fraction::Frac;
 use gomory_cuts::separate;
@@ -20,26 +20,26 @@ use std::alloc::{AllocError, Global};
 /// want of memory.
 pub(crate) fn cuts_found(
     alloc: Global,
-    glance: &Glance,
+    subproblem: &Subproblem,
     tableau: &Option<FinalTableau>,
     point: &RationalPoint,
     value: Frac,
     columns: &[usize],
     room: usize,
 ) -> Result<Mults, AllocError>
-    requires glance { IsGlance glance.now.problem.now glance.now.book.now.cuts glance.now.relaxation.now glance.now.area.now }
-    requires tableau { IfSome (run (linear_program glance.now.problem.now glance.now.book.now.cuts glance.now.area.now)).tableau (λ t. tableau.now ≡ Some t) }
-    requires optimal { (mult : Multipliers) × (answer glance.now.problem.now glance.now.book.now.cuts glance.now.area.now ≡ Optimal point.now mult value) }
-    requires point { length point.now ≡ length glance.now.problem.now.spans }
+    requires subproblem { IsSubproblem subproblem.now.problem.now subproblem.now.book.now.cuts subproblem.now.relaxation.now subproblem.now.area.now }
+    requires tableau { IfSome (run (linear_program subproblem.now.problem.now subproblem.now.book.now.cuts subproblem.now.area.now)).tableau (λ t. tableau.now ≡ Some t) }
+    requires optimal { (mult : Multipliers) × (answer subproblem.now.problem.now subproblem.now.book.now.cuts subproblem.now.area.now ≡ Optimal point.now mult value) }
+    requires point { length point.now ≡ length subproblem.now.problem.now.spans }
     requires columns { columns.now ≡ fractional_columns point.now }
-    ensures { IfOk result (λ m. m ≡ cuts_found glance.now.problem.now glance.now.book.now.cuts glance.now.area.now glance.now.cutoff room point.now value) }
+    ensures { IfOk result (λ m. m ≡ cuts_found subproblem.now.problem.now subproblem.now.book.now.cuts subproblem.now.area.now subproblem.now.cutoff room point.now value) }
 {
-    if room == 0 || columns.is_empty() || is_reached(glance.problem, glance.cutoff, value) {
+    if room == 0 || columns.is_empty() || is_reached(subproblem.problem, subproblem.cutoff, value) {
         return Ok(Mults::make(Vec::new(alloc)));
     }
     let Some(tableau) = tableau else {
         return Ok(Mults::make(Vec::new(alloc)));
     };
-    let mults = separate(alloc, tableau, glance.problem, glance.book, point)?;
+    let mults = separate(alloc, tableau, subproblem.problem, subproblem.book, point)?;
     Ok(Mults::make(mults).first(room))
 }

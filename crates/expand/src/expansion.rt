@@ -1,15 +1,15 @@
 // What is found of a node.
 ghost use Rattle.std.specs.Prelude.{◌≡◌, ◌<◌, IfOk, OnOk, OnErr, IfSome, length};
 ghost use Rattle.expand.specs.Expansion.{IsExpansion, costs_after};
-ghost use Rattle.expand.specs.Findings.{Holds};
-ghost use Rattle.expand.specs.Glances.{IsGlance};
+ghost use Rattle.expand.specs.Findings.{IsTrueFinding};
+ghost use Rattle.expand.specs.Subproblems.{IsSubproblem};
 
 use crate::closing::{empty_span, objective_bound, refutation};
 use crate::corners::corner;
 use crate::finding::Finding;
-use crate::glance::Glance;
 use crate::origin::Origin;
 use crate::relaxing::relax;
+use crate::subproblem::Subproblem;
 use gomory_cuts::laws::separations_separate;
 use pseudo_cost::Costs;
 use row_activity::{Verdict, box_verdict};
@@ -22,24 +22,24 @@ use std::alloc::{AllocError, Global};
 /// split that made the node. The one error is want of memory; nothing is noted then.
 pub fn expand(
     alloc: Global,
-    glance: &Glance,
+    subproblem: &Subproblem,
     costs: &mut Costs,
     origin: Option<Origin>,
     room: usize,
 ) -> Result<Finding, AllocError>
-    requires glance { IsGlance glance.now.problem.now glance.now.book.now.cuts glance.now.relaxation.now glance.now.area.now }
-    requires costs { length costs.old ≡ length glance.now.problem.now.spans }
+    requires subproblem { IsSubproblem subproblem.now.problem.now subproblem.now.book.now.cuts subproblem.now.relaxation.now subproblem.now.area.now }
+    requires costs { length costs.old ≡ length subproblem.now.problem.now.spans }
     requires origin { IfSome origin (λ o. o.column < length costs.old) }
 
-    ensures found { IfOk result (λ f. IsExpansion glance.now.problem.now glance.now.book.now.cuts glance.now.area.now glance.now.cutoff costs.new room f) }
-    ensures holds { IfOk result (λ f. Holds glance.now.problem.now glance.now.book.now.cuts glance.now.area.now glance.now.cutoff f) }
-    ensures noted { OnOk result (costs.new ≡ costs_after glance.now.problem.now glance.now.book.now.cuts glance.now.area.now glance.now.cutoff origin costs.old) }
+    ensures found { IfOk result (λ f. IsExpansion subproblem.now.problem.now subproblem.now.book.now.cuts subproblem.now.area.now subproblem.now.cutoff costs.new room f) }
+    ensures holds { IfOk result (λ f. IsTrueFinding subproblem.now.problem.now subproblem.now.book.now.cuts subproblem.now.area.now subproblem.now.cutoff f) }
+    ensures noted { OnOk result (costs.new ≡ costs_after subproblem.now.problem.now subproblem.now.book.now.cuts subproblem.now.area.now subproblem.now.cutoff origin costs.old) }
     ensures failed { OnErr result (costs.new ≡ costs.old) }
     ensures columns { length costs.new ≡ length costs.old }
 {
-    glance.problem.limits_hold();
+    subproblem.problem.limits_hold();
     separations_separate();
-    match box_verdict(glance.problem, glance.area, glance.cutoff) {
+    match box_verdict(subproblem.problem, subproblem.area, subproblem.cutoff) {
         Verdict::Empty { column } => Ok(Finding::Shut {
             proof: empty_span(column),
         }),
@@ -50,8 +50,8 @@ pub fn expand(
             proof: objective_bound(alloc),
         }),
         Verdict::Point => Ok(Finding::Whole {
-            point: corner(alloc, glance.area)?,
+            point: corner(alloc, subproblem.area)?,
         }),
-        Verdict::Unsettled => relax(alloc, glance, costs, &origin, room),
+        Verdict::Unsettled => relax(alloc, subproblem, costs, &origin, room),
     }
 }

@@ -7,7 +7,7 @@ ghost use Rattle.dual_simplex.specs.Answers.{linear_program, run, answer};
 ghost use Rattle.row_activity.specs.Meaning.{IsOpen};
 ghost use Rattle.expand.specs.Columns.{fractional_columns};
 ghost use Rattle.expand.specs.Expansion.{cuts_found, IsOfAnswer, IsOfOptimum, IsUnanswered};
-ghost use Rattle.expand.specs.Glances.{IsGlance};
+ghost use Rattle.expand.specs.Subproblems.{IsSubproblem};
 ghost use Rattle.expand.specs.Notes.{with_note, noted_gain};
 ghost use Rattle.pseudo_cost.specs.Gains.{largest_gain};
 
@@ -15,10 +15,10 @@ use crate::branching::first_free;
 use crate::columns::{fractional_columns, split_column};
 use crate::cuts::cuts_found;
 use crate::finding::Finding;
-use crate::glance::Glance;
 use crate::mults::Mults;
 use crate::notes::{gain_of, note};
 use crate::origin::Origin;
+use crate::subproblem::Subproblem;
 use dual_simplex::{Answer, FinalTableau, Solution};
 use event_core::middle;
 use fraction::Frac;
@@ -75,7 +75,7 @@ fn cuts_or_optimum(
 /// What an optimum says of the node. The one error is want of memory; nothing is noted then.
 fn at_optimum(
     alloc: Global,
-    glance: &Glance,
+    subproblem: &Subproblem,
     costs: &mut Costs,
     origin: &Option<Origin>,
     gain: Option<u32>,
@@ -85,49 +85,52 @@ fn at_optimum(
     mult: Mult,
     value: Frac,
 ) -> Result<Finding, AllocError>
-    requires glance { IsGlance glance.now.problem.now glance.now.book.now.cuts glance.now.relaxation.now glance.now.area.now }
-    requires costs { length costs.old ≡ length glance.now.problem.now.spans }
+    requires subproblem { IsSubproblem subproblem.now.problem.now subproblem.now.book.now.cuts subproblem.now.relaxation.now subproblem.now.area.now }
+    requires costs { length costs.old ≡ length subproblem.now.problem.now.spans }
     requires origin { IfSome origin.now (λ o. o.column < length costs.old) }
     requires gain { IfSome gain (λ g. g ≤ largest_gain) }
-    requires tableau { IfSome (run (linear_program glance.now.problem.now glance.now.book.now.cuts glance.now.area.now)).tableau (λ t. tableau.now ≡ Some t) }
-    requires optimal { answer glance.now.problem.now glance.now.book.now.cuts glance.now.area.now ≡ Optimal point mult value }
-    requires point { length point ≡ length glance.now.problem.now.spans }
-    ensures found { IfOk result (λ f. IsOfOptimum costs.new (length glance.now.book.now.cuts) point mult value (cuts_found glance.now.problem.now glance.now.book.now.cuts glance.now.area.now glance.now.cutoff room point value) f) }
+    requires tableau { IfSome (run (linear_program subproblem.now.problem.now subproblem.now.book.now.cuts subproblem.now.area.now)).tableau (λ t. tableau.now ≡ Some t) }
+    requires optimal { answer subproblem.now.problem.now subproblem.now.book.now.cuts subproblem.now.area.now ≡ Optimal point mult value }
+    requires point { length point ≡ length subproblem.now.problem.now.spans }
+    ensures found { IfOk result (λ f. IsOfOptimum costs.new (length subproblem.now.book.now.cuts) point mult value (cuts_found subproblem.now.problem.now subproblem.now.book.now.cuts subproblem.now.area.now subproblem.now.cutoff room point value) f) }
     ensures noted { OnOk result (costs.new ≡ noted_gain origin.now gain costs.old) }
     ensures failed { OnErr result (costs.new ≡ costs.old) }
     ensures columns { length costs.new ≡ length costs.old }
 {
-    glance.problem.limits_hold();
+    subproblem.problem.limits_hold();
     let columns = fractional_columns(alloc, &point)?;
-    let mults = cuts_found(alloc, glance, tableau, &point, value, &columns, room)?;
+    let mults = cuts_found(alloc, subproblem, tableau, &point, value, &columns, room)?;
     note(costs, origin, gain);
-    let cuts = glance.book.len();
+    let cuts = subproblem.book.len();
     Ok(cuts_or_optimum(cuts, costs, point, mult, value, &columns, mults))
 }
 
 /// What the linear program of a node says, where the node's box is open. The one error is want of memory; nothing is noted then.
 pub(crate) fn relax(
     alloc: Global,
-    glance: &Glance,
+    subproblem: &Subproblem,
     costs: &mut Costs,
     origin: &Option<Origin>,
     room: usize,
 ) -> Result<Finding, AllocError>
-    requires glance { IsGlance glance.now.problem.now glance.now.book.now.cuts glance.now.relaxation.now glance.now.area.now }
-    requires free { IsOpen glance.now.area.now }
-    requires costs { length costs.old ≡ length glance.now.problem.now.spans }
+    requires subproblem { IsSubproblem subproblem.now.problem.now subproblem.now.book.now.cuts subproblem.now.relaxation.now subproblem.now.area.now }
+    requires free { IsOpen subproblem.now.area.now }
+    requires costs { length costs.old ≡ length subproblem.now.problem.now.spans }
     requires origin { IfSome origin.now (λ o. o.column < length costs.old) }
-    ensures found { IfOk result (λ f. IsOfAnswer glance.now.problem.now glance.now.book.now.cuts glance.now.area.now glance.now.cutoff costs.new room (answer glance.now.problem.now glance.now.book.now.cuts glance.now.area.now) f) }
-    ensures noted { OnOk result (costs.new ≡ with_note origin.now (answer glance.now.problem.now glance.now.book.now.cuts glance.now.area.now) costs.old) }
+    ensures found { IfOk result (λ f. IsOfAnswer subproblem.now.problem.now subproblem.now.book.now.cuts subproblem.now.area.now subproblem.now.cutoff costs.new room (answer subproblem.now.problem.now subproblem.now.book.now.cuts subproblem.now.area.now) f) }
+    ensures noted { OnOk result (costs.new ≡ with_note origin.now (answer subproblem.now.problem.now subproblem.now.book.now.cuts subproblem.now.area.now) costs.old) }
     ensures failed { OnErr result (costs.new ≡ costs.old) }
     ensures columns { length costs.new ≡ length costs.old }
 {
-    glance.problem.limits_hold();
-    let Solution { answer, tableau } = glance
-        .relaxation
-        .solve(alloc, glance.problem, glance.book, glance.area)?;
+    subproblem.problem.limits_hold();
+    let Solution { answer, tableau } = subproblem.relaxation.solve(
+        alloc,
+        subproblem.problem,
+        subproblem.book,
+        subproblem.area,
+    )?;
     let gain = gain_of(origin, &answer);
-    let cuts = glance.book.len() as u32;
+    let cuts = subproblem.book.len() as u32;
     match answer {
         Answer::Infeasible { mult } => {
             note(costs, origin, gain);
@@ -136,9 +139,12 @@ pub(crate) fn relax(
             })
         }
         Answer::Optimal { point, mult, value } => at_optimum(
-            alloc, glance, costs, origin, gain, room, &tableau, point, mult, value,
+            alloc, subproblem, costs, origin, gain, room, &tableau, point, mult, value,
         ),
-        Answer::Cramped { pivots } => Ok(unanswered(glance.area, Reason::Cramped { cuts, pivots })),
-        Answer::Stalled => Ok(unanswered(glance.area, Reason::Stalled { cuts })),
+        Answer::Cramped { pivots } => Ok(unanswered(
+            subproblem.area,
+            Reason::Cramped { cuts, pivots },
+        )),
+        Answer::Stalled => Ok(unanswered(subproblem.area, Reason::Stalled { cuts })),
     }
 }

@@ -7,7 +7,7 @@ ghost use Rattle.row_activity.specs.Activity.{low_of, IsLimitedBox};
 ghost use Rattle.derivation_book.specs.Legal.{reaches};
 ghost use Rattle.dual_simplex.specs.Relaxation.{LiesInBox};
 ghost use Rattle.event_core.specs.States.{box_of, cutoff, is_open};
-ghost use Rattle.expand.specs.Findings.{Holds, IsSolved};
+ghost use Rattle.expand.specs.Findings.{IsTrueFinding, IsRelaxationOptimum};
 ghost use Rattle.expand.specs.Settlements.{IsSettlement};
 ghost use Rattle.expand.specs.Verdicts.{IsPart};
 ghost use Rattle.expand.specs.Settling.{improved_or_closed, branching_at, closed_or_branched, settled_optimum, settled};
@@ -75,7 +75,7 @@ fn settled_optimum(
 ) -> Result<Settlement, AllocError>
     requires modest { All IsModestSpan area.now }
     requires part { IsPart state.now.state.problem area.now }
-    requires solved { IsSolved state.now.state.problem state.now.state.cuts area.now cuts point mult value column }
+    requires solved { IsRelaxationOptimum state.now.state.problem state.now.state.cuts area.now cuts point mult value column }
     ensures { IfOk result (λ g. g ≡ settled_optimum state.now.state cuts point mult value column) }
 {
     let problem = state.problem();
@@ -149,7 +149,7 @@ pub fn settle(
     requires limit { limit ≤ most_cuts }
     requires opened { is_open state.now.state node ≡ true }
     requires area { area.now ≡ box_of state.now.state node }
-    requires holds { Holds state.now.state.problem state.now.state.cuts area.now (cutoff state.now.state) finding }
+    requires holds { IsTrueFinding state.now.state.problem state.now.state.cuts area.now (cutoff state.now.state) finding }
     ensures settled { IfOk result (λ g. g ≡ settled state.now.state area.now limit finding) }
     ensures legal { IfOk result (λ g. IsSettlement state.now.state area.now g) }
 {

@@ -2,7 +2,7 @@
 ghost use Rattle.std.specs.Prelude.{◌≡◌, true, IfOk, OnOk};
 ghost use Rattle.worker_gate.specs.Conditions.{HoldsNone, HoldsNode, IsFound};
 ghost use Rattle.worker_gate.specs.Entries.{is_opened, state_in};
-ghost use Rattle.crew.specs.Steps.{Takes, step_of};
+ghost use Rattle.crew.specs.WorkerSteps.{Takes, step_of};
 ghost use Rattle.crew.specs.declared.node_work.Step.{Step};
 
 use crate::findings::show_optimum;

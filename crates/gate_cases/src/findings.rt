@@ -1,6 +1,6 @@
 // The text of a finding.
 ghost use Rattle.std.specs.Prelude.{◌≡◌, OnOk};
-ghost use Rattle.crew.specs.Steps.{step_of};
+ghost use Rattle.crew.specs.WorkerSteps.{step_of};
 ghost use Rattle.crew.specs.declared.node_work.Step.{Step};
 
 use anyhow::{Result, bail};

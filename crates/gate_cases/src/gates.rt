@@ -3,7 +3,7 @@ ghost use Rattle.std.specs.Prelude.{◌≡◌, [], true, IfOk};
 ghost use Rattle.turn_lock.specs.Names.{names_below};
 ghost use Rattle.turn_lock.specs.Passes.{IsPassOf, names_of, seen_by};
 ghost use Rattle.worker_gate.specs.Entries.{is_opened, opening_in, state_in};
-ghost use Rattle.crew.specs.Gates.{first_list, IsReady};
+ghost use Rattle.crew.specs.Gates.{first_list, IsReadyGate};
 
 use crate::asks::{claimed, finds_none, settled};
 use anyhow::{Result, anyhow};
@@ -28,8 +28,8 @@ fn show_calls<R: Print + Alloc<A = Global> + Wait, G: PoolGate>(
     second: &mut G,
     problem: &Problem,
 ) -> Result<()>
-    requires first { IsReady problem.now 0 (G.worker first.old) (G.seen first.old) }
-    requires second { IsReady problem.now 1 (G.worker second.old) (G.seen second.old) }
+    requires first { IsReadyGate problem.now 0 (G.worker first.old) (G.seen first.old) }
+    requires second { IsReadyGate problem.now 1 (G.worker second.old) (G.seen second.old) }
     ensures first { (G.worker first.new ≡ G.worker first.old) × (G.home first.new ≡ G.home first.old) }
     ensures second { (G.worker second.new ≡ G.worker second.old) × (G.home second.new ≡ G.home second.old) }
 {

@@ -17,7 +17,7 @@ use Rattle.derivation_book.specs.Sums.{combined_columns}
 use Rattle.derivation_book.specs.Lemmas.Columns.{later_rise}
 use Rattle.derivation_book.specs.Lemmas.Combining.{columns_length}
 use Rattle.derivation_book.specs.Lemmas.Numbering.{known_length}
-use Rattle.derivation_book.specs.Lemmas.Steps.{was_mapped}
+use Rattle.derivation_book.specs.Lemmas.OptionChains.{was_mapped}
 use Rattle.tableau.specs.Elimination.{entry}
 use Rattle.tableau.specs.Multipliers.{with_multiplier}
 use Rattle.tableau.specs.Tableau.{Tableau, row_of, status_of}

@@ -12,7 +12,7 @@ use Rattle.integer_tableau.specs.Numbers.{IsWithin, number_at}
 use Rattle.integer_tableau.specs.Range.{size_limit}
 use Rattle.integer_tableau.specs.Positions.{IsColumnOf, coefficients}
 use Rattle.integer_tableau.proofs.Exchanges.{positions_exchanged}
-use Rattle.integer_tableau.specs.Substitution.{IsSolved, IsSubstituted}
+use Rattle.integer_tableau.specs.Substitution.{IsSolvedFor, IsSubstituted}
 use Rattle.integer_tableau.specs.declared.position.Position.{Position}
 use Rattle.integer_tableau.specs.declared.position.Position.TheVariants.{InBasis, InColumn}
 use Rattle.tableau.specs.Elimination.{all_substituted, others_substituted, solved_for, substituted}
@@ -78,7 +78,7 @@ module _ (positions : List Position) (r c k d : ℕ) (alone : IsColumnOf positio
     (long : (v : ℕ) → v < length positions → get_or positions v InBasis ≡ InBasis → k < length (get_or rows v []))
     (small : (v : ℕ) → IsWithin (size_limit - 1) (get_or rows v [])) (small' : IsWithin (size_limit - 1) (get_or news r []))
     (pivot : 0 < nat_abs (number_at (get_or rows r []) k))
-    (turn : IsSolved (number_at (get_or rows r []) k) k d (get_or rows r []) (get_or news r []))
+    (turn : IsSolvedFor (number_at (get_or rows r []) k) k d (get_or rows r []) (get_or news r []))
     (steps : (v : ℕ) → v < length positions → v ≢ r → get_or positions v InBasis ≡ InBasis
     → IsSubstituted (pos d) (pos (nat_abs (number_at (get_or rows r []) k))) (number_at (get_or rows v []) k) (set (get_or rows v []) k (pos 0)) (get_or news r []) (get_or news v [])) where
   -- the new denominator

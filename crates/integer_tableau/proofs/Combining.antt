@@ -11,7 +11,7 @@ use Rattle.fraction.specs.Lemmas.Integers.{diff-add, diff-mul, diff-neg, diff-po
 use Rattle.integer_tableau.specs.Combined.{combined, combined_row, numbers_from, numerator_of}
 use Rattle.integer_tableau.specs.Numbers.{IsWithin, number_at, total_size}
 use Rattle.integer_tableau.specs.Range.{size_limit}
-use Rattle.integer_tableau.specs.Substitution.{IsSolved, IsSubstituted, quotient_numerator}
+use Rattle.integer_tableau.specs.Substitution.{IsSolvedFor, IsSubstituted, quotient_numerator}
 use Rattle.integer_tableau.specs.declared.position.Position.{Position}
 use Rattle.integer_tableau.specs.declared.position.Position.TheVariants.{InBasis, InColumn}
 
@@ -120,7 +120,7 @@ up : (p d : ℕ) → pos p *ℤ pos d ≡ pos 0 *ℤ pos p +ℤ pos d *ℤ pos p
 up p d = ap pos (omega arith)
 
 -- the variable that goes out of it, in whose row p is the pivot
-pub leaving_step : (d c : ℕ) (solved row row' : List ℤ) → c < length row → IsSolved (number_at row c) c d row solved
+pub leaving_step : (d c : ℕ) (solved row row' : List ℤ) → c < length row → IsSolvedFor (number_at row c) c d row solved
     → IsStepOf d (nat_abs (number_at row c)) c solved (numerator_of d row InBasis) (numerator_of (nat_abs (number_at row c)) row' (InColumn c))
 leaving_step d c solved row row' l turn k = elim (cases_eq k c) [
   | inl p ↦ ap (λ b. (if b then pos (nat_abs (number_at row c)) else pos 0) *ℤ pos d) (ap (λ k. nat_eq k c) p ∙ same_test c) ∙ here (number_at row c) d

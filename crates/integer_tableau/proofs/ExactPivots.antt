@@ -16,7 +16,7 @@ use Rattle.integer_tableau.specs.Range.{size_limit}
 use Rattle.integer_tableau.specs.Pivot.{is_upper}
 use Rattle.integer_tableau.specs.Positions.{IsColumnOf, coefficients, sum_over}
 use Rattle.integer_tableau.proofs.Exchanges.{nonbasic_values_exchanged, positions_exchanged}
-use Rattle.integer_tableau.specs.Substitution.{IsSolved, IsSubstituted}
+use Rattle.integer_tableau.specs.Substitution.{IsSolvedFor, IsSubstituted}
 use Rattle.integer_tableau.specs.declared.position.Position.{Position}
 use Rattle.integer_tableau.specs.declared.position.Position.TheVariants.{InBasis, InColumn}
 use Rattle.tableau.specs.Elimination.{substituted}
@@ -101,7 +101,7 @@ pub record IsExactPivot (w : IntegerTableau) (r c k : ℕ) (direction : Directio
   pub new_small : (v : ℕ) → IsWithin (size_limit - 1) (get_or (swap news r c) v [])
   pub source_small : IsWithin (size_limit - 1) (get_or news r [])
   pub pivot : 0 < nat_abs (number_at (get_or w.rows r []) k)
-  pub turn : IsSolved (number_at (get_or w.rows r []) k) k w.denominator (get_or w.rows r []) (get_or news r [])
+  pub turn : IsSolvedFor (number_at (get_or w.rows r []) k) k w.denominator (get_or w.rows r []) (get_or news r [])
   pub steps : (v : ℕ) → v < length w.positions → v ≢ r → get_or w.positions v InBasis ≡ InBasis
       → IsSubstituted (pos w.denominator) (pos (nat_abs (number_at (get_or w.rows r []) k))) (number_at (get_or w.rows v []) k) (set (get_or w.rows v []) k (pos 0)) (get_or news r []) (get_or news v [])
   pub cost_long : k < length w.reduced_costs

@@ -17,7 +17,7 @@ use Rattle.integer_tableau.specs.Range.{size_limit}
 use Rattle.integer_tableau.specs.Pivot.{is_upper}
 use Rattle.integer_tableau.specs.Positions.{IsColumnOf, sum_over}
 use Rattle.integer_tableau.proofs.Exchanges.{nonbasic_values_exchanged, positions_exchanged}
-use Rattle.integer_tableau.specs.Substitution.{IsSolved, IsSolvedRow, IsSubstitutedIfFull, IsSubstitutedRow, quotient_numerator}
+use Rattle.integer_tableau.specs.Substitution.{IsSolvedFor, IsSolvedRow, IsSubstitutedIfFull, IsSubstitutedRow, quotient_numerator}
 use Rattle.integer_tableau.specs.declared.position.Position.{Position}
 use Rattle.integer_tableau.specs.declared.position.Position.TheVariants.{InBasis, InColumn}
 use Rattle.tableau.specs.Leaving.{unbounded, violated_bound, violation}
@@ -267,7 +267,7 @@ module _ (w : IntegerTableau) (consistent : IsConsistent w) (r c k : ℕ) (b : �
       new_small = λ v. subst (λ ys. IsWithin (size_limit - 1) (get_or ys v [])) (sym back) (after_small v);
       source_small = subst (IsWithin (size_limit - 1)) (sym news_r) ex.solved.after;
       pivot = pivot;
-      turn = subst (IsSolved p k w.denominator (get_or w.rows r [])) (sym news_r) ex.solved.numbers;
+      turn = subst (IsSolvedFor p k w.denominator (get_or w.rows r [])) (sym news_r) ex.solved.numbers;
       steps = λ v l m q. let h = (step_v v l m q).numbers in rw (news_r, news_v v m (not_c v q)) h;
       cost_long = width;
       cost_small = ex.costs.before;

@@ -10,7 +10,7 @@ use Rattle.fraction.specs.Lemmas.Bounds.{whole_parts}
 use Rattle.problem_box.specs.declared.span.Span.{Span}
 use Rattle.tableau.specs.LinearProgram.{over, span_bounds}
 use Rattle.tableau.specs.WellFormed.{HasWholeBounds, IsIntegral}
-use Rattle.integer_tableau.specs.IntegerProgram.{column_bounds, fraction_program, IsReady}
+use Rattle.integer_tableau.specs.IntegerProgram.{column_bounds, fraction_program, CanStart}
 use Rattle.integer_tableau.specs.IntegerTableau.{fraction_bounds}
 use Rattle.integer_tableau.specs.declared.integer_bounds.IntegerBounds.{IntegerBounds}
 
@@ -56,8 +56,8 @@ program_over rows costs bounds numbers area = λ i. record {
         (λ i. sym (columns_are area) i ++ (ap (λ n. drop n (map fraction_bounds bounds)) (length-map costs whole) ∙ drop-map fraction_bounds (length costs) bounds) i)
         ∙ sym (map-append fraction_bounds (map column_bounds area) (drop (length costs) bounds))
 
-pub ready_over : (rows : List (List ℤ)) (weight : ℕ) (costs : List ℤ) (bounds : List IntegerBounds) (area : List Span) → IsReady rows weight costs bounds → length area ≡ length costs
-    → IsReady rows weight costs (map column_bounds area ++ drop (length costs) bounds)
+pub ready_over : (rows : List (List ℤ)) (weight : ℕ) (costs : List ℤ) (bounds : List IntegerBounds) (area : List Span) → CanStart rows weight costs bounds → length area ≡ length costs
+    → CanStart rows weight costs (map column_bounds area ++ drop (length costs) bounds)
 ready_over rows weight costs bounds area ready e = record {
   rows_full = ready.rows_full;
   bounds_there = omega (arith, ready.bounds_there, length-append (map column_bounds area) (drop (length costs) bounds), length-map area column_bounds, length-drop (length costs) bounds);

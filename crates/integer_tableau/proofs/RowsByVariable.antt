@@ -13,7 +13,7 @@ use Rattle.integer_tableau.specs.Numbers.{IsWithin, number_at}
 use Rattle.integer_tableau.specs.Range.{size_limit}
 use Rattle.integer_tableau.specs.Positions.{IsColumnOf, coefficient, coefficients}
 use Rattle.integer_tableau.proofs.Exchanges.{positions_exchanged}
-use Rattle.integer_tableau.specs.Substitution.{IsSolved, IsSubstituted, quotient_numerator}
+use Rattle.integer_tableau.specs.Substitution.{IsSolvedFor, IsSubstituted, quotient_numerator}
 use Rattle.integer_tableau.specs.declared.position.Position.{Position}
 use Rattle.integer_tableau.specs.declared.position.Position.TheVariants.{InBasis, InColumn}
 use Rattle.tableau.specs.Elimination.{add_multiple, add_multiple_of_row, negative_quotient, negative_quotients, solved_for, substituted}
@@ -117,7 +117,7 @@ module _ (positions : List Position) (r c k d e : ℕ) (alone : IsColumnOf posit
           (step j ∙ ap (λ z. number_at (set row k (pos 0)) j *ℤ pos e +ℤ z) (*ℤ_comm (number_at source j) (number_at row k)))
 
   -- ---- the solved row
-  pub row_solved : (row new : List ℤ) → k < length row → IsWithin (size_limit - 1) row → 0 < nat_abs (number_at row k) → IsSolved (number_at row k) k d row new
+  pub row_solved : (row new : List ℤ) → k < length row → IsWithin (size_limit - 1) row → 0 < nat_abs (number_at row k) → IsSolvedFor (number_at row k) k d row new
       → solved_for r c (coefficients d positions row) ≡ Some (coefficients (nat_abs (number_at row k)) (positions_exchanged r c k positions) new)
   row_solved row new l h o turn =
       (λ i. if int_eq (read_c row i).num (pos 0) then None else negative_quotients (read_c row i) (set (set (coefficients d positions row) r (whole (negsuc 0))) c (whole (pos 0))))

@@ -8,7 +8,7 @@ use Rattle.std.proofs.Math.Seq.{take-append_seam}
 use Rattle.std.proofs.Math.Nat.{mul-le-mul_right, le-div_iff_mul-le}
 use Rattle.integer_tableau.specs.Numbers.{IsWithin, number_at}
 use Rattle.integer_tableau.specs.Range.{size_limit}
-use Rattle.integer_tableau.specs.Substitution.{IsSolved, IsSubstituted, IsSubstitutedRow, quotient_numerator, substituted_size}
+use Rattle.integer_tableau.specs.Substitution.{IsSolvedFor, IsSubstituted, IsSubstitutedRow, quotient_numerator, substituted_size}
 
 size_step : (t d r e s q : ℤ) (top most : ℕ) → 0 < nat_abs d → t *ℤ d ≡ r *ℤ e +ℤ s *ℤ q → nat_abs r ≤ top → nat_abs s ≤ most
     → nat_abs t ≤ (top * nat_abs e + most * nat_abs q) / nat_abs d
@@ -44,19 +44,19 @@ abs-negative_quotient : (p a : ℤ) → nat_abs (quotient_numerator p a) ≡ nat
 abs-negative_quotient (pos p) a = abs-neg a
 abs-negative_quotient (negsuc p) a = refl
 
-pub solved_within : (row new : List ℤ) (p : ℤ) (k top d : ℕ) → k < length row → IsWithin top row → IsSolved p k d row new → IsWithin (max top d) new
+pub solved_within : (row new : List ℤ) (p : ℤ) (k top d : ℕ) → k < length row → IsWithin top row → IsSolvedFor p k d row new → IsWithin (max top d) new
 solved_within row new p k top d l h turn j = rw (turn j, abs-negative_quotient p (number_at (set row k (neg_ℤ (pos d))) j)) (elim (cases_eq j k) [
   | inl q ↦ rw (q, get_or-set_same row k (neg_ℤ (pos d)) (pos 0) l, abs-neg (pos d)) (omega arith)
   | inr q ↦ rw (get_or-set_other row k j (neg_ℤ (pos d)) (pos 0) q) (omega (arith, h j))
 ])
 
 -- where p is not negative, each number has the other sign
-pub solved_up : (p : ℤ) (k : ℕ) (d : ℤ) (row new : List ℤ) → pos 0 <ℤ d → (p <ℤ pos 0 → ⊥) → ((j : ℕ) → number_at new j ≡ neg_ℤ (number_at (set row k (neg_ℤ d)) j)) → IsSolved p k (nat_abs d) row new
+pub solved_up : (p : ℤ) (k : ℕ) (d : ℤ) (row new : List ℤ) → pos 0 <ℤ d → (p <ℤ pos 0 → ⊥) → ((j : ℕ) → number_at new j ≡ neg_ℤ (number_at (set row k (neg_ℤ d)) j)) → IsSolvedFor p k (nat_abs d) row new
 solved_up (pos p) k (pos d) row new o h e j = e j
 solved_up (pos p) k (negsuc d) row new o h e j = absurd (omega (arith, ints))
 solved_up (negsuc p) k d row new o h e j = absurd (h (omega (arith, ints)))
 
-pub solved_down : (p : ℤ) (k : ℕ) (d : ℤ) (row : List ℤ) → pos 0 <ℤ d → p <ℤ pos 0 → IsSolved p k (nat_abs d) row (set row k (neg_ℤ d))
+pub solved_down : (p : ℤ) (k : ℕ) (d : ℤ) (row : List ℤ) → pos 0 <ℤ d → p <ℤ pos 0 → IsSolvedFor p k (nat_abs d) row (set row k (neg_ℤ d))
 solved_down (pos p) k d row o h j = absurd (omega (arith, ints))
 solved_down (negsuc p) k (pos d) row o h j = refl
 solved_down (negsuc p) k (negsuc d) row o h j = absurd (omega (arith, ints))

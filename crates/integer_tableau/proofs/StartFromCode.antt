@@ -12,7 +12,7 @@ use Rattle.integer_tableau.proofs.Expanded.{row_value, value_of_row, values_many
 use Rattle.integer_tableau.proofs.Starting.{column_number, length_columns, nonbasic_values_many, position_of_column, positions_many, start_consistent, start_tableau_is, statuses_many}
 use Rattle.integer_tableau.specs.Combined.{IsCompact, bound_size, combined, combined_row, expanded, expanded_values, rows_behind, size_of, total_bound_size}
 use Rattle.integer_tableau.specs.Consistent.{IsConsistent, row_width}
-use Rattle.integer_tableau.specs.IntegerProgram.{fraction_program, IsReady}
+use Rattle.integer_tableau.specs.IntegerProgram.{fraction_program, CanStart}
 use Rattle.integer_tableau.specs.IntegerTableau.{IntegerTableau, of_parts, statuses_of, tableau_of}
 use Rattle.integer_tableau.specs.Numbers.{IsWithin, number_at, total_size}
 use Rattle.integer_tableau.specs.Range.{size_limit}
@@ -108,7 +108,7 @@ start_bounded (c ∷ cs) (b ∷ bs) m zero = start_number_size c b
 start_bounded (c ∷ cs) (b ∷ bs) m (suc v) = start_bounded cs bs m v
 
 -- ---- the whole start
-module _ (program_rows : List (List ℤ)) (weight reach : ℕ) (reduced_costs : List ℤ) (bounds : List IntegerBounds) (ready : IsReady program_rows weight reduced_costs bounds)
+module _ (program_rows : List (List ℤ)) (weight reach : ℕ) (reduced_costs : List ℤ) (bounds : List IntegerBounds) (ready : CanStart program_rows weight reduced_costs bounds)
     (reached : (j : ℕ) → j < length reduced_costs → bound_size (get_or bounds j (record { lower = None; upper = None })) ≤ reach) (near : reach < 2 ^ 63) (room : total_bound_size bounds < size_limit) where
   abbrev n : ℕ
   n = length reduced_costs

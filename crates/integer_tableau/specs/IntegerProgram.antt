@@ -23,7 +23,7 @@ column_bounds s = record { lower = Some s.lo; upper = Some s.hi }
 
 -- tableaus can start: each row is as long as the costs, each variable has bounds, and the numbers are small; no row has coefficients of a greater
 -- size together than the weight
-pub record IsReady (rows : List (List ℤ)) (weight : ℕ) (costs : List ℤ) (bounds : List IntegerBounds) : Type 0 where
+pub record CanStart (rows : List (List ℤ)) (weight : ℕ) (costs : List ℤ) (bounds : List IntegerBounds) : Type 0 where
   pub rows_full : (i : ℕ) → i < length rows → length (slice_index_or rows i []) ≡ length costs
   pub bounds_there : length bounds ≡ length costs + length rows
   pub rows_within : (i : ℕ) → i < length rows → IsWithin (size_limit - 1) (slice_index_or rows i [])

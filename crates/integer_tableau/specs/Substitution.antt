@@ -21,8 +21,8 @@ quotient_numerator (pos p) a = neg_ℤ a
 quotient_numerator (negsuc p) a = a
 
 -- the row of denominator d, solved for the variable of column k, whose numerator there is p: its denominator is the size of p
-abbrev pub IsSolved : ℤ → ℕ → ℕ → List ℤ → List ℤ → Type 0
-IsSolved p k d row new = (j : ℕ) → number_at new j ≡ quotient_numerator p (number_at (slice_set row k (neg_ℤ (pos d))) j)
+abbrev pub IsSolvedFor : ℤ → ℕ → ℕ → List ℤ → List ℤ → Type 0
+IsSolvedFor p k d row new = (j : ℕ) → number_at new j ≡ quotient_numerator p (number_at (slice_set row k (neg_ℤ (pos d))) j)
 
 -- a bound on the sizes of a row after a substitution, by bounds on those of the row and of the solved row
 abbrev pub substituted_size : ℕ → ℕ → ℕ → ℕ → ℕ → ℕ
@@ -40,7 +40,7 @@ pub record IsSubstitutedRow (d e : ℤ) (k : ℕ) (source row new : List ℤ) : 
 pub record IsSolvedRow (k d : ℕ) (row new : List ℤ) : Type 0 where
   pub before : IsWithin (size_limit - 1) row
   pub after : IsWithin (size_limit - 1) new
-  pub numbers : IsSolved (number_at row k) k d row new
+  pub numbers : IsSolvedFor (number_at row k) k d row new
   pub width : length new ≡ length row
 
 -- a row of the source's width has the variable substituted, another one stays

@@ -33,13 +33,13 @@ pub struct IntegerProgram {
 
 impl Model for IntegerProgram {
     ghost use Rattle.tableau.specs.LinearProgram.{LinearProgram as Described};
-    ghost use Rattle.integer_tableau.specs.IntegerProgram.{fraction_program, IsReady};
+    ghost use Rattle.integer_tableau.specs.IntegerProgram.{fraction_program, CanStart};
 
     ghost Value = { Described };
 
     ghost view = { λ p. fraction_program p.rows.items.value.items p.costs p.bounds.items p.numbers.items };
 
-    ghost invariant = { λ p. IsReady p.rows.items.value.items p.weight p.costs p.bounds.items };
+    ghost invariant = { λ p. CanStart p.rows.items.value.items p.weight p.costs p.bounds.items };
 }
 
 /// The whole number of a fraction; none where it isn't whole, or has more than 64 bits.

@@ -4,7 +4,7 @@ ghost use Rattle.std.specs.Prelude.{◌≡◌, ℕ, [], ◌<◌, ◌≤◌, ◌-
 ghost use Rattle.integer_tableau.specs.Numbers.{number_at, IsWithin};
 ghost use Rattle.integer_tableau.specs.Range.{size_limit};
 ghost use Rattle.integer_tableau.specs.Combined.{combined_row};
-ghost use Rattle.integer_tableau.specs.Substitution.{IsSubstituted, IsSolved, IsSubstitutedRow, IsSolvedRow, IsSubstitutedIfFull, substituted_size};
+ghost use Rattle.integer_tableau.specs.Substitution.{IsSubstituted, IsSolvedFor, IsSubstitutedRow, IsSolvedRow, IsSubstitutedIfFull, substituted_size};
 
 use crate::combination::add_columns;
 use crate::divisor::Divisor;
@@ -144,7 +144,7 @@ fn solve_column(row: &mut [i64], column: usize, denominator: i64)
     requires row_small { IsWithin (size_limit - 1) row.old }
     requires denominator_positive { pos 0 <ℤ denominator }
     requires denominator_small { nat_abs denominator < size_limit }
-    ensures { IsSolved (number_at row.old column) column (nat_abs denominator) row.old row.new }
+    ensures { IsSolvedFor (number_at row.old column) column (nat_abs denominator) row.old row.new }
 {
     let pivot = row[column];
     row[column] = -denominator;

@@ -5,7 +5,7 @@ ghost use Rattle.tableau.specs.LinearProgram.{variables, over};
 ghost use Rattle.tableau.specs.Start.{started};
 ghost use Rattle.integer_tableau.specs.Range.{size_limit};
 ghost use Rattle.integer_tableau.specs.Combined.{bound_size, total_bound_size};
-ghost use Rattle.integer_tableau.specs.IntegerProgram.{fraction_program, IsReady};
+ghost use Rattle.integer_tableau.specs.IntegerProgram.{fraction_program, CanStart};
 ghost use Rattle.integer_tableau.specs.Start.{columns_from, is_negative, start_number, start_numbers};
 
 use crate::integer_bounds::IntegerBounds;
@@ -179,7 +179,7 @@ impl IntegerTableau {
         bounds: Vec<IntegerBounds>,
         numbers: Vec<u32>,
     ) -> Result<Option<IntegerTableau>, AllocError>
-        requires { IsReady rows.now.items.value.items weight costs.now bounds.items }
+        requires { CanStart rows.now.items.value.items weight costs.now bounds.items }
         ensures value { IfOk result (λ o. IfSome o (λ t. started (fraction_program rows.now.items.value.items costs.now bounds.items numbers.items) ≡ Some t)) }
         ensures size { IfOk result (λ o. IfSome o (λ t. length t.statuses ≡ length costs.now + length rows.now.items.value.items)) }
         ensures pivots { IfOk result (λ o. IfSome o (λ t. t.pivots ≡ 0)) }

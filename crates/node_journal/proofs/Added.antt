@@ -9,7 +9,7 @@ use Rattle.std.specs.List.{list_all}
 use Rattle.outside.specs.Images.{IsImage, LeavesOnly, resting}
 use Rattle.outside.specs.Lemmas.Passing.{started, weaker}
 use Rattle.outside.specs.declared.moment.Moment.{Moment}
-use Rattle.node_journal.specs.Records.{Holds, mark, payloads_held, records}
+use Rattle.node_journal.specs.Records.{Intact, mark, payloads_held, records}
 use Rattle.node_journal.specs.Frames.{frame, frames_of, file_of, end_of, tail_of, has_small_length}
 use Rattle.node_journal.specs.Whole.{payloads_in, IsWhole}
 use Rattle.node_journal.proofs.Framing.{frames_of-append, head_length, records_closed}
@@ -92,21 +92,21 @@ module _ (ps : List (List ℕ)) (p : List ℕ) (small : list_all has_small_lengt
     leaves_with {past = past} {past' = past'} {now' = now'} {written = written} is run = weaker past n past' now' (IsBeforeOrWith n.seen end written) (IsWithOrWithout ps p) (λ c left. leaves written c is left) run
 
     pub remains_with : {past : List Moment} {past' : List Moment} {now' : Moment} {written : List ℕ} → written ≡ tail_of p → LeavesOnly past n past' now' (IsBeforeOrWith n.seen end written)
-        → RemainsFrom (length past) (past' ++ now' ∷ []) (IsOpened n.seen end written) → RemainsFrom (length past) (past' ++ now' ∷ []) (λ c. records c ≡ Holds (ps ++ p ∷ []))
+        → RemainsFrom (length past) (past' ++ now' ∷ []) (IsOpened n.seen end written) → RemainsFrom (length past) (past' ++ now' ∷ []) (λ c. records c ≡ Intact (ps ++ p ∷ []))
     remains_with {past = past} {past' = past'} {now' = now'} {written = written} is run remains i j m k ge le ati atj may =
         ∥∥₁_map (remains i j m k ge le ati atj (∥∥₁_map may opened)) (λ w. (w.0, w.1, with_open w.0 w.2))
       where
-        opened_at : (c : List ℕ) → IsBeforeOrWith n.seen end written c → records c ≡ Holds (ps ++ p ∷ []) → IsOpened n.seen end written c
+        opened_at : (c : List ℕ) → IsBeforeOrWith n.seen end written c → records c ≡ Intact (ps ++ p ∷ []) → IsOpened n.seen end written c
         opened_at c left held = subst (λ (l : List ℕ). IsOpened n.seen end l c) (sym is) (opening ps p n.seen c end all_small small seen_is before_end new_file (subst (λ (l : List ℕ). IsBeforeOrWith n.seen end l c) is left) held)
 
-        opened : (c : List ℕ) × IsImage m c × (records c ≡ Holds (ps ++ p ∷ [])) → (c : List ℕ) × IsImage m c × IsOpened n.seen end written c
+        opened : (c : List ℕ) × IsImage m c × (records c ≡ Intact (ps ++ p ∷ [])) → (c : List ℕ) × IsImage m c × IsOpened n.seen end written c
         opened w = (w.0, w.1, opened_at w.0 (run_each past n past' now' (IsBeforeOrWith n.seen end written) run i m w.0 ge ati w.1) w.2)
 
-        with_open : (c : List ℕ) → IsOpened n.seen end written c → records c ≡ Holds (ps ++ p ∷ [])
+        with_open : (c : List ℕ) → IsOpened n.seen end written c → records c ≡ Intact (ps ++ p ∷ [])
         with_open c opened = open_records ps p n.seen c end all_small small seen_is before_end new_file (opened.whole ∙ ap (λ (l : List ℕ). take end n.seen ++ 1 ∷ l) is)
 
-    pub can_leave : (from : ℕ) (past' : List Moment) → SomeFrom from past' (IsBefore n.seen) → SomeFrom from past' (λ c. records c ≡ Holds ps)
-    can_leave from past' some = some_weaker from past' (IsBefore n.seen) (λ c. records c ≡ Holds ps) (λ c left. before_records ps n.seen c small seen_is left) some
+    pub can_leave : (from : ℕ) (past' : List Moment) → SomeFrom from past' (IsBefore n.seen) → SomeFrom from past' (λ c. records c ≡ Intact ps)
+    can_leave from past' some = some_weaker from past' (IsBefore n.seen) (λ c. records c ≡ Intact ps) (λ c left. before_records ps n.seen c small seen_is left) some
 
     -- nothing was written yet
     pub leaves_none : (past : List Moment) → LeavesOnly past n past n (IsWithOrWithout ps p)

@@ -5,7 +5,7 @@ use Rattle.std.proofs.lemmas.Bool.Decides.{nat_tests}
 use Rattle.std.proofs.lemmas.List.{take_at, drop_at}
 use Rattle.std.proofs.lemmas.Nat.{from_le_bytes-to_le_bytes_4}
 use Rattle.std.specs.List.{starts_with, list_all}
-use Rattle.node_journal.specs.Records.{Records, Holds, Foreign, BrokenAt, mark, is_gate_open, size_at, is_whole, payload_of, with_first, read_frames, records}
+use Rattle.node_journal.specs.Records.{Records, Intact, Foreign, BrokenAt, mark, is_gate_open, size_at, is_whole, payload_of, with_first, read_frames, records}
 use Rattle.node_journal.specs.Frames.{frame, frames_of, places_from, payloads_at, has_small_length}
 
 small_is : (p : List ℕ) → has_small_length p ≡ true → length p < 2 ^ 32
@@ -46,9 +46,9 @@ abbrev pub with_all : List (List ℕ) → Records → Records
 with_all [] r = r
 with_all (p ∷ ps) r = with_first p (with_all ps r)
 
-pub with_all-Holds : (ps : List (List ℕ)) → with_all ps (Holds []) ≡ Holds ps
-with_all-Holds [] = refl
-with_all-Holds (p ∷ ps) = ap (λ r. with_first p r) (with_all-Holds ps)
+pub with_all-Intact : (ps : List (List ℕ)) → with_all ps (Intact []) ≡ Intact ps
+with_all-Intact [] = refl
+with_all-Intact (p ∷ ps) = ap (λ r. with_first p r) (with_all-Intact ps)
 
 pub with_all-BrokenAt : (ps : List (List ℕ)) (at : ℕ) → with_all ps (BrokenAt at) ≡ BrokenAt at
 with_all-BrokenAt [] at = refl
@@ -59,7 +59,7 @@ pub frames_one : (n at : ℕ) (rest : List ℕ) → is_gate_open rest ≡ true �
     → read_frames (suc n) at rest ≡ with_first (payload_of rest) (read_frames n (at + 5 + size_at rest) (drop (5 + size_at rest) rest))
 frames_one n at rest opened whole = grind (arith, opened, whole)
 
-pub frames_closed : (n at : ℕ) (rest : List ℕ) → is_gate_open rest ≡ false → read_frames n at rest ≡ Holds []
+pub frames_closed : (n at : ℕ) (rest : List ℕ) → is_gate_open rest ≡ false → read_frames n at rest ≡ Intact []
 frames_closed zero at rest closed = refl
 frames_closed (suc n) at rest closed = grind (arith, closed)
 
@@ -120,7 +120,7 @@ module _ (ps : List (List ℕ)) (rest : List ℕ) (small : list_all has_small_le
 
   -- what it reads as, by what stands behind the frames
   reads_as : (n : ℕ) (r : Records) → length (mark ++ frames_of ps ++ rest) ≡ length ps + n → with_all ps (read_frames n (8 + length (frames_of ps)) rest) ≡ r
-      → (nat_le (length (mark ++ frames_of ps ++ rest)) 9 ≡ true → Holds [] ≡ r) → records (mark ++ frames_of ps ++ rest) ≡ r
+      → (nat_le (length (mark ++ frames_of ps ++ rest)) 9 ≡ true → Intact [] ≡ r) → records (mark ++ frames_of ps ++ rest) ≡ r
   reads_as n r fuel is few = at (nat_le (length all) 9) refl
     where
       all : List ℕ
@@ -132,16 +132,16 @@ module _ (ps : List (List ℕ)) (rest : List ℕ) (small : list_all has_small_le
       long : read_frames (length all) 8 (drop 8 all) ≡ r
       long = ap (λ (l : List ℕ). read_frames (length all) 8 l) behind ∙ ap (λ (k : ℕ). read_frames k 8 (frames_of ps ++ rest)) fuel ∙ frames_all ps n 8 rest small ∙ is
 
-      at : (b : Bool) → nat_le (length all) 9 ≡ b → (if b then Holds [] else (if starts_with nat_eq all mark then read_frames (length all) 8 (drop 8 all) else Foreign)) ≡ r
+      at : (b : Bool) → nat_le (length all) 9 ≡ b → (if b then Intact [] else (if starts_with nat_eq all mark then read_frames (length all) 8 (drop 8 all) else Foreign)) ≡ r
       at true h = few h
       at false h = ap (λ (b : Bool). if b then read_frames (length all) 8 (drop 8 all) else Foreign) (ap (λ (l : List ℕ). starts_with nat_eq l mark) (append_assoc mark (frames_of ps) rest)) ∙ long
 
   -- then a gate that is closed
-  pub records_closed : is_gate_open rest ≡ false → records (mark ++ frames_of ps ++ rest) ≡ Holds ps
+  pub records_closed : is_gate_open rest ≡ false → records (mark ++ frames_of ps ++ rest) ≡ Intact ps
   records_closed closed =
       let n : ℕ = length (mark ++ frames_of ps ++ rest) - length ps in
-      reads_as n (Holds ps) (omega (arith, total, framed_longer ps)) (ap (λ r. with_all ps r) (frames_closed n (8 + length (frames_of ps)) rest closed) ∙ with_all-Holds ps)
-      (λ h. ap Holds (sym (few ps (omega (arith, short_file h, total, framed_longer ps)))))
+      reads_as n (Intact ps) (omega (arith, total, framed_longer ps)) (ap (λ r. with_all ps r) (frames_closed n (8 + length (frames_of ps)) rest closed) ∙ with_all-Intact ps)
+      (λ h. ap Intact (sym (few ps (omega (arith, short_file h, total, framed_longer ps)))))
     where
       few : (qs : List (List ℕ)) → 5 * length qs ≤ 1 → qs ≡ []
       few [] le = refl

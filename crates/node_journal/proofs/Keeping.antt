@@ -11,24 +11,24 @@ use Rattle.node_journal.specs.Appends.{IsWithOrWithout}
 use Rattle.node_journal.specs.Frames.{file_of, has_small_length}
 use Rattle.node_journal.specs.History.{EachFrom, SomeFrom, RemainsFrom, BeginsWith, IsPrefixOf, Keeps, IsHistory, KeepsHistory}
 use Rattle.node_journal.specs.Lemmas.Histories.{prefix_more, longer, prefixes_grow, history_grows, kept_stands}
-use Rattle.node_journal.specs.Records.{Holds, records}
+use Rattle.node_journal.specs.Records.{Intact, records}
 use Rattle.node_journal.proofs.Ends.{before_records}
 use Rattle.node_journal.specs.Lemmas.Resting.{rested}
 
 module _ (from : ℕ) (past : List Moment) (now : Moment) (file : List ℕ) (ps : List (List ℕ)) (p : List ℕ) (small : list_all has_small_length ps ≡ true)
     (whole : file ≡ file_of ps) (rest : now ≡ resting file) (kept : KeepsHistory from past now ps None) where
-  here : (c : List ℕ) × IsImage now c × (records c ≡ Holds ps)
+  here : (c : List ℕ) × IsImage now c × (records c ≡ Intact ps)
   here = (file, subst (λ m. IsImage m file) (sym rest) (rests file), before_records ps file file small whole ([], sym (append-nil file)))
 
   -- the call was made
-  module _ (past' : List Moment) (now' : Moment) (run : LeavesOnly past now past' now' (IsWithOrWithout ps p)) (without : SomeFrom (length past) past' (λ c. records c ≡ Holds ps)) where
+  module _ (past' : List Moment) (now' : Moment) (run : LeavesOnly past now past' now' (IsWithOrWithout ps p)) (without : SomeFrom (length past) past' (λ c. records c ≡ Intact ps)) where
     pub since : EachFrom from (past' ++ now' ∷ []) (λ c. IsPrefixOf (ps ++ p ∷ []) (records c))
     since = prefixes_grow from past now past' now' ps p kept.history (kept.prefixes refl) kept.begun run without here
 
     still : from ≤ length past'
     still = omega (arith, kept.begun, longer past now past' now' (IsWithOrWithout ps p) run)
 
-    module _ (remains : RemainsFrom (length past) (past' ++ now' ∷ []) (λ c. records c ≡ Holds (ps ++ p ∷ []))) (seen : IsImage now' now'.seen) where
+    module _ (remains : RemainsFrom (length past) (past' ++ now' ∷ []) (λ c. records c ≡ Intact (ps ++ p ∷ []))) (seen : IsImage now' now'.seen) where
       grows : IsHistory from (past' ++ now' ∷ [])
       grows = history_grows from past now past' now' ps p kept.history (kept.prefixes refl) kept.begun run without here remains seen
 
@@ -48,7 +48,7 @@ module _ (from : ℕ) (past : List Moment) (now : Moment) (file : List ℕ) (ps 
 
 -- A journal at rest keeps all of its payloads.
 pub all_held : (now : Moment) (file : List ℕ) (ps : List (List ℕ)) → list_all has_small_length ps ≡ true → file ≡ file_of ps → now ≡ resting file → Keeps ps now
-all_held now file ps small whole rest c is = subst (λ r. BeginsWith ps r) (sym (before_records ps file c small whole ([], same ∙ sym (append-nil file)))) (ap Holds (take_all (length ps) ps (omega arith)))
+all_held now file ps small whole rest c is = subst (λ r. BeginsWith ps r) (sym (before_records ps file c small whole ([], same ∙ sym (append-nil file)))) (ap Intact (take_all (length ps) ps (omega arith)))
   where
     same : c ≡ file
     same = rested file c (subst (λ m. IsImage m c) rest is)

@@ -5,7 +5,7 @@ use Rattle.std.proofs.lemmas.Bool.Decides.{nat_tests}
 use Rattle.std.proofs.lemmas.List.{take_all}
 use Rattle.std.specs.Cmp.Lexicographic.{pointwise}
 use Rattle.std.specs.List.{starts_with}
-use Rattle.node_journal.specs.Records.{Holds, Foreign, mark, read_frames, records}
+use Rattle.node_journal.specs.Records.{Intact, Foreign, mark, read_frames, records}
 
 -- the first 8 bytes are not the mark
 pub foreign : (file read : List ℕ) → 9 < length file → read ≡ take 8 file → starts_with nat_eq read mark ≡ false → records file ≡ Foreign
@@ -20,7 +20,7 @@ foreign file read long is other = choice (nat_le (length file) 9) (starts_with n
     no_mark : starts_with nat_eq file mark ≡ false
     no_mark = sym (ap (λ (l : List ℕ). starts_with nat_eq l mark) is ∙ ap (λ (l : List ℕ). pointwise nat_eq mark l) front) ∙ other
 
-    choice : (short marked : Bool) → short ≡ false → marked ≡ false → (if short then Holds [] else (if marked then read_frames (length file) 8 (drop 8 file) else Foreign)) ≡ Foreign
+    choice : (short marked : Bool) → short ≡ false → marked ≡ false → (if short then Intact [] else (if marked then read_frames (length file) 8 (drop 8 file) else Foreign)) ≡ Foreign
     choice true marked h k = absurd (no_true h)
       where
         no_true : true ≡ false → ⊥

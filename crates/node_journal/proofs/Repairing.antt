@@ -7,7 +7,7 @@ use Rattle.outside.specs.Images.{IsImage, LeavesOnly, OneMomentPasses, Fails, mo
 use Rattle.outside.specs.Lemmas.Passing.{started, goes_on, fails_on, weaker, joined}
 use Rattle.outside.specs.declared.moment.Moment.{Moment}
 use Rattle.node_journal.specs.Gate.{IsBefore}
-use Rattle.node_journal.specs.Records.{mark, records, Holds}
+use Rattle.node_journal.specs.Records.{mark, records, Intact}
 use Rattle.node_journal.specs.Frames.{has_small_length, end_of}
 use Rattle.node_journal.specs.Index.{ReadsTo, EndsAt}
 use Rattle.node_journal.specs.History.{SomeFrom, Anything}
@@ -59,7 +59,7 @@ module _ {p : List Moment} {n done : Moment} {p1 : List Moment} {n1 : Moment} (s
 
 -- the bytes are those of a journal of these payloads
 abbrev HasAll : List (List ℕ) → List ℕ → Type 0
-HasAll ps c = records c ≡ Holds ps
+HasAll ps c = records c ≡ Intact ps
 
 -- a disk of at most 9 bytes
 pub renewed : {p : List Moment} {n : Moment} {p1 : List Moment} {n1 : Moment} (ps : List (List ℕ)) → ReadsTo n.seen ps → length n.seen ≤ 9 → LeavesOnly p n p1 n1 (λ c. length c ≤ 9) → LeavesOnly p n p1 n1 (HasAll ps)

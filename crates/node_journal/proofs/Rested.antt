@@ -5,7 +5,7 @@ use Rattle.outside.specs.Images.{IsImage, AtRest, LeavesOnly, OneMomentPasses, F
 use Rattle.outside.specs.Lemmas.Passing.{started, goes_on, fails_on, joined, weaker}
 use Rattle.outside.specs.declared.moment.Moment.{Moment}
 use Rattle.node_journal.specs.History.{EachFrom, SomeFrom, Anything, KeepsHistory}
-use Rattle.node_journal.specs.Records.{Holds, records}
+use Rattle.node_journal.specs.Records.{Intact, records}
 use Rattle.node_journal.specs.Lemmas.Histories.{run_each, remains_each, some_each, some_fails, some_goes, some_joined, some_none}
 use Rattle.node_journal.specs.Lemmas.Opening.{kept_opened}
 use Rattle.node_journal.specs.Lemmas.Resting.{rested}
@@ -30,10 +30,10 @@ sync_may_fail {p = p} {n = n} {p1 = p1} {n1 = n1} seen f =
     some_fails (length p) p n p1 n1 (moment_after_sync n) (λ c. records c ≡ records n.seen) (some_none p (λ c. records c ≡ records n.seen)) (here n seen) f
 
 -- it succeeds, and the calls behind it are made
-module _ {p : List Moment} {n : Moment} {p1 : List Moment} {n1 : Moment} {p2 : List Moment} {n2 : Moment} (ps : List (List ℕ)) (held : records n.seen ≡ Holds ps)
-    (g : OneMomentPasses p n p1 n1 (moment_after_sync n)) (run : LeavesOnly p1 n1 p2 n2 (λ c. records c ≡ Holds ps)) where
+module _ {p : List Moment} {n : Moment} {p1 : List Moment} {n1 : Moment} {p2 : List Moment} {n2 : Moment} (ps : List (List ℕ)) (held : records n.seen ≡ Intact ps)
+    (g : OneMomentPasses p n p1 n1 (moment_after_sync n)) (run : LeavesOnly p1 n1 p2 n2 (λ c. records c ≡ Intact ps)) where
   same_run : LeavesOnly p1 n1 p2 n2 (λ c. records c ≡ records n.seen)
-  same_run = weaker p1 n1 p2 n2 (λ c. records c ≡ Holds ps) (λ c. records c ≡ records n.seen) (λ c e. e ∙ sym held) run
+  same_run = weaker p1 n1 p2 n2 (λ c. records c ≡ Intact ps) (λ c. records c ≡ records n.seen) (λ c e. e ∙ sym held) run
 
   pub all_leave : AtRest n → LeavesOnly p n p2 n2 (λ c. records c ≡ records n.seen)
   all_leave rests = joined p p1 p2 n n1 n2 (λ c. records c ≡ records n.seen)
@@ -47,11 +47,11 @@ module _ {p : List Moment} {n : Moment} {p1 : List Moment} {n1 : Moment} {p2 : L
   pub opened_at : (t : ℕ) → t ≡ length p1 → t ≡ length p + 1
   opened_at t at = at ∙ omega (arith, ap length g.passed, length-append p (n ∷ []))
 
-  pub leave_since : (t : ℕ) → t ≡ length p1 → EachFrom t (p2 ++ n2 ∷ []) (λ c. records c ≡ Holds ps)
-  leave_since t at = subst (λ (k : ℕ). EachFrom k (p2 ++ n2 ∷ []) (λ c. records c ≡ Holds ps)) (sym at) (run_each p1 n1 p2 n2 (λ c. records c ≡ Holds ps) run)
+  pub leave_since : (t : ℕ) → t ≡ length p1 → EachFrom t (p2 ++ n2 ∷ []) (λ c. records c ≡ Intact ps)
+  leave_since t at = subst (λ (k : ℕ). EachFrom k (p2 ++ n2 ∷ []) (λ c. records c ≡ Intact ps)) (sym at) (run_each p1 n1 p2 n2 (λ c. records c ≡ Intact ps) run)
 
   pub kept_since : (t : ℕ) → t ≡ length p1 → SomeFrom (length p1) p2 Anything → IsImage n2 n2.seen → KeepsHistory t p2 n2 ps None
-  kept_since t at some seen = kept_opened t p1 n1 p2 n2 ps (Holds ps) refl at run can (remains_each p1 n1 p2 n2 (Holds ps) run can seen)
+  kept_since t at some seen = kept_opened t p1 n1 p2 n2 ps (Intact ps) refl at run can (remains_each p1 n1 p2 n2 (Intact ps) run can seen)
     where
-      can : SomeFrom (length p1) p2 (λ c. records c ≡ Holds ps)
-      can = some_each p1 n1 p2 n2 (λ c. records c ≡ Holds ps) run some
+      can : SomeFrom (length p1) p2 (λ c. records c ≡ Intact ps)
+      can = some_each p1 n1 p2 n2 (λ c. records c ≡ Intact ps) run some

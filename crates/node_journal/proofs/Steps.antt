@@ -9,7 +9,7 @@ use Rattle.std.proofs.lemmas.List.Folds.{list_all-append}
 use Rattle.std.proofs.lemmas.Nat.{le_bytes_4}
 use Rattle.std.specs.List.{list_all}
 use Rattle.std.specs.Int.{w32, to_le_bytes, from_le_bytes}
-use Rattle.node_journal.specs.Records.{Holds, BrokenAt, mark, is_gate_open, size_at, is_whole, payload_of, records}
+use Rattle.node_journal.specs.Records.{Intact, BrokenAt, mark, is_gate_open, size_at, is_whole, payload_of, records}
 use Rattle.node_journal.specs.Frames.{frame, frames_of, places_from, payloads_at, end_of, has_small_length}
 use Rattle.node_journal.proofs.Framing.{frames_of-append, places-append, records_closed, records_broken}
 use Rattle.node_journal.specs.Index.{IsIndexed, EndsAt}
@@ -84,7 +84,7 @@ module _ (file places : List ℕ) (gate : ℕ) (is : IsIndexed file places gate)
   pub broken : is_gate_open rest ≡ true → is_whole rest ≡ false → records file ≡ BrokenAt gate
   broken opened cut = ap records split ∙ records_broken ps rest is.small opened cut ∙ ap BrokenAt (sym gate_at)
 
-  pub closed : is_gate_open rest ≡ false → records file ≡ Holds ps
+  pub closed : is_gate_open rest ≡ false → records file ≡ Intact ps
   closed shut = ap records split ∙ records_closed ps rest is.small shut
 
   pub ends : is_gate_open rest ≡ false → EndsAt file ps (end_of ps)

@@ -2,27 +2,27 @@
 use Rattle.std.specs.Prelude.{◌≡◌, ℕ, ◌≤◌, List, [], ◌∷◌, ◌++◌, length, take, Option, Some, None, slice_get}
 use Rattle.outside.specs.Images.{IsImage}
 use Rattle.outside.specs.declared.moment.Moment.{Moment}
-use Rattle.node_journal.specs.Records.{Records, Holds, Foreign, BrokenAt, records}
+use Rattle.node_journal.specs.Records.{Records, Intact, Foreign, BrokenAt, records}
 
 -- the first so many payloads
 abbrev pub first_of : ℕ → Records → Records
-first_of n (Holds ps) = Holds (take n ps)
+first_of n (Intact ps) = Intact (take n ps)
 first_of n Foreign = Foreign
 first_of n (BrokenAt place) = BrokenAt place
 
 -- how many payloads there are
 abbrev pub count_of : Records → ℕ
-count_of (Holds ps) = length ps
+count_of (Intact ps) = length ps
 count_of Foreign = 0
 count_of (BrokenAt place) = 0
 
 -- there are payloads, and the first are these
 abbrev pub BeginsWith : List (List ℕ) → Records → Type 0
-BeginsWith ps r = first_of (length ps) r ≡ Holds ps
+BeginsWith ps r = first_of (length ps) r ≡ Intact ps
 
 -- there are payloads, and these begin with them
 abbrev pub IsPrefixOf : List (List ℕ) → Records → Type 0
-IsPrefixOf ps r = r ≡ Holds (take (count_of r) ps)
+IsPrefixOf ps r = r ≡ Intact (take (count_of r) ps)
 
 -- one of two lists of payloads begins the other
 abbrev pub Agree : Records → Records → Type 0

@@ -11,7 +11,7 @@ mark = 66 ∷ 78 ∷ 67 ∷ 74 ∷ 82 ∷ 78 ∷ 76 ∷ 49 ∷ []
 
 -- what a file holds
 pub data Records : Type 0 where
-  Holds : List (List ℕ) → Records
+  Intact : List (List ℕ) → Records
   Foreign : Records
   BrokenAt : ℕ → Records
 
@@ -33,28 +33,28 @@ payload_of rest = take (size_at rest) (drop 5 rest)
 
 -- one more payload before the others
 abbrev pub with_first : List ℕ → Records → Records
-with_first p (Holds ps) = Holds (p ∷ ps)
+with_first p (Intact ps) = Intact (p ∷ ps)
 with_first p Foreign = Foreign
 with_first p (BrokenAt place) = BrokenAt place
 
 -- The frames from a gate on, which stands at this place, up to the first that is closed. The first number is at least
 -- that of the frames.
 abbrev pub read_frames : ℕ → ℕ → List ℕ → Records
-read_frames zero place rest = Holds []
+read_frames zero place rest = Intact []
 read_frames (suc n) place rest =
     if is_gate_open rest
     then (if is_whole rest then with_first (payload_of rest) (read_frames n (place + 5 + size_at rest) (drop (5 + size_at rest) rest)) else BrokenAt place)
-    else Holds []
+    else Intact []
 
 -- What a file holds. At most 9 bytes are an empty journal, whatever they are.
 abbrev pub records : List ℕ → Records
 records file =
     if nat_le (length file) 9
-    then Holds []
+    then Intact []
     else (if starts_with nat_eq file mark then read_frames (length file) 8 (drop 8 file) else Foreign)
 
 -- the payloads of what a file holds, none where it is no journal
 abbrev pub payloads_held : Records → List (List ℕ)
-payloads_held (Holds ps) = ps
+payloads_held (Intact ps) = ps
 payloads_held Foreign = []
 payloads_held (BrokenAt place) = []

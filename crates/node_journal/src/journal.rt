@@ -2,7 +2,7 @@
 ghost use Rattle.std.specs.Prelude.{◌≡◌, ◌+◌, ◌<◌, ◌≤◌, ◌^◌, ◌++◌, [], ◌∷◌, ℕ, true, length, IfOk, IfErr, OnOk, OnErr, IsErrOf, Some, None};
 ghost use Rattle.outside.specs.Faults.{Counts};
 ghost use Rattle.outside.specs.Images.{AtRest, LeavesOnly, NoMomentPasses, resting};
-ghost use Rattle.node_journal.specs.Records.{records, Holds};
+ghost use Rattle.node_journal.specs.Records.{records, Intact};
 ghost use Rattle.node_journal.specs.History.{EachFrom, SomeFrom, ExtendsMoments, IsPrefixOf, Keeps, KeepsHistory};
 ghost use Rattle.node_journal.specs.Frames.{file_of};
 ghost use Rattle.node_journal.specs.Whole.{payloads_in, IsWhole};
@@ -42,14 +42,14 @@ impl<D: Disk> Journal<D> {
     /// fault, which the disk counted, the disk comes back.
     pub fn recover(disk: D, scanned: Scanned) -> Result<Journal<D>, D>
         requires { D.tells ≡ true → IsScanOf (D.now disk).seen scanned }
-        ensures read { D.tells ≡ true → records (D.now disk).seen ≡ Holds (payloads_of scanned) }
+        ensures read { D.tells ≡ true → records (D.now disk).seen ≡ Intact (payloads_of scanned) }
         ensures holds { D.tells ≡ true → IfOk result (λ j. payloads_in (D.now j.disk) ≡ payloads_of scanned) }
         ensures rests { D.tells ≡ true → IfOk result (λ j. D.now j.disk ≡ resting (file_of (payloads_of scanned))) }
         ensures count { IfOk result (λ j. j.count ≡ length (payloads_of scanned)) }
         ensures fresh { IfOk result (λ j. j.fault ≡ None) }
         ensures opened { D.tells ≡ true → IfOk result (λ j. j.opened ≡ length (D.past disk) + 1) }
         // Behind the first sync a crash leaves the payloads that were there.
-        ensures since { D.tells ≡ true → IfOk result (λ j. EachFrom j.opened (D.past j.disk ++ D.now j.disk ∷ []) (λ c. records c ≡ Holds (payloads_of scanned))) }
+        ensures since { D.tells ≡ true → IfOk result (λ j. EachFrom j.opened (D.past j.disk ++ D.now j.disk ∷ []) (λ c. records c ≡ Intact (payloads_of scanned))) }
         // Where the disk was at rest, a crash at any moment of the call leaves them.
         ensures any_moment { D.tells ≡ true → AtRest (D.now disk) → IfOk result (λ j. LeavesOnly (D.past disk) (D.now disk) (D.past j.disk) (D.now j.disk) (λ c. records c ≡ records (D.now disk).seen)) }
         ensures any_moment_err { D.tells ≡ true → AtRest (D.now disk) → IfErr result (λ d. LeavesOnly (D.past disk) (D.now disk) (D.past d) (D.now d) (λ c. records c ≡ records (D.now disk).seen)) }

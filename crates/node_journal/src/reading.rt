@@ -1,6 +1,6 @@
 // What the bytes of a disk hold.
 ghost use Rattle.std.specs.Prelude.{◌≡◌, length, IfOk, IfErr, IsErrOf};
-ghost use Rattle.node_journal.specs.Records.{records, Holds};
+ghost use Rattle.node_journal.specs.Records.{records, Intact};
 ghost use Rattle.node_journal.specs.Index.{IsInside, Refuses};
 ghost use Rattle.node_journal.specs.Views.{payloads_of, IsScanOf};
 
@@ -10,7 +10,7 @@ use std::alloc::Global;
 
 /// Reads the bytes of a journal.
 pub fn parse(alloc: Global, file: Vec<u8>) -> Result<Scanned, JournalFault>
-    ensures records { IfOk result (λ s. records file.items ≡ Holds (payloads_of s)) }
+    ensures records { IfOk result (λ s. records file.items ≡ Intact (payloads_of s)) }
     ensures scanned { IfOk result (λ s. IsScanOf file.items s) }
     ensures refused { IfErr result (λ e. Refuses e (records file.items)) }
     ensures inside { IfErr result (λ e. IsInside (length file.items) e) }

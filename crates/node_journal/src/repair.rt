@@ -4,7 +4,7 @@ ghost use Rattle.outside.specs.Faults.{Counts};
 ghost use Rattle.outside.specs.Images.{LeavesOnly, OneMomentPasses, Fails, resting, moment_after_sync};
 ghost use Rattle.node_journal.specs.Gate.{IsBefore};
 ghost use Rattle.node_journal.specs.Repairs.{IsPrefixAndOne};
-ghost use Rattle.node_journal.specs.Records.{records, Holds, mark};
+ghost use Rattle.node_journal.specs.Records.{records, Intact, mark};
 ghost use Rattle.node_journal.specs.Frames.{file_of, end_of};
 ghost use Rattle.node_journal.specs.History.{SomeFrom, Anything};
 ghost use Rattle.node_journal.specs.Index.{EndsAt};
@@ -74,7 +74,7 @@ fn trim<D: Disk>(disk: &mut D, scanned: &Scanned) -> Result<(), Failed>
     requires sized { D.tells ≡ true → scanned.now.size ≡ length (D.now disk.old).seen }
     requires ends { D.tells ≡ true → EndsAt (D.now disk.old).seen (payloads_of scanned.now) (end_of (payloads_of scanned.now)) }
     ensures done { D.tells ≡ true → OnOk result (D.now disk.new ≡ resting (take (end_of (payloads_of scanned.now) + 1) (D.now disk.old).seen)) }
-    ensures any_moment { D.tells ≡ true → LeavesOnly (D.past disk.old) (D.now disk.old) (D.past disk.new) (D.now disk.new) (λ c. records c ≡ Holds (payloads_of scanned.now)) }
+    ensures any_moment { D.tells ≡ true → LeavesOnly (D.past disk.old) (D.now disk.old) (D.past disk.new) (D.now disk.new) (λ c. records c ≡ Intact (payloads_of scanned.now)) }
     ensures offers { D.tells ≡ true → SomeFrom (length (D.past disk.old)) (D.past disk.new) Anything }
     ensures cause { Counts (D.count disk.old) (D.count disk.new) (is_err result) }
 {
@@ -92,7 +92,7 @@ fn repair_end<D: Disk>(disk: &mut D, scanned: &Scanned) -> Result<(), Failed>
     requires sized { D.tells ≡ true → scanned.now.size ≡ length (D.now disk.old).seen }
     requires ends { D.tells ≡ true → EndsAt (D.now disk.old).seen (payloads_of scanned.now) (end_of (payloads_of scanned.now)) }
     ensures done { D.tells ≡ true → OnOk result (D.now disk.new ≡ resting (file_of (payloads_of scanned.now))) }
-    ensures any_moment { D.tells ≡ true → LeavesOnly (D.past disk.old) (D.now disk.old) (D.past disk.new) (D.now disk.new) (λ c. records c ≡ Holds (payloads_of scanned.now)) }
+    ensures any_moment { D.tells ≡ true → LeavesOnly (D.past disk.old) (D.now disk.old) (D.past disk.new) (D.now disk.new) (λ c. records c ≡ Intact (payloads_of scanned.now)) }
     ensures offers { D.tells ≡ true → SomeFrom (length (D.past disk.old)) (D.past disk.new) Anything }
     ensures cause { Counts (D.count disk.old) (D.count disk.new) (is_err result) }
 {
@@ -106,7 +106,7 @@ pub fn repair<D: Disk>(disk: &mut D, scanned: &Scanned) -> Result<(), Failed>
     requires rest { D.tells ≡ true → D.now disk.old ≡ resting (D.now disk.old).seen }
     requires scanned { D.tells ≡ true → IsScanOf (D.now disk.old).seen scanned.now }
     ensures done { D.tells ≡ true → OnOk result (D.now disk.new ≡ resting (file_of (payloads_of scanned.now))) }
-    ensures any_moment { D.tells ≡ true → LeavesOnly (D.past disk.old) (D.now disk.old) (D.past disk.new) (D.now disk.new) (λ c. records c ≡ Holds (payloads_of scanned.now)) }
+    ensures any_moment { D.tells ≡ true → LeavesOnly (D.past disk.old) (D.now disk.old) (D.past disk.new) (D.now disk.new) (λ c. records c ≡ Intact (payloads_of scanned.now)) }
     ensures offers { D.tells ≡ true → SomeFrom (length (D.past disk.old)) (D.past disk.new) Anything }
     ensures cause { Counts (D.count disk.old) (D.count disk.new) (is_err result) }
 {

@@ -2,7 +2,7 @@
 ghost use Rattle.std.specs.Prelude.{◌≡◌, ◌<◌, true, length, IfOk, IfErr};
 ghost use Rattle.outside.specs.Faults.{Counts};
 ghost use Rattle.outside.specs.Images.{NoMomentPasses};
-ghost use Rattle.node_journal.specs.Records.{records, Holds};
+ghost use Rattle.node_journal.specs.Records.{records, Intact};
 ghost use Rattle.node_journal.specs.Index.{IsInside, Refuses};
 ghost use Rattle.node_journal.specs.Views.{payloads_of, IsScanOf, disk_failed};
 
@@ -29,7 +29,7 @@ fn check_mark<D: Disk>(disk: &mut D) -> Result<(), JournalFault>
 /// Reads so many bytes from a disk's front, which are all where the disk tells its content, and finds the payloads in them.
 fn scan_front<D: Disk>(alloc: Global, disk: &mut D, size: u64) -> Result<Scanned, JournalFault>
     requires { D.tells ≡ true → size ≡ length (D.now disk.old).seen }
-    ensures records { D.tells ≡ true → IfOk result (λ s. records (D.now disk.old).seen ≡ Holds (payloads_of s)) }
+    ensures records { D.tells ≡ true → IfOk result (λ s. records (D.now disk.old).seen ≡ Intact (payloads_of s)) }
     ensures scanned { D.tells ≡ true → IfOk result (λ s. IsScanOf (D.now disk.old).seen s) }
     ensures refused { D.tells ≡ true → IfErr result (λ e. Refuses e (records (D.now disk.old).seen)) }
     ensures inside { IfErr result (λ e. IsInside size e) }
@@ -44,7 +44,7 @@ fn scan_front<D: Disk>(alloc: Global, disk: &mut D, size: u64) -> Result<Scanned
 /// Reads the payloads of a disk, and writes nothing. Of a disk that holds something else no more than 8 bytes are read.
 /// `NotAJournal` and `Damaged` come exactly where the format says, `Disk` only where the disk failed and counted it.
 pub fn scan<D: Disk>(alloc: Global, disk: &mut D) -> Result<Scanned, JournalFault>
-    ensures records { D.tells ≡ true → IfOk result (λ s. records (D.now disk.old).seen ≡ Holds (payloads_of s)) }
+    ensures records { D.tells ≡ true → IfOk result (λ s. records (D.now disk.old).seen ≡ Intact (payloads_of s)) }
     ensures scanned { D.tells ≡ true → IfOk result (λ s. IsScanOf (D.now disk.new).seen s) }
     ensures refused { D.tells ≡ true → IfErr result (λ e. Refuses e (records (D.now disk.old).seen)) }
     ensures stands { NoMomentPasses (D.past disk.old) (D.now disk.old) (D.past disk.new) (D.now disk.new) }

@@ -6,7 +6,7 @@ ghost use Rattle.node_journal.specs.Appends.{IsWithOrWithout};
 ghost use Rattle.node_journal.specs.Failing.{fails_by_disk};
 ghost use Rattle.node_journal.specs.Frames.{file_of, tail_of};
 ghost use Rattle.node_journal.specs.History.{SomeFrom, RemainsFrom};
-ghost use Rattle.node_journal.specs.Records.{records, Holds};
+ghost use Rattle.node_journal.specs.Records.{records, Intact};
 ghost use Rattle.node_journal.specs.Whole.{payloads_in, IsWhole};
 
 use crate::AppendFault;
@@ -44,9 +44,9 @@ pub fn write_payload<D: Disk>(
     ensures bound { IfOk result (λ e. e < 2 ^ 63) }
     ensures done { D.tells ≡ true → OnOk result (D.now disk.new ≡ resting (file_of (payloads_in (D.now disk.old) ++ payload.now ∷ []))) }
     ensures any_moment { D.tells ≡ true → LeavesOnly (D.past disk.old) (D.now disk.old) (D.past disk.new) (D.now disk.new) (IsWithOrWithout (payloads_in (D.now disk.old)) payload.now) }
-    ensures before { D.tells ≡ true → SomeFrom (length (D.past disk.old)) (D.past disk.new) (λ c. records c ≡ Holds (payloads_in (D.now disk.old))) }
+    ensures before { D.tells ≡ true → SomeFrom (length (D.past disk.old)) (D.past disk.new) (λ c. records c ≡ Intact (payloads_in (D.now disk.old))) }
     // Where some crash leaves the new payload, some crash at each later moment does.
-    ensures remains { D.tells ≡ true → RemainsFrom (length (D.past disk.old)) (D.past disk.new ++ D.now disk.new ∷ []) (λ c. records c ≡ Holds (payloads_in (D.now disk.old) ++ payload.now ∷ [])) }
+    ensures remains { D.tells ≡ true → RemainsFrom (length (D.past disk.old)) (D.past disk.new ++ D.now disk.new ∷ []) (λ c. records c ≡ Intact (payloads_in (D.now disk.old) ++ payload.now ∷ [])) }
     ensures memory { IsErrOf result AppendFault.Memory → NoMomentPasses (D.past disk.old) (D.now disk.old) (D.past disk.new) (D.now disk.new) }
     ensures cause { Counts (D.count disk.old) (D.count disk.new) (fails_by_disk result) }
 {

@@ -11,7 +11,7 @@ use Rattle.event_core.specs.Histories.{journaled}
 use Rattle.event_codec.specs.Codes.{code}
 use Rattle.node_journal.specs.Appends.{IsWithOrWithout}
 use Rattle.node_journal.specs.History.{first_of, count_of, BeginsWith, IsPrefixOf, Keeps, EachFrom, KeepsHistory}
-use Rattle.node_journal.specs.Records.{Records, Holds, payloads_held, records}
+use Rattle.node_journal.specs.Records.{Records, Intact, payloads_held, records}
 use Rattle.node_journal.specs.Whole.{payloads_in}
 use Rattle.node_pool.specs.declared.halt.Halt.{Halt}
 use Rattle.node_pool.specs.declared.halt.Halt.TheVariants as halt
@@ -45,8 +45,8 @@ leaves_stands from past now past' now' es h stands all =
 
 -- ---- while one event is added
 -- a prefix of payloads that begins with all of them is all of them
-exact : (ps : List (List ℕ)) (r : Records) → IsPrefixOf ps r → BeginsWith ps r → r ≡ Holds ps
-exact ps r prefix begins = prefix ∙ ap Holds (sym (take_all (length ps) (take (count_of r) ps) short) ∙ whole)
+exact : (ps : List (List ℕ)) (r : Records) → IsPrefixOf ps r → BeginsWith ps r → r ≡ Intact ps
+exact ps r prefix begins = prefix ∙ ap Intact (sym (take_all (length ps) (take (count_of r) ps) short) ∙ whole)
   where
     short : length (take (count_of r) ps) ≤ length ps
     short = omega (arith, length-take (count_of r) ps)

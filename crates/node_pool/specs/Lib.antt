@@ -3,5 +3,5 @@ pub mod Stored
 pub mod Free
 pub mod Halting
 pub mod Answers
-pub mod Steps
+pub mod Applied
 pub mod Lemmas

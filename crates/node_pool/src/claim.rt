@@ -3,7 +3,7 @@ ghost use Rattle.std.specs.Prelude.{◌≡◌, ℕ, false, Some, OnOk};
 ghost use Rattle.event_core.specs.Holds.{is_busy};
 ghost use Rattle.node_events.specs.declared.event.Event.TheVariants as event;
 ghost use Rattle.node_pool.specs.Answers.{IsClaim, IsReadyToClaim};
-ghost use Rattle.node_pool.specs.Steps.{Applies, Stays};
+ghost use Rattle.node_pool.specs.Applied.{Applies, AppliesNothing};
 
 use crate::{Claim, Pool};
 use node_events::Event;
@@ -14,7 +14,7 @@ impl<D: Disk> Pool<D> {
     /// Makes room for one claim and the release behind it. The one error is want of memory; all stays then too.
     pub fn ready(&mut self, alloc: Global) -> Result<(), AllocError>
         ensures ready { OnOk result (IsReadyToClaim self.new.state) }
-        ensures stays { Stays self.old.state self.new.state }
+        ensures stays { AppliesNothing self.old.state self.new.state }
         ensures journal { self.new.journal ≡ self.old.journal }
         ensures halt { self.new.halt ≡ self.old.halt }
         ensures budget { self.new.budget ≡ self.old.budget }
@@ -30,9 +30,9 @@ impl<D: Disk> Pool<D> {
         requires idle { is_busy self.old.state.state (Some worker) ≡ false }
         ensures answer { IsClaim self.old.halt self.old.state.state result }
         ensures claimed { (n : ℕ) → result ≡ Claim.Node n → Applies self.old.state (Some worker) (event.Claim n) self.new.state }
-        ensures idle { result ≡ Claim.Idle → Stays self.old.state self.new.state }
-        ensures done { result ≡ Claim.Done → Stays self.old.state self.new.state }
-        ensures halted { result ≡ Claim.Halted → Stays self.old.state self.new.state }
+        ensures idle { result ≡ Claim.Idle → AppliesNothing self.old.state self.new.state }
+        ensures done { result ≡ Claim.Done → AppliesNothing self.old.state self.new.state }
+        ensures halted { result ≡ Claim.Halted → AppliesNothing self.old.state self.new.state }
         ensures journal { self.new.journal ≡ self.old.journal }
         ensures halt { self.new.halt ≡ self.old.halt }
         ensures budget { self.new.budget ≡ self.old.budget }

@@ -13,7 +13,7 @@ ghost use Rattle.node_journal.specs.History.{ExtendsMoments};
 ghost use Rattle.node_journal.specs.Whole.{payloads_in};
 ghost use Rattle.node_pool.specs.Halting.{passes_budget, halt_after, fails_by_disk};
 ghost use Rattle.node_pool.specs.Payloads.{model_in};
-ghost use Rattle.node_pool.specs.Steps.{Applies, Stays};
+ghost use Rattle.node_pool.specs.Applied.{Applies, AppliesNothing};
 
 use crate::free::{add_children, reserve_for};
 use crate::payload::payload_of;
@@ -45,7 +45,7 @@ impl<D: Disk> Pool<D> {
         ensures typed { OnOk result (IsEvent event.now) }
         ensures ready { OnOk result (IsReady self.new.state event.now) }
         ensures room { OnOk result (length self.new.state.state.nodes + 2 ≤ vec_capacity self.new.free) }
-        ensures stays { Stays self.old.state self.new.state }
+        ensures stays { AppliesNothing self.old.state self.new.state }
         ensures journal { self.new.journal ≡ self.old.journal }
         ensures halt { self.new.halt ≡ self.old.halt }
         ensures budget { self.new.budget ≡ self.old.budget }
@@ -75,7 +75,7 @@ impl<D: Disk> Pool<D> {
         ensures applied { OnOk result (Applies self.old.state (Some worker) event self.new.state) }
         ensures number { IfOk result (λ r. r.first ≡ length (journaled self.old.state.history) + 1) }
         ensures one { IfOk result (λ r. r.count ≡ 1) }
-        ensures unchanged { OnErr result (Stays self.old.state self.new.state) }
+        ensures unchanged { OnErr result (AppliesNothing self.old.state self.new.state) }
         ensures unhalted { ¬ IsErrOf result CommitFault.Halted }
         ensures within { ¬ IsErrOf result CommitFault.Budget }
         ensures halt { self.new.halt ≡ halt_after self.old.halt result event (D.count self.new.journal.disk) }
@@ -121,7 +121,7 @@ impl<D: Disk> Pool<D> {
         ensures applied { OnOk result (Applies self.old.state (Some worker) event self.new.state) }
         ensures number { IfOk result (λ r. r.first ≡ length (journaled self.old.state.history) + 1) }
         ensures one { IfOk result (λ r. r.count ≡ 1) }
-        ensures unchanged { OnErr result (Stays self.old.state self.new.state) }
+        ensures unchanged { OnErr result (AppliesNothing self.old.state self.new.state) }
         // `Halted` comes exactly where the pool was halted, and else `Budget` exactly where the event is a split that passes the budget.
         ensures halted { IsErrOf result CommitFault.Halted ↔ IsSome self.old.halt }
         ensures spent { IsErrOf result CommitFault.Budget ↔ ((self.old.halt ≡ None) × (passes_budget self.old.budget (length self.old.state.state.nodes) event ≡ true)) }

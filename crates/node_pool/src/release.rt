@@ -2,7 +2,7 @@
 ghost use Rattle.std.specs.Prelude.{◌≡◌, true, Some};
 ghost use Rattle.event_core.specs.Holds.{holds_node};
 ghost use Rattle.node_events.specs.declared.event.Event.TheVariants as event;
-ghost use Rattle.node_pool.specs.Steps.{Applies};
+ghost use Rattle.node_pool.specs.Applied.{Applies};
 
 use crate::Pool;
 use crate::free::insert_node;

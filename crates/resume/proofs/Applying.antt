@@ -7,7 +7,7 @@ use Rattle.event_codec.specs.declared.fault.CodecFault.{CodecFault}
 use Rattle.event_codec.specs.Codes.{code, IsCodable}
 use Rattle.event_codec.specs.Types.{IsEvent}
 use Rattle.event_codec.specs.declared.fault.CodecError.TheVariants.{Fault}
-use Rattle.event_codec.specs.Steps.{Gives}
+use Rattle.event_codec.specs.ReadResults.{Gives}
 use Rattle.event_core.specs.declared.admit.Admit.TheVariants.{Yes}
 use Rattle.event_core.specs.States.{State}
 use Rattle.event_core.specs.Judging.{judged}

@@ -4,7 +4,7 @@ use Rattle.std.proofs.Common.{sym, ◌∙◌, ap, subst}
 use Rattle.outside.specs.Images.{IsImage, AtRest, LeavesOnly, NoMomentPasses, resting}
 use Rattle.outside.specs.declared.moment.Moment.{Moment}
 use Rattle.node_journal.specs.History.{SomeFrom, BeginsWith, IsPrefixOf, Keeps, ExtendsMoments, IsHistory, KeepsHistory}
-use Rattle.node_journal.specs.Records.{Holds, payloads_held, records}
+use Rattle.node_journal.specs.Records.{Intact, payloads_held, records}
 use Rattle.node_journal.specs.Whole.{payloads_in}
 use Rattle.node_journal.specs.Lemmas.Histories.{some_stands, remains_each, remains_stands}
 use Rattle.node_journal.specs.Lemmas.Opening.{kept_opened}
@@ -14,10 +14,10 @@ use Rattle.resume.specs.Lemmas.Histories.{last_moment, keeps_joined}
 use Rattle.resume.proofs.Recovering.{untouched}
 
 -- at each moment a crash left what was there
-pub unchanged : (past past' : List Moment) (now now' : Moment) (ps qs : List (List ℕ)) → records now.seen ≡ Holds ps → qs ≡ ps → LeavesOnly past now past' now' (λ c. records c ≡ records now.seen)
+pub unchanged : (past past' : List Moment) (now now' : Moment) (ps qs : List (List ℕ)) → records now.seen ≡ Intact ps → qs ≡ ps → LeavesOnly past now past' now' (λ c. records c ≡ records now.seen)
     → SomeFrom (length past) past' (λ c. records c ≡ records now.seen) → IsImage now' now'.seen → KeepsHistory (length past) past' now' qs None
 unchanged past past' now now' ps qs holds same run some seen =
-    kept_opened (length past) past now past' now' qs (records now.seen) (holds ∙ ap Holds (sym same)) refl run some (remains_each past now past' now' (records now.seen) run some seen)
+    kept_opened (length past) past now past' now' qs (records now.seen) (holds ∙ ap Intact (sym same)) refl run some (remains_each past now past' now' (records now.seen) run some seen)
 
 -- what a call leaves whose disk did not fail
 pub leaves : (from : ℕ) (past : List Moment) (now : Moment) (ps : List (List ℕ)) (failed : Bool) → ps ≡ payloads_in now → KeepsHistory from past now ps None → LeavesHistory from past now failed
@@ -30,12 +30,12 @@ leaves from past now ps failed same kept = record {
 pub leaves_failed : (from : ℕ) (past : List Moment) (now : Moment) → IsHistory from (past ++ now ∷ []) → LeavesHistory from past now true
 leaves_failed from past now history = record { history = history; prefixes = λ sound. absurd cc }
 
-held_there : (now : Moment) (ps : List (List ℕ)) → records now.seen ≡ Holds ps → ps ≡ payloads_in now
+held_there : (now : Moment) (ps : List (List ℕ)) → records now.seen ≡ Intact ps → ps ≡ payloads_in now
 unfolding payloads_in
 held_there now ps holds = sym (ap payloads_held holds)
 
 -- no moment went by
-pub untouched_history : (past past' : List Moment) (now now' : Moment) (ps : List (List ℕ)) (failed : Bool) → AtRest now → records now.seen ≡ Holds ps → NoMomentPasses past now past' now'
+pub untouched_history : (past past' : List Moment) (now now' : Moment) (ps : List (List ℕ)) (failed : Bool) → AtRest now → records now.seen ≡ Intact ps → NoMomentPasses past now past' now'
     → LeavesHistory (length past) past' now' failed
 untouched_history past past' now now' ps failed rests holds stands =
     leaves (length past) past' now' ps failed (held_there now ps holds ∙ ap payloads_in (sym stands.same))
@@ -43,7 +43,7 @@ untouched_history past past' now now' ps failed rests holds stands =
     (some_stands past now past' now' (λ c. records c ≡ records now.seen) stands) (λ qs. remains_stands past now past' now' (λ c. BeginsWith qs (records c)) stands))
 
 -- an empty journal was recovered, and then a payload was added to it, or a part of it
-pub begun_history : (past mid past' : List Moment) (now between now' : Moment) (opened opened' : ℕ) (ps : List (List ℕ)) (fault : Option ℕ) → records now.seen ≡ Holds []
+pub begun_history : (past mid past' : List Moment) (now between now' : Moment) (opened opened' : ℕ) (ps : List (List ℕ)) (fault : Option ℕ) → records now.seen ≡ Intact []
     → LeavesOnly past now mid between (λ c. records c ≡ records now.seen) → SomeFrom (length past) mid (λ c. records c ≡ records now.seen) → IsImage between between.seen → opened ≤ length mid
     → ExtendsMoments (mid ++ between ∷ []) (past' ++ now' ∷ []) → opened' ≡ opened → KeepsHistory opened' past' now' ps fault → KeepsHistory (length past) past' now' ps fault
 begun_history past mid past' now between now' opened opened' ps fault empty run some seen begun extends same next =

@@ -7,7 +7,7 @@ use Rattle.event_codec.specs.Laws.{CodesTellApart, RecordsTellApart}
 use Rattle.event_core.specs.declared.entry.Entry.{Entry}
 use Rattle.event_core.specs.Histories.{state_of}
 use Rattle.node_journal.specs.Frames.{places_from}
-use Rattle.node_journal.specs.Records.{Records, Holds, Foreign, BrokenAt, records}
+use Rattle.node_journal.specs.Records.{Records, Intact, Foreign, BrokenAt, records}
 use Rattle.node_pool.specs.Payloads.{model_in}
 use Rattle.resume.specs.declared.fault.ResumeFault.{ResumeFault}
 use Rattle.resume.specs.declared.fault.ResumeFault.TheVariants as fault
@@ -95,10 +95,10 @@ not_both model ps at at2 o (inr e) = no_other model (model_in ps) at e.0 o
 
 -- ---- one refusal
 damage_places : (P : List (List ℕ) → ℕ → Type 0) → ((ps : List (List ℕ)) (at at2 : ℕ) → P ps at → P ps at2 → at ≡ at2) → (r : Records) (at at2 : ℕ)
-    → (r ≡ BrokenAt at) ⊎ ((ps : List (List ℕ)) × (r ≡ Holds ps) × P ps at) → (r ≡ BrokenAt at2) ⊎ ((ps : List (List ℕ)) × (r ≡ Holds ps) × P ps at2) → at ≡ at2
+    → (r ≡ BrokenAt at) ⊎ ((ps : List (List ℕ)) × (r ≡ Intact ps) × P ps at) → (r ≡ BrokenAt at2) ⊎ ((ps : List (List ℕ)) × (r ≡ Intact ps) × P ps at2) → at ≡ at2
 damage_places P one r at at2 (inl a) (inl b) = let same : BrokenAt at ≡ BrokenAt at2 = sym a ∙ b in cc
-damage_places P one r at at2 (inl a) (inr b) = let same : BrokenAt at ≡ Holds b.0 = sym a ∙ b.1 in absurd cc
-damage_places P one r at at2 (inr a) (inl b) = let same : BrokenAt at2 ≡ Holds a.0 = sym b ∙ a.1 in absurd cc
+damage_places P one r at at2 (inl a) (inr b) = let same : BrokenAt at ≡ Intact b.0 = sym a ∙ b.1 in absurd cc
+damage_places P one r at at2 (inr a) (inl b) = let same : BrokenAt at2 ≡ Intact a.0 = sym b ∙ a.1 in absurd cc
 damage_places P one r at at2 (inr a) (inr b) = one a.0 at at2 a.2 (subst (λ (l : List (List ℕ)). P l at2) (same_payloads a.0 b.0 r a.1 b.1) b.2)
 
 module _ (law : CodesTellApart) (records_law : RecordsTellApart) where
@@ -111,15 +111,15 @@ module _ (law : CodesTellApart) (records_law : RecordsTellApart) where
   one_of_any r f (fault.OtherModel at) is is2 h k = absurd k.2
   one_of_any r fault.NotAJournal fault.NotAJournal is is2 h k = refl
   one_of_any r fault.NoModel fault.NoModel is is2 h k = refl
-  one_of_any r fault.NotAJournal fault.NoModel is is2 h k = let same : Foreign ≡ Holds k.0 = sym h ∙ k.1 in absurd cc
-  one_of_any r fault.NoModel fault.NotAJournal is is2 h k = let same : Foreign ≡ Holds h.0 = sym k ∙ h.1 in absurd cc
+  one_of_any r fault.NotAJournal fault.NoModel is is2 h k = let same : Foreign ≡ Intact k.0 = sym h ∙ k.1 in absurd cc
+  one_of_any r fault.NoModel fault.NotAJournal is is2 h k = let same : Foreign ≡ Intact h.0 = sym k ∙ h.1 in absurd cc
   one_of_any r fault.NotAJournal (fault.Damaged at) is is2 h (inl k) = let same : Foreign ≡ BrokenAt at = sym h ∙ k in absurd cc
-  one_of_any r fault.NotAJournal (fault.Damaged at) is is2 h (inr k) = let same : Foreign ≡ Holds k.0 = sym h ∙ k.1 in absurd cc
+  one_of_any r fault.NotAJournal (fault.Damaged at) is is2 h (inr k) = let same : Foreign ≡ Intact k.0 = sym h ∙ k.1 in absurd cc
   one_of_any r (fault.Damaged at) fault.NotAJournal is is2 (inl h) k = let same : Foreign ≡ BrokenAt at = sym k ∙ h in absurd cc
-  one_of_any r (fault.Damaged at) fault.NotAJournal is is2 (inr h) k = let same : Foreign ≡ Holds h.0 = sym k ∙ h.1 in absurd cc
-  one_of_any r fault.NoModel (fault.Damaged at) is is2 h (inl k) = let same : BrokenAt at ≡ Holds h.0 = sym k ∙ h.1 in absurd cc
+  one_of_any r (fault.Damaged at) fault.NotAJournal is is2 (inr h) k = let same : Foreign ≡ Intact h.0 = sym k ∙ h.1 in absurd cc
+  one_of_any r fault.NoModel (fault.Damaged at) is is2 h (inl k) = let same : BrokenAt at ≡ Intact h.0 = sym k ∙ h.1 in absurd cc
   one_of_any r fault.NoModel (fault.Damaged at) is is2 h (inr k) = absurd (none_damaged k.0 at (same_payloads h.0 k.0 r h.1 k.1 ∙ h.2) k.2)
-  one_of_any r (fault.Damaged at) fault.NoModel is is2 (inl h) k = let same : BrokenAt at ≡ Holds k.0 = sym h ∙ k.1 in absurd cc
+  one_of_any r (fault.Damaged at) fault.NoModel is is2 (inl h) k = let same : BrokenAt at ≡ Intact k.0 = sym h ∙ k.1 in absurd cc
   one_of_any r (fault.Damaged at) fault.NoModel is is2 (inr h) k = absurd (none_damaged h.0 at (same_payloads k.0 h.0 r k.1 h.1 ∙ k.2) h.2)
   one_of_any r (fault.Damaged at) (fault.Damaged at2) is is2 h k = ap fault.Damaged (damage_places IsDamagedAt (one_damage law records_law) r at at2 h k)
 
@@ -135,15 +135,15 @@ module _ (law : CodesTellApart) (records_law : RecordsTellApart) where
   one_of_own model r f fault.NoModel is is2 h k = absurd k.2
   one_of_own model r fault.NotAJournal fault.NotAJournal is is2 h k = refl
   one_of_own model r fault.NotAJournal (fault.Damaged at) is is2 h (inl k) = let same : Foreign ≡ BrokenAt at = sym h ∙ k in absurd cc
-  one_of_own model r fault.NotAJournal (fault.Damaged at) is is2 h (inr k) = let same : Foreign ≡ Holds k.0 = sym h ∙ k.1 in absurd cc
+  one_of_own model r fault.NotAJournal (fault.Damaged at) is is2 h (inr k) = let same : Foreign ≡ Intact k.0 = sym h ∙ k.1 in absurd cc
   one_of_own model r (fault.Damaged at) fault.NotAJournal is is2 (inl h) k = let same : Foreign ≡ BrokenAt at = sym k ∙ h in absurd cc
-  one_of_own model r (fault.Damaged at) fault.NotAJournal is is2 (inr h) k = let same : Foreign ≡ Holds h.0 = sym k ∙ h.1 in absurd cc
-  one_of_own model r fault.NotAJournal (fault.OtherModel at) is is2 h k = let same : Foreign ≡ Holds k.0 = sym h ∙ k.1 in absurd cc
-  one_of_own model r (fault.OtherModel at) fault.NotAJournal is is2 h k = let same : Foreign ≡ Holds h.0 = sym k ∙ h.1 in absurd cc
-  one_of_own model r (fault.OtherModel at) (fault.Damaged at2) is is2 h (inl k) = let same : BrokenAt at2 ≡ Holds h.0 = sym k ∙ h.1 in absurd cc
+  one_of_own model r (fault.Damaged at) fault.NotAJournal is is2 (inr h) k = let same : Foreign ≡ Intact h.0 = sym k ∙ h.1 in absurd cc
+  one_of_own model r fault.NotAJournal (fault.OtherModel at) is is2 h k = let same : Foreign ≡ Intact k.0 = sym h ∙ k.1 in absurd cc
+  one_of_own model r (fault.OtherModel at) fault.NotAJournal is is2 h k = let same : Foreign ≡ Intact h.0 = sym k ∙ h.1 in absurd cc
+  one_of_own model r (fault.OtherModel at) (fault.Damaged at2) is is2 h (inl k) = let same : BrokenAt at2 ≡ Intact h.0 = sym k ∙ h.1 in absurd cc
   one_of_own model r (fault.OtherModel at) (fault.Damaged at2) is is2 h (inr k) =
       absurd (not_both model h.0 at at2 h.2.1 (subst (λ (l : List (List ℕ)). IsDamagedFor model l at2) (same_payloads h.0 k.0 r h.1 k.1) k.2))
-  one_of_own model r (fault.Damaged at) (fault.OtherModel at2) is is2 (inl h) k = let same : BrokenAt at ≡ Holds k.0 = sym h ∙ k.1 in absurd cc
+  one_of_own model r (fault.Damaged at) (fault.OtherModel at2) is is2 (inl h) k = let same : BrokenAt at ≡ Intact k.0 = sym h ∙ k.1 in absurd cc
   one_of_own model r (fault.Damaged at) (fault.OtherModel at2) is is2 (inr h) k =
       absurd (not_both model k.0 at2 at k.2.1 (subst (λ (l : List (List ℕ)). IsDamagedFor model l at) (same_payloads k.0 h.0 r k.1 h.1) h.2))
   one_of_own model r (fault.OtherModel at) (fault.OtherModel at2) is is2 h k =

@@ -10,7 +10,7 @@ use Rattle.problem.specs.Problem.{Problem}
 use Rattle.event_codec.specs.Codes.{code}
 use Rattle.event_core.specs.declared.entry.Entry.{Entry}
 use Rattle.event_core.specs.Histories.{journaled}
-use Rattle.node_journal.specs.Records.{Records, Holds, records}
+use Rattle.node_journal.specs.Records.{Records, Intact, records}
 use Rattle.node_journal.specs.Appends.{IsWithOrWithout}
 use Rattle.node_pool.specs.Payloads.{codes, model_in, IsJournalOf}
 use Rattle.resume.specs.Models.{IsModelOf}
@@ -43,9 +43,9 @@ pub untouched : (past past' : List Moment) (now now' : Moment) (P : List ℕ →
 untouched past past' now now' P rests here stands = stays_on past past past' now now now' P (started past now P (λ c is. subst P (sym (rests c is)) here)) stands
 
 -- what a crash leaves while the record of the model is added to an empty journal
-begun : (before : Records) (model : List ℕ) (ps : List (List ℕ)) → before ≡ Holds ps → ps ≡ [] → (c : List ℕ) → IsWithOrWithout [] model c → IsAsBeforeOrBegun before model c
-begun before model ps held none c (inl same) = inl (same ∙ ap Holds (sym none) ∙ sym held)
-begun before model ps held none c (inr more) = inr (held ∙ ap Holds none, more)
+begun : (before : Records) (model : List ℕ) (ps : List (List ℕ)) → before ≡ Intact ps → ps ≡ [] → (c : List ℕ) → IsWithOrWithout [] model c → IsAsBeforeOrBegun before model c
+begun before model ps held none c (inl same) = inl (same ∙ ap Intact (sym none) ∙ sym held)
+begun before model ps held none c (inr more) = inr (held ∙ ap Intact none, more)
 
 -- an empty journal was recovered
 pub recovered : (before : Records) (model : List ℕ) (past mid : List Moment) (now between : Moment) → LeavesOnly past now mid between (λ c. records c ≡ before)
@@ -53,7 +53,7 @@ pub recovered : (before : Records) (model : List ℕ) (past mid : List Moment) (
 recovered before model past mid now between run = weaker past now mid between (λ c. records c ≡ before) (IsAsBeforeOrBegun before model) (λ c same. inl same) run
 
 -- and then the record of the model was added, or a part of it
-pub added : (before : Records) (model : List ℕ) (held ps : List (List ℕ)) (past mid past' : List Moment) (now between now' : Moment) → before ≡ Holds ps → ps ≡ [] → held ≡ ps
+pub added : (before : Records) (model : List ℕ) (held ps : List (List ℕ)) (past mid past' : List Moment) (now between now' : Moment) → before ≡ Intact ps → ps ≡ [] → held ≡ ps
     → LeavesOnly past now mid between (λ c. records c ≡ before) → LeavesOnly mid between past' now' (IsWithOrWithout held model) → LeavesOnly past now past' now' (IsAsBeforeOrBegun before model)
 added before model held ps past mid past' now between now' is none same first next =
     joined past mid past' now between now' (IsAsBeforeOrBegun before model) (recovered before model past mid now between first)

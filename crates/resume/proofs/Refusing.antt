@@ -1,7 +1,7 @@
 -- Which refusal comes of which.
 use Rattle.std.specs.Prelude.{◌≡◌, ℕ, ◌<◌, List, length, refl}
 use Rattle.std.proofs.Common.{sym, subst, inl, inr}
-use Rattle.node_journal.specs.Records.{Records, Holds}
+use Rattle.node_journal.specs.Records.{Records, Intact}
 use Rattle.node_journal.specs.declared.fault.JournalFault.{JournalFault}
 use Rattle.node_journal.specs.declared.fault.JournalFault.TheVariants as journal
 use Rattle.node_journal.specs.Index.{Refuses as RefusesContent}
@@ -61,7 +61,7 @@ scan_refused P journal.Disk r h = tt
 scan_refused P journal.Memory r h = tt
 
 -- what payloads call for, their disk calls for
-pub content_refused : (f : ResumeFault) (r : Records) (ps : List (List ℕ)) → r ≡ Holds ps → RefusesPayloads f ps → Refuses RefusesPayloads f r
+pub content_refused : (f : ResumeFault) (r : Records) (ps : List (List ℕ)) → r ≡ Intact ps → RefusesPayloads f ps → Refuses RefusesPayloads f r
 content_refused fault.NotAJournal r ps e h = absurd h
 content_refused (fault.Damaged at) r ps e h = inr (ps, e, h)
 content_refused (fault.OtherModel at) r ps e h = (ps, e, h)
@@ -69,7 +69,7 @@ content_refused fault.NoModel r ps e h = (ps, e, h)
 content_refused fault.Disk r ps e h = tt
 content_refused fault.Memory r ps e h = tt
 
-pub content_refused_for : (model : List ℕ) (f : ResumeFault) (r : Records) (ps : List (List ℕ)) → r ≡ Holds ps → RefusesPayloadsFor model f ps → Refuses (RefusesPayloadsFor model) f r
+pub content_refused_for : (model : List ℕ) (f : ResumeFault) (r : Records) (ps : List (List ℕ)) → r ≡ Intact ps → RefusesPayloadsFor model f ps → Refuses (RefusesPayloadsFor model) f r
 content_refused_for model fault.NotAJournal r ps e h = absurd h
 content_refused_for model (fault.Damaged at) r ps e h = inr (ps, e, h)
 content_refused_for model (fault.OtherModel at) r ps e h = (ps, e, h)

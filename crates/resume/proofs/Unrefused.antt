@@ -12,7 +12,7 @@ use Rattle.event_core.specs.States.{State, first_state}
 use Rattle.event_core.specs.After.{after}
 use Rattle.event_core.specs.Histories.{state_from, state_of, AreLegal, IsLegal}
 use Rattle.event_core.specs.Lemmas.Running.{state_from-append, legal_back}
-use Rattle.node_journal.specs.Records.{Records, Holds, payloads_held, records}
+use Rattle.node_journal.specs.Records.{Records, Intact, payloads_held, records}
 use Rattle.node_pool.specs.Payloads.{codes, model_in}
 use Rattle.node_pool.specs.Stored.{IsStored}
 use Rattle.resume.specs.declared.fault.ResumeFault.{ResumeFault}
@@ -28,7 +28,7 @@ use Rattle.resume.specs.Lemmas.Standing.{stored_take}
 use Rattle.node_tree.specs.Limits.{most_nodes}
 
 -- ---- payloads that stand for a problem
-pub same_payloads : (ps qs : List (List ℕ)) (r : Records) → r ≡ Holds ps → r ≡ Holds qs → qs ≡ ps
+pub same_payloads : (ps qs : List (List ℕ)) (r : Records) → r ≡ Intact ps → r ≡ Intact qs → qs ≡ ps
 same_payloads ps qs r a b = ap payloads_held (sym b ∙ a)
 
 no_damaged_model : (p : Problem) (ps : List (List ℕ)) (es : List Entry) (at : ℕ) → StandsFor p ps es → IsDamagedModel ps at → ⊥
@@ -119,7 +119,7 @@ no_damaged_event : CodesTellApart → RecordsTellApart → (p : Problem) (ps : L
 no_damaged_event law records_law p ps es at stands h = damaged_at law records_law p h.problem ps es h.events h.number stands h.inside h.before h.none
 
 -- ---- of a command that opens its journal whatever its model is
-stands_unrefused : CodesTellApart → RecordsTellApart → (p : Problem) (r : Records) (ps : List (List ℕ)) (es : List Entry) → r ≡ Holds ps → StandsFor p ps es → (f : ResumeFault) → is_refusal f ≡ true → Refuses RefusesPayloads f r → ⊥
+stands_unrefused : CodesTellApart → RecordsTellApart → (p : Problem) (r : Records) (ps : List (List ℕ)) (es : List Entry) → r ≡ Intact ps → StandsFor p ps es → (f : ResumeFault) → is_refusal f ≡ true → Refuses RefusesPayloads f r → ⊥
 stands_unrefused law records_law p r ps es held stands fault.NotAJournal is h = absurd cc
 stands_unrefused law records_law p r ps es held stands (fault.Damaged at) is (inl h) = absurd cc
 stands_unrefused law records_law p r ps es held stands (fault.Damaged at) is (inr h) =
@@ -131,7 +131,7 @@ stands_unrefused law records_law p r ps es held stands fault.Disk is h = absurd 
 stands_unrefused law records_law p r ps es held stands fault.Memory is h = absurd cc
 
 -- ---- of a command that opens it for its model
-unrefused_for : CodesTellApart → RecordsTellApart → (model : List ℕ) (r : Records) (ps : List (List ℕ)) → r ≡ Holds ps → (ps ≡ []) ⊎ ((p : Problem) × (es : List Entry) × (model_in ps ≡ model) × StandsFor p ps es)
+unrefused_for : CodesTellApart → RecordsTellApart → (model : List ℕ) (r : Records) (ps : List (List ℕ)) → r ≡ Intact ps → (ps ≡ []) ⊎ ((p : Problem) × (es : List Entry) × (model_in ps ≡ model) × StandsFor p ps es)
     → (f : ResumeFault) → is_refusal f ≡ true → Refuses (RefusesPayloadsFor model) f r → ⊥
 unrefused_for law records_law model r ps held what fault.NotAJournal is h = absurd cc
 unrefused_for law records_law model r ps held what (fault.Damaged at) is (inl h) = absurd cc

@@ -1,7 +1,7 @@
 -- What a crash leaves while a journal is opened.
 use Rattle.std.specs.Prelude.{◌≡◌, ◌⊎◌, ℕ, Bool, false, List, [], ◌∷◌, ◌++◌}
 use Rattle.outside.specs.declared.moment.Moment.{Moment}
-use Rattle.node_journal.specs.Records.{Records, Holds, records}
+use Rattle.node_journal.specs.Records.{Records, Intact, records}
 use Rattle.node_journal.specs.History.{EachFrom, IsPrefixOf, IsHistory}
 use Rattle.node_journal.specs.Whole.{payloads_in}
 
@@ -11,7 +11,7 @@ IsAsBefore before c = records c ≡ before
 
 -- or, where there were none, the record of this model alone
 abbrev pub IsAsBeforeOrBegun : Records → List ℕ → List ℕ → Type 0
-IsAsBeforeOrBegun before model c = IsAsBefore before c ⊎ ((before ≡ Holds []) × (records c ≡ Holds (model ∷ [])))
+IsAsBeforeOrBegun before model c = IsAsBefore before c ⊎ ((before ≡ Intact []) × (records c ≡ Intact (model ∷ [])))
 
 -- What crashes leave at the moments of a call that has ended, from the moment of this number on: a history, and unless the disk failed each leaves a
 -- prefix of the payloads that it holds at the end.

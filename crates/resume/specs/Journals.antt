@@ -5,7 +5,7 @@ use Rattle.event_core.specs.declared.entry.Entry.{Entry}
 use Rattle.event_core.specs.Histories.{state_of}
 use Rattle.event_core.specs.Rooms.{Recorded}
 use Rattle.node_journal.specs.Frames.{places_from}
-use Rattle.node_journal.specs.Records.{Holds, records}
+use Rattle.node_journal.specs.Records.{Intact, records}
 use Rattle.node_pool.specs.Payloads.{model_in}
 use Rattle.resume.specs.Models.{IsModelOf, IsNoModel}
 use Rattle.resume.specs.Events.{IsReadAs, IsNoEvent}
@@ -23,7 +23,7 @@ IsReadFrom c = (ps : List (List ℕ)) × StandsFor c.state.problem ps c.history
 
 -- the bytes stand for the problem and events of its search
 abbrev pub StandsOnDisk : Problem → List ℕ → Type 0
-StandsOnDisk p c = (ps : List (List ℕ)) × (es : List Entry) × (records c ≡ Holds ps) × StandsFor p ps es
+StandsOnDisk p c = (ps : List (List ℕ)) × (es : List Entry) × (records c ≡ Intact ps) × StandsFor p ps es
 
 -- they stand for some problem
 abbrev pub StandsForSome : List ℕ → Type 0
@@ -31,11 +31,11 @@ StandsForSome c = (p : Problem) × StandsOnDisk p c
 
 -- The bytes are a journal without a payload, or one that stands for the problem and events of its search, each of them legal after those before it.
 abbrev pub IsFreshOrStands : Problem → List ℕ → Type 0
-IsFreshOrStands p c = (records c ≡ Holds []) ⊎ StandsOnDisk p c
+IsFreshOrStands p c = (records c ≡ Intact []) ⊎ StandsOnDisk p c
 
 -- the same, with this record of the model
 abbrev pub IsFreshOrOf : List ℕ → Problem → List ℕ → Type 0
-IsFreshOrOf model p c = (records c ≡ Holds []) ⊎ ((ps : List (List ℕ)) × (es : List Entry) × (records c ≡ Holds ps) × (model_in ps ≡ model) × StandsFor p ps es)
+IsFreshOrOf model p c = (records c ≡ Intact []) ⊎ ((ps : List (List ℕ)) × (es : List Entry) × (records c ≡ Intact ps) × (model_in ps ≡ model) × StandsFor p ps es)
 
 -- there is a first payload, and it is the record of no model; its gate stands behind the mark
 pub record IsDamagedModel (ps : List (List ℕ)) (at : ℕ) : Type 0 where

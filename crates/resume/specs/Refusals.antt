@@ -1,6 +1,6 @@
 -- Which content of a disk is refused, and how.
 use Rattle.std.specs.Prelude.{◌≡◌, ◌⊎◌, ℕ, ◌<◌, Bool, true, false, List, [], length, Result, Ok, Err}
-use Rattle.node_journal.specs.Records.{Records, Holds, Foreign, BrokenAt}
+use Rattle.node_journal.specs.Records.{Records, Intact, Foreign, BrokenAt}
 use Rattle.resume.specs.declared.fault.ResumeFault.{ResumeFault}
 use Rattle.resume.specs.declared.fault.ResumeFault.TheVariants as fault
 use Rattle.resume.specs.declared.fault.PayloadFault.{PayloadFault}
@@ -66,9 +66,9 @@ RefusesPayloadsFor model fault.Memory ps = Unit {0}
 -- The refusal that the content of a disk calls for, by what its payloads call for. A fault of the disk and want of memory say nothing of it.
 abbrev pub Refuses : (ResumeFault → List (List ℕ) → Type 0) → ResumeFault → Records → Type 0
 Refuses P fault.NotAJournal r = r ≡ Foreign
-Refuses P (fault.Damaged at) r = (r ≡ BrokenAt at) ⊎ ((ps : List (List ℕ)) × (r ≡ Holds ps) × P (fault.Damaged at) ps)
-Refuses P (fault.OtherModel at) r = (ps : List (List ℕ)) × (r ≡ Holds ps) × P (fault.OtherModel at) ps
-Refuses P fault.NoModel r = (ps : List (List ℕ)) × (r ≡ Holds ps) × P fault.NoModel ps
+Refuses P (fault.Damaged at) r = (r ≡ BrokenAt at) ⊎ ((ps : List (List ℕ)) × (r ≡ Intact ps) × P (fault.Damaged at) ps)
+Refuses P (fault.OtherModel at) r = (ps : List (List ℕ)) × (r ≡ Intact ps) × P (fault.OtherModel at) ps
+Refuses P fault.NoModel r = (ps : List (List ℕ)) × (r ≡ Intact ps) × P fault.NoModel ps
 Refuses P fault.Disk r = Unit {0}
 Refuses P fault.Memory r = Unit {0}
 

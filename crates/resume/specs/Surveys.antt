@@ -4,7 +4,7 @@ use Rattle.event_core.specs.declared.entry.Entry.{Entry}
 use Rattle.event_core.specs.States.{State, open_count, cutoff}
 use Rattle.event_core.specs.Histories.{state_of}
 use Rattle.problem.specs.Problem.{Problem}
-use Rattle.node_journal.specs.Records.{Records, Holds}
+use Rattle.node_journal.specs.Records.{Records, Intact}
 use Rattle.resume.specs.declared.figures.Survey.{Survey}
 use Rattle.resume.specs.Journals.{StandsFor}
 
@@ -19,7 +19,7 @@ pub record HasFigures (s : State) (events : ℕ) (v : Survey) : Type 0 where
 -- The records are payloads that stand for a problem and its events, and these are the figures of the state after them.
 pub record IsSurveyOf (before : Records) (v : Survey) : Type 0 where
   pub payloads : List (List ℕ)
-  pub held : before ≡ Holds payloads
+  pub held : before ≡ Intact payloads
   pub problem : Problem
   pub events : List Entry
   pub stands : StandsFor problem payloads events

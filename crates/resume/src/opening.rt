@@ -7,7 +7,7 @@ ghost use Rattle.event_codec.specs.Models.{model_code};
 ghost use Rattle.event_core.specs.States.{first_state};
 ghost use Rattle.event_core.specs.Histories.{journaled};
 ghost use Rattle.node_journal.specs.History.{Keeps, KeepsHistory};
-ghost use Rattle.node_journal.specs.Records.{records, Holds};
+ghost use Rattle.node_journal.specs.Records.{records, Intact};
 ghost use Rattle.node_journal.specs.Views.{payloads_of, IsScanOf};
 ghost use Rattle.node_journal.specs.Whole.{payloads_in};
 ghost use Rattle.node_pool.specs.Payloads.{codes, IsJournalOf};
@@ -77,7 +77,7 @@ fn continue_journal<D: Disk>(
     ensures any_moment { D.tells ≡ true → AtRest (D.now disk) → IfOk result (λ p. LeavesOnly (D.past disk) (D.now disk) (D.past p.journal.disk) (D.now p.journal.disk) (IsAsBefore (records (D.now disk).seen))) }
     ensures any_moment_err { D.tells ≡ true → AtRest (D.now disk) → IfErr result (λ e. LeavesOnly (D.past disk) (D.now disk) (D.past e.1) (D.now e.1) (IsAsBefore (records (D.now disk).seen))) }
     ensures history { D.tells ≡ true → AtRest (D.now disk) → IfOk result (λ p. KeepsHistory (length (D.past disk)) (D.past p.journal.disk) (D.now p.journal.disk) (payloads_in (D.now p.journal.disk)) None) }
-    ensures history_err { D.tells ≡ true → AtRest (D.now disk) → (ps : List (List ℕ)) → records (D.now disk).seen ≡ Holds ps → IfErr result (λ e. LeavesHistory (length (D.past disk)) (D.past e.1) (D.now e.1) (is_disk e.0)) }
+    ensures history_err { D.tells ≡ true → AtRest (D.now disk) → (ps : List (List ℕ)) → records (D.now disk).seen ≡ Intact ps → IfErr result (λ e. LeavesHistory (length (D.past disk)) (D.past e.1) (D.now e.1) (is_disk e.0)) }
     ensures rests_err { D.tells ≡ true → AtRest (D.now disk) → IfErr result (λ e. is_disk e.0 ≡ false → AtRest (D.now e.1)) }
     ensures cause { IfOk result (λ p. D.count p.journal.disk ≡ D.count disk) }
     ensures cause_err { IfErr result (λ e. Counts (D.count disk) (D.count e.1) (is_disk e.0)) }
@@ -102,12 +102,12 @@ fn begin_journal<D: Disk>(
     ensures count { IfOk result (λ j. j.count ≡ 1) }
     ensures sound { IfOk result (λ j. j.fault ≡ None) }
     ensures rests { D.tells ≡ true → IfOk result (λ j. AtRest (D.now j.disk)) }
-    ensures before { D.tells ≡ true → records (D.now disk).seen ≡ Holds [] }
+    ensures before { D.tells ≡ true → records (D.now disk).seen ≡ Intact [] }
     ensures opened { D.tells ≡ true → IfOk result (λ j. j.opened ≡ length (D.past disk) + 1) }
     ensures any_moment { D.tells ≡ true → AtRest (D.now disk) → IfOk result (λ j. LeavesOnly (D.past disk) (D.now disk) (D.past j.disk) (D.now j.disk) (IsAsBeforeOrBegun (records (D.now disk).seen) model.now)) }
     ensures any_moment_err { D.tells ≡ true → AtRest (D.now disk) → IfErr result (λ e. LeavesOnly (D.past disk) (D.now disk) (D.past e.1) (D.now e.1) (IsAsBeforeOrBegun (records (D.now disk).seen) model.now)) }
     ensures history { D.tells ≡ true → AtRest (D.now disk) → IfOk result (λ j. KeepsHistory (length (D.past disk)) (D.past j.disk) (D.now j.disk) (payloads_in (D.now j.disk)) None) }
-    ensures history_err { D.tells ≡ true → AtRest (D.now disk) → (ps : List (List ℕ)) → records (D.now disk).seen ≡ Holds ps → IfErr result (λ e. LeavesHistory (length (D.past disk)) (D.past e.1) (D.now e.1) (is_disk e.0)) }
+    ensures history_err { D.tells ≡ true → AtRest (D.now disk) → (ps : List (List ℕ)) → records (D.now disk).seen ≡ Intact ps → IfErr result (λ e. LeavesHistory (length (D.past disk)) (D.past e.1) (D.now e.1) (is_disk e.0)) }
     ensures rests_err { D.tells ≡ true → AtRest (D.now disk) → IfErr result (λ e. is_disk e.0 ≡ false → AtRest (D.now e.1)) }
     ensures cause { IfOk result (λ j. D.count j.disk ≡ D.count disk) }
     ensures cause_err { IfErr result (λ e. Counts (D.count disk) (D.count e.1) (is_disk e.0)) }
@@ -150,7 +150,7 @@ fn begin_search<D: Disk>(
     ensures any_moment { D.tells ≡ true → AtRest (D.now disk) → IfOk result (λ p. LeavesOnly (D.past disk) (D.now disk) (D.past p.journal.disk) (D.now p.journal.disk) (IsAsBeforeOrBegun (records (D.now disk).seen) model.now)) }
     ensures any_moment_err { D.tells ≡ true → AtRest (D.now disk) → IfErr result (λ e. LeavesOnly (D.past disk) (D.now disk) (D.past e.1) (D.now e.1) (IsAsBeforeOrBegun (records (D.now disk).seen) model.now)) }
     ensures history { D.tells ≡ true → AtRest (D.now disk) → IfOk result (λ p. KeepsHistory (length (D.past disk)) (D.past p.journal.disk) (D.now p.journal.disk) (payloads_in (D.now p.journal.disk)) None) }
-    ensures history_err { D.tells ≡ true → AtRest (D.now disk) → (ps : List (List ℕ)) → records (D.now disk).seen ≡ Holds ps → IfErr result (λ e. LeavesHistory (length (D.past disk)) (D.past e.1) (D.now e.1) (is_disk e.0)) }
+    ensures history_err { D.tells ≡ true → AtRest (D.now disk) → (ps : List (List ℕ)) → records (D.now disk).seen ≡ Intact ps → IfErr result (λ e. LeavesHistory (length (D.past disk)) (D.past e.1) (D.now e.1) (is_disk e.0)) }
     ensures rests_err { D.tells ≡ true → AtRest (D.now disk) → IfErr result (λ e. is_disk e.0 ≡ false → AtRest (D.now e.1)) }
     ensures cause { IfOk result (λ p. D.count p.journal.disk ≡ D.count disk) }
     ensures cause_err { IfErr result (λ e. Counts (D.count disk) (D.count e.1) (is_disk e.0)) }
@@ -177,7 +177,7 @@ pub fn open_any<B: BuildHasher + Drop, D: Disk>(
 ) -> Result<Pool<D>, (ResumeFault, D)>
     requires { budget ≤ most_nodes }
     // The journal held these payloads, and it still does.
-    ensures held { D.tells ≡ true → IfOk result (λ p. records (D.now disk).seen ≡ Holds (payloads_in (D.now p.journal.disk))) }
+    ensures held { D.tells ≡ true → IfOk result (λ p. records (D.now disk).seen ≡ Intact (payloads_in (D.now p.journal.disk))) }
     ensures stands { D.tells ≡ true → IfOk result (λ p. StandsFor p.state.state.problem (payloads_in (D.now p.journal.disk)) p.state.history) }
     // Also on a disk that tells nothing: what was read stands for the problem and the events.
     ensures read { IfOk result (λ p. IsReadFrom p.state) }
@@ -197,7 +197,7 @@ pub fn open_any<B: BuildHasher + Drop, D: Disk>(
     // Where the disk was at rest with a journal, what all crashes at one moment leave, all crashes at each later moment leave, from the first moment on.
     // Unless the disk failed, each leaves a prefix of the payloads at the end.
     ensures history { D.tells ≡ true → AtRest (D.now disk) → IfOk result (λ p. KeepsHistory (length (D.past disk)) (D.past p.journal.disk) (D.now p.journal.disk) (payloads_in (D.now p.journal.disk)) None) }
-    ensures history_err { D.tells ≡ true → AtRest (D.now disk) → (ps : List (List ℕ)) → records (D.now disk).seen ≡ Holds ps → IfErr result (λ e. LeavesHistory (length (D.past disk)) (D.past e.1) (D.now e.1) (is_disk e.0)) }
+    ensures history_err { D.tells ≡ true → AtRest (D.now disk) → (ps : List (List ℕ)) → records (D.now disk).seen ≡ Intact ps → IfErr result (λ e. LeavesHistory (length (D.past disk)) (D.past e.1) (D.now e.1) (is_disk e.0)) }
     // Unless the disk failed, it comes back at rest.
     ensures rests_err { D.tells ≡ true → AtRest (D.now disk) → IfErr result (λ e. is_disk e.0 ≡ false → AtRest (D.now e.1)) }
     ensures cause { IfOk result (λ p. D.count p.journal.disk ≡ D.count disk) }
@@ -231,7 +231,7 @@ pub fn open_pool<B: BuildHasher + Drop, D: Disk>(
     requires few { budget ≤ most_nodes }
     requires model { IsTextOf text.now upper problem }
     // The journal held these payloads and still does, or it held none.
-    ensures held { D.tells ≡ true → IfOk result (λ p. (records (D.now disk).seen ≡ Holds (payloads_in (D.now p.journal.disk))) ⊎ ((records (D.now disk).seen ≡ Holds []) × (p.state.history ≡ []))) }
+    ensures held { D.tells ≡ true → IfOk result (λ p. (records (D.now disk).seen ≡ Intact (payloads_in (D.now p.journal.disk))) ⊎ ((records (D.now disk).seen ≡ Intact []) × (p.state.history ≡ []))) }
     ensures stands { D.tells ≡ true → IfOk result (λ p. StandsFor problem (payloads_in (D.now p.journal.disk)) p.state.history) }
     ensures journal { D.tells ≡ true → IfOk result (λ p. payloads_in (D.now p.journal.disk) ≡ model_code text.now upper ∷ codes p.state.history) }
     ensures problem { IfOk result (λ p. p.state.state.problem ≡ problem) }
@@ -254,7 +254,7 @@ pub fn open_pool<B: BuildHasher + Drop, D: Disk>(
     // Where the disk was at rest with a journal, what all crashes at one moment leave, all crashes at each later moment leave, from the first moment on.
     // Unless the disk failed, each leaves a prefix of the payloads at the end.
     ensures history { D.tells ≡ true → AtRest (D.now disk) → IfOk result (λ p. KeepsHistory (length (D.past disk)) (D.past p.journal.disk) (D.now p.journal.disk) (payloads_in (D.now p.journal.disk)) None) }
-    ensures history_err { D.tells ≡ true → AtRest (D.now disk) → (ps : List (List ℕ)) → records (D.now disk).seen ≡ Holds ps → IfErr result (λ e. LeavesHistory (length (D.past disk)) (D.past e.1) (D.now e.1) (is_disk e.0)) }
+    ensures history_err { D.tells ≡ true → AtRest (D.now disk) → (ps : List (List ℕ)) → records (D.now disk).seen ≡ Intact ps → IfErr result (λ e. LeavesHistory (length (D.past disk)) (D.past e.1) (D.now e.1) (is_disk e.0)) }
     // Unless the disk failed, it comes back at rest.
     ensures rests_err { D.tells ≡ true → AtRest (D.now disk) → IfErr result (λ e. is_disk e.0 ≡ false → AtRest (D.now e.1)) }
     ensures cause { IfOk result (λ p. D.count p.journal.disk ≡ D.count disk) }

@@ -20,7 +20,7 @@ use Rattle.solve_top.specs.Changes.{SourceChange, SinkChange, DiskChange, Stays,
 use Rattle.solve_top.specs.Models.{BeganWith, HasRead, IsOwnProblem, RefusesJournal}
 use Rattle.solve_top.specs.Journals.{BeginsAtMost, HasNoNewEvent, IsKept, IsKeptUnopened, IsOpened, IsUnopened, KeepsJournal}
 use Rattle.solve_top.specs.Searches.{Search, events_read}
-use Rattle.solve_top.specs.Steps.{IsPerformed, IsSolution, IsWithin, fails_by_disk}
+use Rattle.solve_top.specs.Outcomes.{IsPerformed, IsSolution, IsWithin, fails_by_disk}
 use Rattle.solve_top.proofs.Opened.{kept_unopened, kept_whole}
 use Rattle.solve_top.proofs.Owning.{IsAbout}
 use Rattle.solve_top.proofs.Performing.{searched, unopened}

@@ -15,7 +15,7 @@ use Rattle.mps_reader.specs.Reading.{Reads}
 use Rattle.mps_reader.specs.Refusals.{IsModestUpper}
 use Rattle.event_codec.specs.Models.{model_code, IsUpper}
 use Rattle.event_core.specs.declared.entry.Entry.{Entry}
-use Rattle.node_journal.specs.Records.{Records, Holds, Foreign, BrokenAt, payloads_held, records}
+use Rattle.node_journal.specs.Records.{Records, Intact, Foreign, BrokenAt, payloads_held, records}
 use Rattle.node_journal.specs.History.{Anything, BeginsWith, EachFrom, IsHistory, IsPrefixOf, KeepsHistory}
 use Rattle.node_journal.specs.Lemmas.Histories.{continued, history_begins, remains_stands, run_each, some_stands}
 use Rattle.node_journal.specs.Whole.{payloads_in}
@@ -72,7 +72,7 @@ begun_before p b model c is held (inr begun) = inr (model ∷ [], [], begun.1, r
 
 -- ---- payloads that begin those of a moment
 first_held : (ps : List (List ℕ)) (r : Records) → BeginsWith ps r → take (length ps) (payloads_held r) ≡ ps
-first_held ps (Holds rs) begins = ap payloads_held begins
+first_held ps (Intact rs) begins = ap payloads_held begins
 first_held ps Foreign begins = absurd cc
 first_held ps (BrokenAt place) begins = absurd cc
 
@@ -90,13 +90,13 @@ of_first p model ps rest c parts of_model begins (inr s) =
     let first : take (length ps) s.0 ≡ ps = ap (take (length ps)) (sym (ap payloads_held s.2)) ∙ first_held ps (records c) begins in
     inr (s.0, s.1, s.2, same_first ps s.0 rest s.3.rest (model_in ps) (model_in s.0) parts s.3.parts first ∙ of_model, s.3)
 
-held_payloads : (now : Moment) (ps : List (List ℕ)) → records now.seen ≡ Holds ps → payloads_in now ≡ ps
+held_payloads : (now : Moment) (ps : List (List ℕ)) → records now.seen ≡ Intact ps → payloads_in now ≡ ps
 unfolding payloads_in
 held_payloads now ps held = ap payloads_held held
 
-prefix_of_all : (ps qs : List (List ℕ)) (r : Records) → r ≡ Holds ps → qs ≡ ps → IsPrefixOf qs r
+prefix_of_all : (ps qs : List (List ℕ)) (r : Records) → r ≡ Intact ps → qs ≡ ps → IsPrefixOf qs r
 prefix_of_all ps qs r held same =
-    subst (λ (x : Records). IsPrefixOf qs x) (sym held) (ap Holds (sym (take_all (length ps) ps (omega arith)) ∙ ap (λ (l : List (List ℕ)). take (length ps) l) (sym same)))
+    subst (λ (x : Records). IsPrefixOf qs x) (sym held) (ap Intact (sym (take_all (length ps) ps (omega arith)) ∙ ap (λ (l : List (List ℕ)). take (length ps) l) (sym same)))
 
 -- ---- a journal that was opened and searched
 pub model_opened : (model : List ℕ) (p : Problem) (es : List Entry) (opened : ℕ) (d : DiskChange) → IsOpened model p es opened d → IsModelOf model p
@@ -207,7 +207,7 @@ module _ {D : Type 0} (tells : Bool) (past : D → List Moment) (now : D → Mom
   pub kept_untouched : (IsOwn : List ℕ → Problem → Type 0) → KeepsJournal (disk_change tells past now count a e) IsOwn
   kept_untouched IsOwn = record {
     extends = continued (past a) (now a) (past e) (now e) Anything (leaves_seen Anything tt);
-    history = λ ps held. history_begins (past a) (now a) (past e) (now e) ps (leaves_seen (λ c. records c ≡ Holds ps) held) (some_stands (past a) (now a) (past e) (now e) (λ c. records c ≡ Holds ps) none)
+    history = λ ps held. history_begins (past a) (now a) (past e) (now e) ps (leaves_seen (λ c. records c ≡ Intact ps) held) (some_stands (past a) (now a) (past e) (now e) (λ c. records c ≡ Intact ps) none)
         (λ qs. remains_stands (past a) (now a) (past e) (now e) (λ c. BeginsWith qs (records c)) none);
     prefixes = λ ps held calm. run_each (past a) (now a) (past e) (now e) (λ c. IsPrefixOf (payloads_in (now e)) (records c))
         (leaves_seen (λ c. IsPrefixOf (payloads_in (now e)) (records c))
@@ -229,7 +229,7 @@ no_new_event Show m d none = none
 no_new_event (Drill seed limits) m d none = none
 
 -- ---- by the clauses of its opening
-pub same_model : (a b : Moment) → records a.seen ≡ Holds (payloads_in b) → model_in (payloads_in b) ≡ model_in (payloads_in a)
+pub same_model : (a b : Moment) → records a.seen ≡ Intact (payloads_in b) → model_in (payloads_in b) ≡ model_in (payloads_in a)
 same_model a b held = ap model_in (sym (held_payloads a (payloads_in b) held))
 
 pub before_or_begun : (past : List Moment) (now : Moment) (past' : List Moment) (now' : Moment) (before : Records) (model : List ℕ) → LeavesOnly past now past' now' (IsAsBefore before)
@@ -246,7 +246,7 @@ record_is text items u upper a b = ap (λ (t : List ℕ). model_code t u) a ∙ 
 pub first_is : (ps rest : List (List ℕ)) (first model : List ℕ) → ps ≡ first ∷ rest → first ≡ model → model_in ps ≡ model
 first_is ps rest first model e same = ap model_in e ∙ same
 
-pub held_events : (model : List ℕ) (p : Problem) (es : List Entry) (b : List ℕ) (ps : List (List ℕ)) → (records b ≡ Holds ps) ⊎ ((records b ≡ Holds []) × (es ≡ [])) → model_in ps ≡ model
+pub held_events : (model : List ℕ) (p : Problem) (es : List Entry) (b : List ℕ) (ps : List (List ℕ)) → (records b ≡ Intact ps) ⊎ ((records b ≡ Intact []) × (es ≡ [])) → model_in ps ≡ model
     → StandsFor p ps es → IsFreshOrWith model p es b
 held_events model p es b ps (inl held) of_model stands = inr (ps, held, of_model, stands)
 held_events model p es b ps (inr fresh) of_model stands = inl fresh
@@ -255,7 +255,7 @@ held_events model p es b ps (inr fresh) of_model stands = inl fresh
 pub none_held : (model : List ℕ) (p : Problem) (es : List Entry) (b : List ℕ) → b ≡ [] → IsFreshOrWith model p es b → es ≡ []
 none_held model p es b empty (inl fresh) = fresh.1
 none_held model p es b empty (inr held) =
-    let none : Holds [] ≡ Holds held.0 = ap records (sym empty) ∙ held.1 in
+    let none : Intact [] ≡ Intact held.0 = ap records (sym empty) ∙ held.1 in
     let bad : [] ≡ model_in held.0 ∷ held.3.rest = ap payloads_held none ∙ held.3.parts in
     cc
 

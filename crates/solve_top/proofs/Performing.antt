@@ -22,7 +22,7 @@ use Rattle.solve_top.specs.Changes.{SourceChange, SinkChange, DiskChange, Stays,
 use Rattle.solve_top.specs.Models.{BeganWith, HasRead, IsProblemOf, RefusesJournal, record_of}
 use Rattle.solve_top.specs.Journals.{HasEventsOf, HasNoNewEvent, HoldsSearch, IsUnopened, LeavesAlone}
 use Rattle.solve_top.specs.Searches.{Search, events_read}
-use Rattle.solve_top.specs.Steps.{IsPerformed, IsReading, IsRefusedBy, IsRefusedDrill, IsShowingOf, IsSolution, IsWithin, fails_by_disk, without_disk}
+use Rattle.solve_top.specs.Outcomes.{IsPerformed, IsReading, IsRefusedBy, IsRefusedDrill, IsShowingOf, IsSolution, IsWithin, fails_by_disk, without_disk}
 use Rattle.solve_top.proofs.Opened.{no_new_event}
 
 -- a search that a command began

@@ -19,7 +19,7 @@ use Rattle.solve_top.specs.Models.{HasRead, IsOwnProblem, IsProblemOf}
 use Rattle.solve_top.specs.Journals.{HasEventsOf, HasNoNewEvent, HoldsSearch, KeepsJournal, LeavesAlone}
 use Rattle.solve_top.specs.Searches.{Search, IsSearchOf}
 use Rattle.solve_top.specs.Output.{survey_lines}
-use Rattle.solve_top.specs.Steps.{IsPerformed, IsSearched, IsShown, IsRefusedBy, IsToldAs, RefusesWords}
+use Rattle.solve_top.specs.Outcomes.{IsPerformed, IsSearched, IsShown, IsRefusedBy, IsToldAs, RefusesWords}
 use Rattle.solve_top.specs.Statuses.{exit_number}
 use Rattle.solve_top.specs.Headline.{Run, EndsWith, Ends, as_done, as_shown, as_model, as_journal, as_read_fault, as_disk_fault, as_certificate_fault, as_lines_fault, as_spent, as_memory, in_answer, in_spent, in_figures, IsComplete, IsShowing, KeepsPromise}
 use Rattle.solve_top.proofs.Opened.{no_new_event}

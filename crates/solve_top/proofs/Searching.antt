@@ -37,8 +37,8 @@ use Rattle.solve_top.specs.Changes.{DiskChange, Rises, disk_change, moments_befo
 use Rattle.solve_top.specs.Journals.{IsKept}
 use Rattle.solve_top.specs.Searches.{search_of, begin_of, events_made, events_read, HasSearchedAlone, IsOfWorkers}
 use Rattle.solve_top.specs.Searchers.{GoesOnByWorkers, SearchesOn}
-use Rattle.solve_top.specs.Begun.{IsEnded, IsReady}
-use Rattle.solve_top.specs.Steps.{IsWithin}
+use Rattle.solve_top.specs.Begun.{IsEnded, IsReadyPool}
+use Rattle.solve_top.specs.Outcomes.{IsWithin}
 use Rattle.resume.specs.Lemmas.Standing.{given_read, journal_stands, prefix_stands}
 use Rattle.solve_top.proofs.Uniqueness.{names_are_words}
 use Rattle.node_tree.specs.Limits.{most_nodes}
@@ -203,7 +203,7 @@ leaves_there {D} past now opened opened' b e new last h same_opened same_disk sa
     subst (λ (x : ℕ × D × Recorded). LeavesPrefixes x.0 (past x.1) (now x.1) x.2.history h) (λ i. (same_opened i, sym same_disk i, sym same_state i)) leaves
 
 -- ---- what is known of the pool in which it ended
-pub ended : {D : Type 0} {d : Ghosts D} (q : Request) (old new : Pool D d) (e : Ending) → IsReady q old → SearchesOn (limits_in q) old e new → IsEnded q e new
+pub ended : {D : Type 0} {d : Ghosts D} (q : Request) (old new : Pool D d) (e : Ending) → IsReadyPool q old → SearchesOn (limits_in q) old e new → IsEnded q e new
 ended q old new e ready on = record {
   names = subst (λ (p : Problem). All IsWord p.names) (sym on.problem) (read_names old.state ready.read);
   finished = on.finished;

@@ -26,7 +26,7 @@ use Rattle.solve_top.specs.Models.{IsOwnProblem}
 use Rattle.solve_top.specs.Requests.{limits_in}
 use Rattle.solve_top.specs.Searchers.{SearchesOn}
 use Rattle.solve_top.specs.Searches.{Search, events_read}
-use Rattle.solve_top.specs.Steps.{IsPerformed, IsSolution, IsWithin, fails_by_disk, without_disk}
+use Rattle.solve_top.specs.Outcomes.{IsPerformed, IsSolution, IsWithin, fails_by_disk, without_disk}
 use Rattle.node_tree.specs.Limits.{most_nodes}
 
 -- What came of a command: it is performed, and its journal is kept.
@@ -37,7 +37,7 @@ pub record IsCarriedOut (q : Request) (m : SourceChange) (d : DiskChange) (cert 
 
 module _ {D : Type 0} {d : Ghosts D} where
   -- the pool of a journal that was read, in which a search can begin: nobody holds a node, and it isn't halted
-  pub record IsReady (q : Request) (pool : Pool D d) : Type 0 where
+  pub record IsReadyPool (q : Request) (pool : Pool D d) : Type 0 where
     pub budget : pool.budget ≡ (limits_in q).nodes
     pub few : pool.budget ≤ most_nodes
     pub unheld : pool.state.state.holds ≡ []
@@ -69,7 +69,7 @@ module _ {D : Type 0} {d : Ghosts D} where
 
   -- that, whatever pool the search began with
   abbrev pub IsSearchedSince : Request → Ending → Pool D d → D → SinkChange → Search → Result Answer Refusal → Type 0
-  IsSearchedSince q e new disk cert s o = (old : Pool D d) → IsReady q old → SearchesOn (limits_in q) old e new → IsSearchedIn q old disk cert s o
+  IsSearchedSince q e new disk cert s o = (old : Pool D d) → IsReadyPool q old → SearchesOn (limits_in q) old e new → IsSearchedIn q old disk cert s o
 
 -- However a search ends that begins with this pool, that is what came of the command. `a` is the disk before the call.
 abbrev pub LeadsOn : {D : Type 0} {d : Ghosts D} → Request → SourceChange → D → Pool D d → Type 0
@@ -85,5 +85,5 @@ LeadsOnBeside {E} {f} q m handed pool = (e : E) (cert : SinkChange) (s : Search)
 abbrev pub HasBegun : {D : Type 0} {d : Ghosts D} → Request → SourceChange → D → Begun D d → Type 0
 HasBegun {D} {d} q m a (begun.Over p) =
     (p.last ≡ None) × ((cert : SinkChange) → TakesNothing cert → Stays cert.faults → IsCarriedOut q m (disk_change d.tells d.past d.now d.count a p.disk) cert None p.status)
-HasBegun {D} {d} q m a (begun.Search pool) = IsReady q pool × LeadsOn q m a pool
-HasBegun {D} {d} q m a (begun.Drill pool disk) = (disk ≡ a) × IsReady q pool × LeadsOnBeside q m (disk_change d.tells d.past d.now d.count a a) pool
+HasBegun {D} {d} q m a (begun.Search pool) = IsReadyPool q pool × LeadsOn q m a pool
+HasBegun {D} {d} q m a (begun.Drill pool disk) = (disk ≡ a) × IsReadyPool q pool × LeadsOnBeside q m (disk_change d.tells d.past d.now d.count a a) pool

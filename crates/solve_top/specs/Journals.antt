@@ -5,7 +5,7 @@ use Rattle.mps_reader.specs.Reading.{Reads}
 use Rattle.outside.specs.Images.{AtRest, LeavesOnly}
 use Rattle.event_core.specs.declared.entry.Entry.{Entry}
 use Rattle.event_core.specs.Histories.{journaled}
-use Rattle.node_journal.specs.Records.{Holds, records}
+use Rattle.node_journal.specs.Records.{Intact, records}
 use Rattle.node_journal.specs.Whole.{payloads_in}
 use Rattle.node_journal.specs.History.{EachFrom, ExtendsMoments, IsHistory, IsPrefixOf, Keeps, KeepsHistory}
 use Rattle.node_pool.specs.Payloads.{LeavesPrefixes, model_in}
@@ -28,9 +28,9 @@ pub record KeepsJournal (d : DiskChange) (IsOwn : List ℕ → Problem → Type 
   pub extends : ExtendsMoments (moments_before d) (moments_after d)
   -- Where the disk held a journal, so does what each crash leaves at each moment of the call; of two such journals one begins the other; and what all
   -- crashes at one moment leave, all crashes at each later moment leave. So no event that was acknowledged is ever gone.
-  pub history : (ps : List (List ℕ)) → records d.now_before.seen ≡ Holds ps → IsHistory (length d.past_before) (moments_after d)
+  pub history : (ps : List (List ℕ)) → records d.now_before.seen ≡ Intact ps → IsHistory (length d.past_before) (moments_after d)
   -- Where no call of the disk failed, each crash leaves a prefix of the payloads that it holds at the end.
-  pub prefixes : (ps : List (List ℕ)) → records d.now_before.seen ≡ Holds ps → ¬ Rises d.faults → EachFrom (length d.past_before) (moments_after d) (λ c. IsPrefixOf (payloads_in d.now_after) (records c))
+  pub prefixes : (ps : List (List ℕ)) → records d.now_before.seen ≡ Intact ps → ¬ Rises d.faults → EachFrom (length d.past_before) (moments_after d) (λ c. IsPrefixOf (payloads_in d.now_after) (records c))
   -- Where it was fresh or stood for the problem, so does what each crash leaves.
   pub stands : (model : List ℕ) (p : Problem) → IsOwn model p → IsFreshOrStands p d.now_before.seen → EachFrom (length d.past_before) (moments_after d) (IsFreshOrStands p)
   -- Where it did so by this record of the model, so does what each crash leaves.
@@ -70,8 +70,8 @@ IsUnopened P d refusal.Memory = Stays d.faults
 
 -- What is kept of a disk that was at rest, where its journal was not opened, by the record of the model.
 pub record IsKeptUnopened (model : List ℕ) (d : DiskChange) : Type 0 where
-  pub history : (ps : List (List ℕ)) → records d.now_before.seen ≡ Holds ps → IsHistory (length d.past_before) (moments_after d)
-  pub prefixes : (ps : List (List ℕ)) → records d.now_before.seen ≡ Holds ps → ¬ Rises d.faults → EachFrom (length d.past_before) (moments_after d) (λ c. IsPrefixOf (payloads_in d.now_after) (records c))
+  pub history : (ps : List (List ℕ)) → records d.now_before.seen ≡ Intact ps → IsHistory (length d.past_before) (moments_after d)
+  pub prefixes : (ps : List (List ℕ)) → records d.now_before.seen ≡ Intact ps → ¬ Rises d.faults → EachFrom (length d.past_before) (moments_after d) (λ c. IsPrefixOf (payloads_in d.now_after) (records c))
   pub any_moment : LeavesOnly d.past_before d.now_before d.past_after d.now_after (IsAsBeforeOrBegun (records d.now_before.seen) model)
   pub rests : ¬ Rises d.faults → AtRest d.now_after
 

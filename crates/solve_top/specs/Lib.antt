@@ -6,6 +6,6 @@ pub mod Searches
 pub mod Journals
 pub mod Statuses
 pub mod Searchers
-pub mod Steps
+pub mod Outcomes
 pub mod Begun
 pub mod Headline

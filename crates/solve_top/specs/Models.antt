@@ -5,7 +5,7 @@ use Rattle.mps_reader.specs.Reading.{Reads, IsRefused}
 use Rattle.mps_reader.specs.declared.kinds.Kind.{Kind}
 use Rattle.event_codec.specs.Models.{model_code}
 use Rattle.event_core.specs.declared.entry.Entry.{Entry}
-use Rattle.node_journal.specs.Records.{Holds, payloads_held, records}
+use Rattle.node_journal.specs.Records.{Intact, payloads_held, records}
 use Rattle.node_pool.specs.Payloads.{model_in}
 use Rattle.drill_instance.specs.Texts.{generated}
 use Rattle.resume.specs.Journals.{StandsFor}
@@ -63,11 +63,11 @@ IsOwnProblem (Drill seed limits) m d model p = Unit {0}
 
 -- the bytes stand for the problem and these events of its search
 abbrev pub StandsWith : Problem → List Entry → List ℕ → Type 0
-StandsWith p es c = (ps : List (List ℕ)) × (records c ≡ Holds ps) × StandsFor p ps es
+StandsWith p es c = (ps : List (List ℕ)) × (records c ≡ Intact ps) × StandsFor p ps es
 
 -- The bytes are a journal without a payload, and there are no events; or they stand for the problem and these events, behind the record of this model.
 abbrev pub IsFreshOrWith : List ℕ → Problem → List Entry → List ℕ → Type 0
-IsFreshOrWith model p es c = ((records c ≡ Holds []) × (es ≡ [])) ⊎ ((ps : List (List ℕ)) × (records c ≡ Holds ps) × (model_in ps ≡ model) × StandsFor p ps es)
+IsFreshOrWith model p es c = ((records c ≡ Intact []) × (es ≡ [])) ⊎ ((ps : List (List ℕ)) × (records c ≡ Intact ps) × (model_in ps ≡ model) × StandsFor p ps es)
 
 -- The events with which a command began its search of the problem: those that its journal held, none on a disk without a payload, and none of a drill.
 abbrev pub BeganWith : Request → SourceChange → DiskChange → Problem → List Entry → Type 0

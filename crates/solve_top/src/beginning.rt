@@ -1,7 +1,7 @@
 //! Begins a command: opens what it searches in, or does what takes no search.
 ghost use Rattle.std.specs.Prelude.{◌≡◌, [], None};
 ghost use Rattle.resume.specs.Journals.{IsReadFrom};
-ghost use Rattle.solve_top.specs.Begun.{HasBegun, IsReady};
+ghost use Rattle.solve_top.specs.Begun.{HasBegun, IsReadyPool};
 ghost use Rattle.solve_top.specs.Changes.{SourceChange, Stays, source_change};
 ghost use Rattle.solve_top.specs.Requests.{HasRanges, limits_in};
 
@@ -34,7 +34,7 @@ fn pool_is_ready<D: Disk>(pool: &Pool<D>, request: &Request)
     requires unheld { pool.now.state.state.holds ≡ [] }
     requires sound { pool.now.halt ≡ None }
     requires read { IsReadFrom pool.now.state }
-    ensures { IsReady request.now pool.now }
+    ensures { IsReadyPool request.now pool.now }
 {
     let _request = *request;
     pool.history_holds();

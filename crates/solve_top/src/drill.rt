@@ -3,7 +3,7 @@ ghost use Rattle.std.specs.Prelude.{◌≡◌, ◌≤◌, [], None, IfErr, IfOk}
 ghost use Rattle.mps_reader.specs.Reading.{Reads};
 ghost use Rattle.resume.specs.Journals.{IsReadFrom};
 ghost use Rattle.drill_instance.specs.Texts.{generated};
-ghost use Rattle.solve_top.specs.Steps.{IsRefusedDrill};
+ghost use Rattle.solve_top.specs.Outcomes.{IsRefusedDrill};
 ghost use Rattle.node_tree.specs.Limits.{most_nodes};
 
 use crate::model::{Model, problem_of};

@@ -3,7 +3,7 @@ ghost use Rattle.std.specs.Prelude.{◌≡◌};
 ghost use Rattle.mps_reader.specs.Refusals.{IsModestUpper};
 ghost use Rattle.solve_top.specs.Changes.{source_change};
 ghost use Rattle.solve_top.specs.Statuses.{kind_name};
-ghost use Rattle.solve_top.specs.Steps.{IsReading, IsReadingOf};
+ghost use Rattle.solve_top.specs.Outcomes.{IsReading, IsReadingOf};
 
 use crate::outcome::Refusal;
 use mps_reader::{Kind, TEXT_LIMIT, read_mps};

@@ -1,6 +1,6 @@
 // What comes of a run before it is told.
 ghost use Rattle.std.specs.Prelude.{◌≡◌};
-ghost use Rattle.solve_top.specs.Steps.{without_disk};
+ghost use Rattle.solve_top.specs.Outcomes.{without_disk};
 
 use mps_reader::Kind;
 use resume::ResumeFault;

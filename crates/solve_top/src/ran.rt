@@ -1,7 +1,7 @@
 // How a run ended.
 ghost use Rattle.std.specs.Prelude.{◌≡◌, None, Err};
 ghost use Rattle.solve_top.specs.Statuses.{exit_number};
-ghost use Rattle.solve_top.specs.Steps.{without_disk};
+ghost use Rattle.solve_top.specs.Outcomes.{without_disk};
 
 use crate::Status;
 use crate::outcome::{Answer, Refusal, without_disk};

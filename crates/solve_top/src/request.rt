@@ -2,7 +2,7 @@
 ghost use Rattle.std.specs.Prelude.{◌≡◌, Some, IfErr, IfOk};
 ghost use Rattle.command_words.specs.Commands.{AreInRange, HasRanges as CommandHasRanges, asked};
 ghost use Rattle.solve_top.specs.Requests.{HasRanges, limits_in, requested, without_paths};
-ghost use Rattle.solve_top.specs.Steps.{RefusesWords};
+ghost use Rattle.solve_top.specs.Outcomes.{RefusesWords};
 
 use crate::outcome::Refusal;
 use command_words::{Command, DEFAULT_NODES, DEFAULT_WORKERS, Limits, Words, WordsFault, parse};

@@ -15,7 +15,7 @@ ghost use Rattle.solve_top.specs.Begun.{IsEnded, IsSearchedSince};
 ghost use Rattle.solve_top.specs.Requests.{limits_in};
 ghost use Rattle.solve_top.specs.Changes.{SinkChange, Stays, TakesNothing, sink_change};
 ghost use Rattle.solve_top.specs.Searches.{search_of};
-ghost use Rattle.solve_top.specs.Steps.{IsSolution, fails_by_disk};
+ghost use Rattle.solve_top.specs.Outcomes.{IsSolution, fails_by_disk};
 
 use crate::outcome::{Answer, Refusal};
 use crate::output::{finished_text, spent_text};

@@ -1,5 +1,5 @@
 //! Searches on in pools: by one worker alone, or by a crew.
-ghost use Rattle.solve_top.specs.Begun.{IsEnded, IsReady};
+ghost use Rattle.solve_top.specs.Begun.{IsEnded, IsReadyPool};
 ghost use Rattle.solve_top.specs.Requests.{HasRanges, limits_in};
 ghost use Rattle.core_search.specs.Visits.{SearchesNodes};
 ghost use Rattle.solve_top.specs.Searchers.{GoesOnByWorkers, SearchesOn};
@@ -16,7 +16,7 @@ use std::thread::Threads;
 /// Searches on within the limits that are asked for, or with what is there, by one worker, who takes no lock.
 pub fn search_alone<D: Disk>(alloc: Global, pool: Pool<D>, request: &Request) -> (Ending, Pool<D>)
     requires ranges { HasRanges request.now }
-    requires ready { IsReady request.now pool }
+    requires ready { IsReadyPool request.now pool }
     ensures goes_on { SearchesOn (limits_in request.now) pool result.0 result.1 }
     ensures ended { IsEnded request.now result.0 result.1 }
     // Its events are of worker 0 alone, whatever number of workers is asked for.
@@ -39,7 +39,7 @@ pub fn search_by_crew<D: Disk + Send, R: Threads + Wait + Sync, H: Hold + Sync>(
     hold: &H,
 ) -> (Ending, Pool<D>)
     requires ranges { HasRanges request.now }
-    requires ready { IsReady request.now pool }
+    requires ready { IsReadyPool request.now pool }
     ensures goes_on { SearchesOn (limits_in request.now) pool result.0 result.1 }
     ensures ended { IsEnded request.now result.0 result.1 }
 {

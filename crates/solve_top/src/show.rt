@@ -1,6 +1,6 @@
 // Tells the figures of a journal.
 ghost use Rattle.solve_top.specs.Changes.{disk_change};
-ghost use Rattle.solve_top.specs.Steps.{IsShowingOf};
+ghost use Rattle.solve_top.specs.Outcomes.{IsShowingOf};
 
 use crate::outcome::{Answer, Refusal};
 use crate::output::survey_text;

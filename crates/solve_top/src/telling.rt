@@ -1,7 +1,7 @@
 // Tells what came of a run.
 ghost use Rattle.std.specs.Prelude.{◌≡◌, ℕ, List, Ok, Err, IfOk};
 ghost use Rattle.solve_top.specs.Changes.{sink_change, IsTold};
-ghost use Rattle.solve_top.specs.Steps.{IsLineTold, IsToldAs, IsWritten};
+ghost use Rattle.solve_top.specs.Outcomes.{IsLineTold, IsToldAs, IsWritten};
 
 use crate::Status;
 use crate::outcome::{Answer, Refusal};

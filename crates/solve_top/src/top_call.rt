@@ -6,7 +6,7 @@ ghost use Rattle.solve_top.specs.Headline.{KeepsPromise};
 ghost use Rattle.solve_top.specs.Requests.{HasRanges, limits_in, requested};
 ghost use Rattle.solve_top.specs.Searches.{HasSearchedAlone, IsOfWorkers, events_made, search_of};
 ghost use Rattle.solve_top.specs.Statuses.{exit_number};
-ghost use Rattle.solve_top.specs.Steps.{IsToldAs};
+ghost use Rattle.solve_top.specs.Outcomes.{IsToldAs};
 ghost use Rattle.solve_top.specs.declared.request.Request.{Request};
 ghost use Rattle.solve_top.specs.declared.status.Status.{Status};
 

@@ -7,7 +7,7 @@ use Rattle.std.proofs.lemmas.List.{length-set, get_or-set_same, get_or-set_other
 use Rattle.tableau.specs.Elimination.{Coefficients, zero_ℚ, substituted, all_substituted, others_substituted, solved_for}
 use Rattle.tableau.specs.Pivot.{rows_eliminated}
 use Rattle.tableau.specs.Lemmas.Pivoted.{others_are}
-use Rattle.tableau.specs.SparseSteps.{next_row, costs_eliminated, IsReady}
+use Rattle.tableau.specs.SparseSteps.{next_row, costs_eliminated, IsPivotPrepared}
 
 -- ---- one row
 pub row_stays : (c : ℕ) (row ready new : Coefficients) → int_eq (get_or row c zero_ℚ).num (pos 0) ≡ true → substituted c new row ≡ Some row → substituted c new row ≡ Some (next_row c row ready)
@@ -74,7 +74,7 @@ others_cramped r c rows new i l b n e = at (others_substituted r c (set rows r n
 
 -- ---- the pivot's rows and reduced costs
 pub eliminated_rows : (r c : ℕ) (rows rs : List Coefficients) (costs solved : Coefficients) (ready : List Coefficients) (ready_costs : Coefficients) → r < length rows
-    → IsReady r c rows costs solved ready ready_costs → length rs ≡ length rows → get_or rs r [] ≡ solved
+    → IsPivotPrepared r c rows costs solved ready ready_costs → length rs ≡ length rows → get_or rs r [] ≡ solved
     → ((k : ℕ) → k < length rows → (k ≡ r → ⊥) → get_or rs k [] ≡ next_row c (get_or rows k []) (get_or ready k [])) → rows_eliminated r c rows ≡ Some rs
 eliminated_rows r c rows rs costs solved ready ready_costs l h m e k =
     ap (option_and_then (λ new. others_substituted r c (set rows r new))) h.is_solved

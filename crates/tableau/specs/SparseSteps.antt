@@ -89,7 +89,7 @@ abbrev pub costs_eliminated : ℕ → ℕ → List Coefficients → Coefficients
 costs_eliminated r c rows costs = option_and_then (λ rs. substituted c (slice_index_or rs r []) costs) (rows_eliminated r c rows)
 
 -- all that a pivot of r and c puts in place of rows and reduced costs is ready
-pub record IsReady (r c : ℕ) (rows : List Coefficients) (costs new : Coefficients) (ready : List Coefficients) (ready_costs : Coefficients) : Type 0 where
+pub record IsPivotPrepared (r c : ℕ) (rows : List Coefficients) (costs new : Coefficients) (ready : List Coefficients) (ready_costs : Coefficients) : Type 0 where
   pub is_solved : solved_for r c (slice_index_or rows r []) ≡ Some new
   pub others : (k : ℕ) → k < length rows → (k ≡ r → ⊥)
       → substituted c new (slice_index_or rows k []) ≡ Some (next_row c (slice_index_or rows k []) (slice_index_or ready k []))

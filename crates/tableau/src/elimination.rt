@@ -4,7 +4,7 @@ ghost use Rattle.std.specs.Prelude.{◌≡◌, ◌<◌, ◌≤◌, ◌^◌, ℕ,
 ghost use Rattle.std.specs.Option.{option_and_then};
 ghost use Rattle.tableau.specs.Elimination.{substituted, others_substituted};
 ghost use Rattle.tableau.specs.Pivot.{rows_eliminated};
-ghost use Rattle.tableau.specs.SparseSteps.{next_row, costs_eliminated, IsReady};
+ghost use Rattle.tableau.specs.SparseSteps.{next_row, costs_eliminated, IsPivotPrepared};
 
 use crate::entries::Entries;
 use crate::multiple::is_zero;
@@ -124,7 +124,7 @@ fn prepare_all(
 ) -> Result<bool, AllocError>
     requires there { leaving < length rows.now }
     requires fits { leaving < 2 ^ 32 }
-    ensures { IfOk result (λ b. MatchBool b (IsReady leaving entering rows.now reduced_costs.now work.new.solved work.new.ready.items work.new.ready_costs) (costs_eliminated leaving entering rows.now reduced_costs.now ≡ None)) }
+    ensures { IfOk result (λ b. MatchBool b (IsPivotPrepared leaving entering rows.now reduced_costs.now work.new.solved work.new.ready.items work.new.ready_costs) (costs_eliminated leaving entering rows.now reduced_costs.now ≡ None)) }
 {
     make_room(alloc, &mut work.ready, rows.len())?;
     if !rows[leaving].solve_into(leaving, entering, &mut work.spare, &mut work.solved)? {
@@ -160,7 +160,7 @@ fn replace_all(
     work: &mut Workspace,
 )
     requires there { leaving < length rows.old }
-    requires ready { IsReady leaving entering rows.old reduced_costs.old work.old.solved work.old.ready.items work.old.ready_costs }
+    requires ready { IsPivotPrepared leaving entering rows.old reduced_costs.old work.old.solved work.old.ready.items work.old.ready_costs }
     ensures rows { rows_eliminated leaving entering rows.old ≡ Some rows.new }
     ensures costs { substituted entering (slice_index_or rows.new leaving []) reduced_costs.old ≡ Some reduced_costs.new }
     ensures width { length reduced_costs.new ≡ length reduced_costs.old }

@@ -11,7 +11,7 @@ use lib.ListN.{get_elem?}
 use Rattle.atomic_table.specs.Table.{State, Joins}
 use Rattle.atomic_table.proofs.Lists.{at_set, set_else, set_here}
 use Rattle.turn_lock.specs.Lists.{NoneOf, GoesOn, longer, shorter, shorter_has}
-use Rattle.turn_lock.specs.Steps.{joined, spent}
+use Rattle.turn_lock.specs.SeatSteps.{joined, spent}
 use Rattle.turn_lock.specs.Turns.{TakesTurns, Seated, one_if, tickets_in, weight_in, Known}
 use Rattle.turn_lock.specs.declared.board.View.{View}
 use Rattle.turn_lock.proofs.NameLists.{distinct_append, nothing, from_nothing}

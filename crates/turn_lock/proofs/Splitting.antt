@@ -9,7 +9,7 @@ use lib.ListN.{get_elem?}
 use Rattle.atomic_table.specs.Table.{State, Splits}
 use Rattle.atomic_table.proofs.Lists.{at_set, set_else, at_longer, set_here}
 use Rattle.turn_lock.specs.Names.{greatest, without_first}
-use Rattle.turn_lock.specs.Steps.{others_of, greatest_of}
+use Rattle.turn_lock.specs.SeatSteps.{others_of, greatest_of}
 use Rattle.turn_lock.specs.Turns.{TakesTurns, Seated, one_if, tickets_in, weight_in, Known}
 use Rattle.turn_lock.specs.declared.board.View.{View}
 use Rattle.turn_lock.proofs.NameLists.{greatest_in, without_in, length_without, distinct_without, not_without, only_in, nothing}

@@ -5,7 +5,7 @@ use lib.ListN.{get_elem?}
 use Rattle.atomic_table.specs.Table.{State, Me, Act, Allows, keeps, Valid, stepped, Step, carried_after}
 use Rattle.atomic_table.proofs.Lists.{set_again}
 use Rattle.turn_lock.specs.Lists.{GoesOn}
-use Rattle.turn_lock.specs.Steps.{Told, joined}
+use Rattle.turn_lock.specs.SeatSteps.{Told, joined}
 use Rattle.turn_lock.specs.Turns.{TakesTurns, word_of}
 use Rattle.turn_lock.specs.declared.board.View.{View}
 use Rattle.turn_lock.proofs.Joining.{of_both}

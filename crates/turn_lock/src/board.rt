@@ -46,7 +46,7 @@ pub type Place<V> = Seat<Option<Box<V>>, View<<V as Kept>::Entry>>;
 pub struct Draw;
 
 impl<V, E> Play<Option<V>, View<E>> for Draw {
-    ghost use Rattle.turn_lock.specs.Steps.{Drawn};
+    ghost use Rattle.turn_lock.specs.SeatSteps.{Drawn};
 
     ghost then = { Drawn };
 }
@@ -57,7 +57,7 @@ pub struct Look<V> {
 
 impl<V: Kept> Play<Option<Box<V>>, View<V::Entry>> for Look<V> {
     ghost use Rattle.turn_lock.specs.Lists.{list_in};
-    ghost use Rattle.turn_lock.specs.Steps.{Looked};
+    ghost use Rattle.turn_lock.specs.SeatSteps.{Looked};
 
     ghost then = { Looked (list_in V.list) V.name };
 }
@@ -68,7 +68,7 @@ pub struct Note<V> {
 
 impl<V: Kept> Play<Option<Box<V>>, View<V::Entry>> for Note<V> {
     ghost use Rattle.turn_lock.specs.Lists.{list_in};
-    ghost use Rattle.turn_lock.specs.Steps.{Noted};
+    ghost use Rattle.turn_lock.specs.SeatSteps.{Noted};
 
     ghost then = { Noted (list_in V.list) };
 }
@@ -78,7 +78,7 @@ pub struct Tell<V> {
 }
 
 impl<V: Kept> Play<Option<Box<V>>, View<V::Entry>> for Tell<V> {
-    ghost use Rattle.turn_lock.specs.Steps.{Told};
+    ghost use Rattle.turn_lock.specs.SeatSteps.{Told};
 
     ghost then = { Told V.name };
 }
@@ -86,7 +86,7 @@ impl<V: Kept> Play<Option<Box<V>>, View<V::Entry>> for Tell<V> {
 pub struct PassOn;
 
 impl<V, E> Play<Option<V>, View<E>> for PassOn {
-    ghost use Rattle.turn_lock.specs.Steps.{PassedOn};
+    ghost use Rattle.turn_lock.specs.SeatSteps.{PassedOn};
 
     ghost then = { PassedOn };
 }
@@ -94,7 +94,7 @@ impl<V, E> Play<Option<V>, View<E>> for PassOn {
 pub struct Cut;
 
 impl<E> Split<View<E>> for Cut {
-    ghost use Rattle.turn_lock.specs.Steps.{others_of, greatest_of};
+    ghost use Rattle.turn_lock.specs.SeatSteps.{others_of, greatest_of};
 
     ghost left = { others_of };
 
@@ -104,7 +104,7 @@ impl<E> Split<View<E>> for Cut {
 pub struct Glue;
 
 impl<E> Join<View<E>> for Glue {
-    ghost use Rattle.turn_lock.specs.Steps.{joined, spent};
+    ghost use Rattle.turn_lock.specs.SeatSteps.{joined, spent};
 
     ghost both = { joined };
 

@@ -10,7 +10,7 @@ use Rattle.event_core.specs.declared.entry.Entry.{Entry}
 use Rattle.event_core.specs.States.{State}
 use Rattle.event_core.specs.After.{after}
 use Rattle.event_core.specs.Histories.{IsLegal, journaled}
-use Rattle.node_pool.specs.Steps.{Applies, Stays}
+use Rattle.node_pool.specs.Applied.{Applies, AppliesNothing}
 use Rattle.node_pool.specs.Halting.{passes_budget, halt_after, IsHalt, IsDiskHalt}
 use Rattle.node_pool.specs.declared.halt.Halt.{Halt}
 use Rattle.node_pool.specs.declared.halt.Halt.TheVariants as stop_by
@@ -77,14 +77,14 @@ module _ {D : Type 0} {d : Ghosts D} (first a : Pool D d) (count cuts workers : 
         let m : AreAllMade (entry_by w e ∷ []) r here _ = record { unhalted = unhalted_there; made = refl; first = number ∙ payloads; count = one } in
         (k, made_event w here grown (MakesOf (entry_by w e ∷ []) (Ok r) here) e (list_grows first a b count (length a.state.history) cuts workers kept (entry_by w e ∷ []) f same) k.legal m)
 
-    refused : Stays a.state b.state → b.halt ≡ a.halt → IsAdded (Err fault.Memory)
+    refused : AppliesNothing a.state b.state → b.halt ≡ a.halt → IsAdded (Err fault.Memory)
     refused s same =
         let f = follows_nothing a b s lasts in
         let k = same_kept first a count (length a.state.history) cuts workers w kept b f same in
         let m : AreFirstMade (entry_by w e ∷ []) here [] = record { events = []; left = entry_by w e ∷ []; unhalted = unhalted_there; firsts = record { parted = refl; unended = All-nil IsUnended }; some_left = λ some. omega (arith, some); made = refl } in
         (k, made_nothing w here grown (MakesOf (entry_by w e ∷ []) (Err fault.Memory) here) (same_list first a count (length a.state.history) cuts workers w kept b f same) k.legal m)
 
-    module _ (s : Stays a.state b.state) (c : Halt) (halt : b.halt ≡ Some c) where
+    module _ (s : AppliesNothing a.state b.state) (c : Halt) (halt : b.halt ≡ Some c) where
       k : IsKept first b count (length a.state.history) cuts workers
       k = halt_kept first a b count (length a.state.history) cuts workers kept (follows_nothing a b s lasts) c unhalted halt
 
@@ -119,7 +119,7 @@ module _ {D : Type 0} {d : Ghosts D} (first a : Pool D d) (count cuts workers : 
         subst (λ n. passes_budget n (length (state_in here).nodes) e ≡ true) kept.same.budget (subst (λ (u : State). passes_budget a.budget (length u.nodes) e ≡ true) kept.same.state q)
 
     pub added_by : (faults : ℕ) (failed : Option ℕ) → IsHalt b.faults b.budget faults failed b.state.state b.halt → (r : Result Receipt CommitFault) → OnOk r (Applies a.state (Some w) e b.state) → IfOk r (λ q. q.first ≡ length (journaled a.state.history) + 1) → IfOk r (λ q. q.count ≡ 1)
-        → OnErr r (Stays a.state b.state) → (IsErrOf r fault.Halted ↔ IsSome a.halt) → (IsErrOf r fault.Budget ↔ ((a.halt ≡ None) × (passes_budget a.budget (length a.state.state.nodes) e ≡ true)))
+        → OnErr r (AppliesNothing a.state b.state) → (IsErrOf r fault.Halted ↔ IsSome a.halt) → (IsErrOf r fault.Budget ↔ ((a.halt ≡ None) × (passes_budget a.budget (length a.state.state.nodes) e ≡ true)))
         → b.halt ≡ halt_after a.halt r e faults → IsAdded r
     added_by faults failed is (Ok r) applied number one stays none spent halt =
         added r applied halt (within (passes_budget a.budget (length a.state.state.nodes) e) refl) number one
@@ -144,7 +144,7 @@ module _ {D : Type 0} {d : Ghosts D} (first a : Pool D d) (count cuts workers : 
   -- the whole call, from a list that is halted nowhere yet
   pub add_call : (stop : ℕ) → IsKept first a count stop cuts workers → (at : List PoolEntry) → at ≡ list_of first a stop cuts workers → (w : ℕ) (e : Event) → w < (opening_in at).workers → halt_in at ≡ None
       → IsLegal (state_in at) (Some w) e → length (after (state_in at) (Some w) e).cuts ≤ cuts_limit at → (b : Pool D d) → Lasts a b → (n : ℕ) → n ≡ length a.state.history → (faults : ℕ) (failed : Option ℕ) → IsHalt b.faults b.budget faults failed b.state.state b.halt → (r : Result Receipt CommitFault)
-      → OnOk r (Applies a.state (Some w) e b.state) → IfOk r (λ q. q.first ≡ length (journaled a.state.history) + 1) → IfOk r (λ q. q.count ≡ 1) → OnErr r (Stays a.state b.state)
+      → OnOk r (Applies a.state (Some w) e b.state) → IfOk r (λ q. q.first ≡ length (journaled a.state.history) + 1) → IfOk r (λ q. q.count ≡ 1) → OnErr r (AppliesNothing a.state b.state)
       → (IsErrOf r fault.Halted ↔ IsSome a.halt) → (IsErrOf r fault.Budget ↔ ((a.halt ≡ None) × (passes_budget a.budget (length a.state.state.nodes) e ≡ true))) → b.halt ≡ halt_after a.halt r e faults
       → IsKept first b count n cuts workers × Makes w at (list_of first b n cuts workers) (MakesOf (entry_by w e ∷ []) r at)
   add_call stop kept at is w e member unhalted legal few b lasts n counted faults failed halted_as r applied number one stays none spent halt =

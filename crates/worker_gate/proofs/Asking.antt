@@ -13,7 +13,7 @@ use Rattle.event_core.specs.Histories.{IsLegal}
 use Rattle.event_core.specs.Lemmas.Passing.{passing}
 use Rattle.event_core.specs.Lemmas.Ended.{left_within, leaves-length}
 use Rattle.event_core.specs.Lemmas.Sounding.{IsKept as IsKeptState}
-use Rattle.node_pool.specs.Steps.{Applies, Stays}
+use Rattle.node_pool.specs.Applied.{Applies, AppliesNothing}
 use Rattle.node_pool.specs.Free.{is_free}
 use Rattle.node_pool.specs.Answers.{IsClaim}
 use Rattle.node_pool.specs.declared.halt.Halt.{Halt}
@@ -81,7 +81,7 @@ module _ {D : Type 0} {d : Ghosts D} (first a : Pool D d) (count stop cuts worke
   IsClaimed b r = IsKept first b count stop cuts workers × Makes w list (list_of first b stop cuts workers) (Claims w (Ok r) list)
 
   module _ (none : HoldsNone w list) (member : w < workers) (b : Pool D d) (lasts : Lasts a b) (halt : b.halt ≡ a.halt) where
-    unclaimed : (r : Claim) → Stays a.state b.state → IsClaim (halt_in list) (state_in list) r → [] ≡ claimed w r → IsClaimed b r
+    unclaimed : (r : Claim) → AppliesNothing a.state b.state → IsClaim (halt_in list) (state_in list) r → [] ≡ claimed w r → IsClaimed b r
     unclaimed r s answer nothing_made =
         let f = follows_nothing a b s lasts in
         let k = same_kept b f halt in
@@ -97,22 +97,22 @@ module _ {D : Type 0} {d : Ghosts D} (first a : Pool D d) (count stop cuts worke
     free_there None s n i = i.free
     free_there (Some c) s n i = let bad : claim.Node n ≡ claim.Halted = i in cc
 
-    pub claimed_by : (r : Claim) → IsClaim a.halt a.state.state r → ((n : ℕ) → r ≡ claim.Node n → Applies a.state (Some w) (event.Claim n) b.state) → (r ≡ claim.Idle → Stays a.state b.state)
-        → (r ≡ claim.Done → Stays a.state b.state) → (r ≡ claim.Halted → Stays a.state b.state) → IsClaimed b r
+    pub claimed_by : (r : Claim) → IsClaim a.halt a.state.state r → ((n : ℕ) → r ≡ claim.Node n → Applies a.state (Some w) (event.Claim n) b.state) → (r ≡ claim.Idle → AppliesNothing a.state b.state)
+        → (r ≡ claim.Done → AppliesNothing a.state b.state) → (r ≡ claim.Halted → AppliesNothing a.state b.state) → IsClaimed b r
     claimed_by r answer applied idle done halted = go r (moved r answer) applied idle done halted
       where
         moved : (q : Claim) → IsClaim a.halt a.state.state q → IsClaim (halt_in list) (state_in list) q
         moved q i = subst (λ (s : State). IsClaim (halt_in list) s q) kept.same.state (subst (λ (h : Option Halt). IsClaim h a.state.state q) kept.same.halt i)
 
-        go : (q : Claim) → IsClaim (halt_in list) (state_in list) q → ((n : ℕ) → q ≡ claim.Node n → Applies a.state (Some w) (event.Claim n) b.state) → (q ≡ claim.Idle → Stays a.state b.state)
-            → (q ≡ claim.Done → Stays a.state b.state) → (q ≡ claim.Halted → Stays a.state b.state) → IsClaimed b q
+        go : (q : Claim) → IsClaim (halt_in list) (state_in list) q → ((n : ℕ) → q ≡ claim.Node n → Applies a.state (Some w) (event.Claim n) b.state) → (q ≡ claim.Idle → AppliesNothing a.state b.state)
+            → (q ≡ claim.Done → AppliesNothing a.state b.state) → (q ≡ claim.Halted → AppliesNothing a.state b.state) → IsClaimed b q
         go (claim.Node n) i applied idle done halted = claimed_node n (applied n refl) i (free_there (halt_in list) (state_in list) n i)
         go claim.Idle i applied idle done halted = unclaimed claim.Idle (idle refl) i refl
         go claim.Done i applied idle done halted = unclaimed claim.Done (done refl) i refl
         go claim.Halted i applied idle done halted = unclaimed claim.Halted (halted refl) i refl
 
   -- no claim, for want of memory
-  pub unready : (b : Pool D d) (e : AllocError) → Stays a.state b.state → Lasts a b → b.halt ≡ a.halt → Makes w list (list_of first b stop cuts workers) (Claims w (Err e) list)
+  pub unready : (b : Pool D d) (e : AllocError) → AppliesNothing a.state b.state → Lasts a b → b.halt ≡ a.halt → Makes w list (list_of first b stop cuts workers) (Claims w (Err e) list)
   unready b e s lasts halt =
       let f = follows_nothing a b s lasts in
       made_nothing w list (list_of first b stop cuts workers) (Claims w (Err e) list) (same_list b f halt) (same_kept b f halt).legal refl
@@ -132,7 +132,7 @@ module _ {D : Type 0} {d : Ghosts D} (first a : Pool D d) (count stop cuts worke
   pub halted_already : (b : Pool D d) (c : Halt) → a.halt ≡ Some c → Makes w list list (Halts list)
   halted_already b c e = made_nothing w list list (Halts list) refl kept.legal (sym (ap halting (sym kept.same.halt ∙ e)))
 
-  module _ (b : Pool D d) (s : Stays a.state b.state) (lasts : Lasts a b) (unhalted : a.halt ≡ None) (by_memory : b.halt ≡ Some halt.Memory) where
+  module _ (b : Pool D d) (s : AppliesNothing a.state b.state) (lasts : Lasts a b) (unhalted : a.halt ≡ None) (by_memory : b.halt ≡ Some halt.Memory) where
     pub halted_kept : IsKept first b count (length a.state.history) cuts workers
     halted_kept = halt_kept first a b count stop cuts workers kept (follows_nothing a b s lasts) halt.Memory unhalted by_memory
 
@@ -142,7 +142,7 @@ module _ {D : Type 0} {d : Ghosts D} (first a : Pool D d) (count stop cuts worke
         (sym (ap halting (sym kept.same.halt ∙ unhalted)))
 
 -- a claim, behind the call that made room for it
-module _ {D : Type 0} {d : Ghosts D} (first a m b : Pool D d) (count stop cuts workers w : ℕ) (kept : IsKept first a count stop cuts workers) (stays : Stays a.state m.state) (lasts : Lasts a m) (halt : m.halt ≡ a.halt) where
+module _ {D : Type 0} {d : Ghosts D} (first a m b : Pool D d) (count stop cuts workers w : ℕ) (kept : IsKept first a count stop cuts workers) (stays : AppliesNothing a.state m.state) (lasts : Lasts a m) (halt : m.halt ≡ a.halt) where
   ready_kept : IsKept first m count stop cuts workers
   ready_kept = same_kept first a count stop cuts workers w kept m (follows_nothing a m stays lasts) halt
 
@@ -150,8 +150,8 @@ module _ {D : Type 0} {d : Ghosts D} (first a m b : Pool D d) (count stop cuts w
   ready_list = same_list first a count stop cuts workers w kept m (follows_nothing a m stays lasts) halt
 
   pub claim_call : (at : List PoolEntry) → at ≡ list_of first a stop cuts workers → HoldsNone w at → w < (opening_in at).workers → Lasts m b → b.halt ≡ m.halt → (r : Claim) → IsClaim m.halt m.state.state r
-      → ((n : ℕ) → r ≡ claim.Node n → Applies m.state (Some w) (event.Claim n) b.state) → (r ≡ claim.Idle → Stays m.state b.state) → (r ≡ claim.Done → Stays m.state b.state)
-      → (r ≡ claim.Halted → Stays m.state b.state) → IsKept first b count stop cuts workers × Makes w at (list_of first b stop cuts workers) (Claims w (Ok r) at)
+      → ((n : ℕ) → r ≡ claim.Node n → Applies m.state (Some w) (event.Claim n) b.state) → (r ≡ claim.Idle → AppliesNothing m.state b.state) → (r ≡ claim.Done → AppliesNothing m.state b.state)
+      → (r ≡ claim.Halted → AppliesNothing m.state b.state) → IsKept first b count stop cuts workers × Makes w at (list_of first b stop cuts workers) (Claims w (Ok r) at)
   claim_call at is none member more same r answer applied idle done halted =
       let e : list_of first m stop cuts workers ≡ at = ready_list ∙ sym is in
       let k = claimed_by first m count stop cuts workers w ready_kept (subst (HoldsNone w) (sym e) none) (subst (λ (l : List PoolEntry). w < (opening_in l).workers) is member) b more same r answer applied idle done halted in
@@ -167,7 +167,7 @@ module _ {D : Type 0} {d : Ghosts D} (first a b : Pool D d) (count stop cuts wor
         subst (λ (l : List PoolEntry). Makes w l (list_of first b stop cuts workers) (Releases w node l)) (sym is) (released first a count stop cuts workers w kept node h m b s lasts same),
       )
 
-  pub halt_call : IsKept first a count stop cuts workers → (at : List PoolEntry) → at ≡ list_of first a stop cuts workers → Stays a.state b.state → Lasts a b → a.halt ≡ None → b.halt ≡ Some (unwrap_or a.halt halt.Memory)
+  pub halt_call : IsKept first a count stop cuts workers → (at : List PoolEntry) → at ≡ list_of first a stop cuts workers → AppliesNothing a.state b.state → Lasts a b → a.halt ≡ None → b.halt ≡ Some (unwrap_or a.halt halt.Memory)
       → (n : ℕ) → n ≡ length a.state.history → IsKept first b count n cuts workers × ((w : ℕ) → Makes w at (list_of first b n cuts workers) (Halts at))
   halt_call kept at is s lasts unhalted by_memory n counted =
       let m : b.halt ≡ Some halt.Memory = by_memory ∙ ap (λ (h : Option Halt). Some (unwrap_or h halt.Memory)) unhalted in (

@@ -8,7 +8,7 @@ use Rattle.worker_gate.specs.declared.entry.PoolEntry.{PoolEntry}
 use Rattle.worker_gate.specs.Entries.{name_of, is_opened, opening_in}
 use Rattle.worker_gate.specs.Legal.{IsLegalList}
 use Rattle.worker_gate.specs.Gates.{Makes, Stepped}
-use Rattle.worker_gate.specs.Laws.{Stays}
+use Rattle.worker_gate.specs.Laws.{KeepsConditions}
 use Rattle.worker_gate.specs.Lemmas.Lists.{opening-append}
 use Rattle.worker_gate.specs.Lemmas.Staying.{conditions_stay}
 use Rattle.worker_gate.proofs.Making.{nothing}
@@ -32,7 +32,7 @@ module _ (w : ℕ) (names : List ℕ) (named : names ≡ w ∷ []) (old found at
   goes_to : GoesOn name_of (w ∷ []) old at
   goes_to = subst (λ (l : List PoolEntry). GoesOn name_of (w ∷ []) old l) (sym same) (subst (λ (ns : List ℕ). GoesOn name_of ns old found) named goes)
 
-  pub stays_under : Stays w old at
+  pub stays_under : KeepsConditions w old at
   stays_under = conditions_stay w old at opened legal goes_to
 
   pub member_under : w < (opening_in old).workers → w < (opening_in at).workers

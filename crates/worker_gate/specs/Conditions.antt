@@ -2,7 +2,7 @@
 use Rattle.std.specs.Prelude.{◌≡◌, ◌≤◌, ℕ, true, false, List, length}
 use Rattle.event_core.specs.States.{box_of, cutoff}
 use Rattle.event_core.specs.Holds.{is_holding, holds_node}
-use Rattle.expand.specs.Findings.{Holds}
+use Rattle.expand.specs.Findings.{IsTrueFinding}
 use Rattle.expand.specs.declared.finding.Finding.{Finding}
 use Rattle.worker_gate.specs.declared.entry.PoolEntry.{PoolEntry}
 use Rattle.worker_gate.specs.Entries.{state_in}
@@ -21,4 +21,4 @@ HasCuts n list = n ≤ length (state_in list).cuts
 
 -- the finding holds at the node
 abbrev pub IsFound : ℕ → Finding → List PoolEntry → Type 0
-IsFound node f list = Holds (state_in list).problem (state_in list).cuts (box_of (state_in list) node) (cutoff (state_in list)) f
+IsFound node f list = IsTrueFinding (state_in list).problem (state_in list).cuts (box_of (state_in list) node) (cutoff (state_in list)) f

@@ -8,7 +8,7 @@ use Rattle.worker_gate.specs.Legal.{IsLegalList}
 use Rattle.worker_gate.specs.Conditions.{HoldsNone, HoldsNode, HasCuts, IsFound}
 
 -- what a worker has to know before it asks stays so
-pub record Stays (w : ℕ) (old at : List PoolEntry) : Type 0 where
+pub record KeepsConditions (w : ℕ) (old at : List PoolEntry) : Type 0 where
   pub none : HoldsNone w old → HoldsNone w at
   pub node : (node : ℕ) → HoldsNode w node old → HoldsNode w node at
   pub cuts : (n : ℕ) → HasCuts n old → HasCuts n at
@@ -16,4 +16,4 @@ pub record Stays (w : ℕ) (old at : List PoolEntry) : Type 0 where
 
 -- what a worker was told of its node still holds after others' entries
 abbrev pub ConditionsStay : Type 0
-ConditionsStay = (w : ℕ) (old at : List PoolEntry) → is_opened old ≡ true → IsLegalList at → GoesOn name_of (w ∷ []) old at → Stays w old at
+ConditionsStay = (w : ℕ) (old at : List PoolEntry) → is_opened old ≡ true → IsLegalList at → GoesOn name_of (w ∷ []) old at → KeepsConditions w old at

@@ -14,7 +14,7 @@ use Rattle.derivation_book.specs.Sums.{with_product}
 use Rattle.fraction.specs.Fits.{FitsFraction}
 use Rattle.derivation_book.specs.Adding.{columns_added}
 use Rattle.fraction.specs.Lemmas.Bounds.{was_some}
-use Rattle.derivation_book.specs.Lemmas.Steps.{was_mapped, in_two_steps, nothing_left, next_item}
+use Rattle.derivation_book.specs.Lemmas.OptionChains.{was_mapped, in_two_steps, nothing_left, next_item}
 use Rattle.derivation_book.specs.Lemmas.Held.{held_product, with_zero}
 
 -- ---- coefficients

@@ -21,7 +21,7 @@ use Rattle.derivation_book.specs.Known.{known_lines}
 use Rattle.derivation_book.specs.Sums.{with_product, sum_from, coefficient_at, side_at, combined_at, combined_columns, Sums, combined}
 use Rattle.derivation_book.specs.Rounded.{is_zero, nonzero_terms}
 use Rattle.derivation_book.specs.Price.{bound_for, with_bound, with_reduced_cost, with_columns, price, reduced_cost, bounds_price, exact_price}
-use Rattle.derivation_book.specs.Lemmas.Steps.{was_mapped}
+use Rattle.derivation_book.specs.Lemmas.OptionChains.{was_mapped}
 use Rattle.derivation_book.specs.Lemmas.Columns.{later_rise}
 use Rattle.derivation_book.specs.Lemmas.Rounded.{terms_rise, IsBelow}
 use Rattle.derivation_book.specs.Lemmas.Price.{has_sums}

@@ -18,7 +18,7 @@ use Rattle.dual_simplex.specs.Relaxation.{RationalPoint}
 use Rattle.dual_simplex.specs.Answers.{answer}
 use Rattle.dual_simplex.specs.Meaning.{IsInfeasible, IsOptimal, AnswerHolds}
 use Rattle.dual_simplex.specs.Laws.{IsBoxOf}
-use Rattle.dual_simplex.specs.Lemmas.Holds.{answers_hold}
+use Rattle.dual_simplex.specs.Lemmas.TrueAnswers.{answers_hold}
 
 -- a proof by the first k cuts is one by all of them
 by_first : (p : Problem) (cs : List Cut) (k : ℕ) (box : List Span) (cutoff : Option ℚ) (proof : Proof) → IsAtMost cutoff cutoff → IsLegalProof p (take k cs) box cutoff proof → IsLegalProof p cs box cutoff proof

@@ -23,7 +23,7 @@ use Rattle.dual_simplex.specs.Relaxation.{RationalPoint}
 use Rattle.dual_simplex.specs.PointSums.{sums_fit}
 use Rattle.dual_simplex.specs.Answers.{linear_program, pivot_limit, run_of_start, run, answer_or_cramped, answer_at, answer_of_run, answer}
 use Rattle.dual_simplex.specs.Meaning.{IsTableauAt, AreReadOff}
-use Rattle.dual_simplex.specs.Lemmas.Holds.{variables_are, start_is_tableau}
+use Rattle.dual_simplex.specs.Lemmas.TrueAnswers.{variables_are, start_is_tableau}
 
 module _ (p : Problem) (cs : List Cut) (box : List Span) (x : RationalPoint) (mult : Multipliers) (v : ℚ) where
   -- an answer by multipliers of a row isn't optimal

@@ -28,7 +28,7 @@ use Rattle.node_events.specs.declared.reason.Reason.TheVariants.{Fractional, Cra
 use Rattle.derivation_book.specs.declared.cut.Cut.{Cut}
 use Rattle.derivation_book.specs.Legal.{has_whole_objective, rounded_if, reaches}
 use Rattle.derivation_book.specs.Lemmas.Deciding.{decides-at_most}
-use Rattle.derivation_book.specs.Lemmas.Steps.{next_item}
+use Rattle.derivation_book.specs.Lemmas.OptionChains.{next_item}
 use Rattle.dual_simplex.specs.declared.answer.Answer.{Answer}
 use Rattle.dual_simplex.specs.declared.answer.Answer.TheVariants.{Infeasible, Optimal, Cramped as CrampedRun, Stalled as StalledRun}
 use Rattle.dual_simplex.specs.Relaxation.{RationalPoint, rational_at, rational_value, LiesInBox, SatisfiesRow}

@@ -8,7 +8,7 @@ use Rattle.outside.specs.Images.{IsImage, Leaves, LeavesOnly, NoMomentPasses, On
 use Rattle.outside.specs.declared.moment.Moment.{Moment}
 use Rattle.node_journal.specs.Appends.{IsWithOrWithout}
 use Rattle.node_journal.specs.History.{first_of, count_of, BeginsWith, IsPrefixOf, Agree, Keeps, EachFrom, SomeFrom, Anything, MayLeave, RemainsFrom, ExtendsMoments, IsHistory, KeepsHistory}
-use Rattle.node_journal.specs.Records.{Records, Holds, payloads_held, records}
+use Rattle.node_journal.specs.Records.{Records, Intact, payloads_held, records}
 
 side : (i l : ℕ) → (i ≤ l) ⊎ (l < i)
 side i l = grind arith
@@ -41,11 +41,11 @@ leaves_at P [] i m c all at is = absurd (none-some m at)
 leaves_at P (x ∷ ms) zero m c all at is = all.0 c (subst (λ n. IsImage n c) (sym (same_Some x m at)) is)
 leaves_at P (x ∷ ms) (suc i) m c all at is = leaves_at P ms i m c all.1 at is
 
-pub begins_all : (ps : List (List ℕ)) → BeginsWith [] (Holds ps)
+pub begins_all : (ps : List (List ℕ)) → BeginsWith [] (Intact ps)
 begins_all ps = refl
 
-begins_more : (qs ps more : List (List ℕ)) → BeginsWith qs (Holds ps) → BeginsWith qs (Holds (ps ++ more))
-begins_more qs ps more is = ap Holds (take-append-le (length qs) ps more short ∙ same)
+begins_more : (qs ps more : List (List ℕ)) → BeginsWith qs (Intact ps) → BeginsWith qs (Intact (ps ++ more))
+begins_more qs ps more is = ap Intact (take-append-le (length qs) ps more short ∙ same)
   where
     same : take (length qs) ps ≡ qs
     same = ap payloads_held is
@@ -53,21 +53,21 @@ begins_more qs ps more is = ap Holds (take-append-le (length qs) ps more short �
     short : length qs ≤ length ps
     short = omega (arith, length-take (length qs) ps, ap length same)
 
-pub prefix_self : (ps more : List (List ℕ)) → IsPrefixOf (ps ++ more) (Holds ps)
-prefix_self ps more = ap Holds (sym (take-append-le (length ps) ps more (omega arith) ∙ take_all (length ps) ps (omega arith)))
+pub prefix_self : (ps more : List (List ℕ)) → IsPrefixOf (ps ++ more) (Intact ps)
+prefix_self ps more = ap Intact (sym (take-append-le (length ps) ps more (omega arith) ∙ take_all (length ps) ps (omega arith)))
 
 pub prefix_more : (ps more : List (List ℕ)) (r : Records) → IsPrefixOf ps r → IsPrefixOf (ps ++ more) r
-prefix_more ps more r is = is ∙ ap Holds (sym (take-append-le (count_of r) ps more short))
+prefix_more ps more r is = is ∙ ap Intact (sym (take-append-le (count_of r) ps more short))
   where
     short : count_of r ≤ length ps
     short = omega (arith, ap count_of is, length-take (count_of r) ps)
 
-begins_prefix : (qs ps : List (List ℕ)) (r : Records) → IsPrefixOf ps r → BeginsWith qs r → BeginsWith qs (Holds ps)
-begins_prefix qs ps r is begins = subst (λ (l : List (List ℕ)). BeginsWith qs (Holds l)) (take-append-drop (count_of r) ps) (begins_more qs (take (count_of r) ps) (drop (count_of r) ps) (subst (λ (x : Records). BeginsWith qs x) is begins))
+begins_prefix : (qs ps : List (List ℕ)) (r : Records) → IsPrefixOf ps r → BeginsWith qs r → BeginsWith qs (Intact ps)
+begins_prefix qs ps r is begins = subst (λ (l : List (List ℕ)). BeginsWith qs (Intact l)) (take-append-drop (count_of r) ps) (begins_more qs (take (count_of r) ps) (drop (count_of r) ps) (subst (λ (x : Records). BeginsWith qs x) is begins))
 
 -- what begins one list
 pub agree_prefixes : (ps : List (List ℕ)) (r s : Records) → IsPrefixOf ps r → IsPrefixOf ps s → Agree r s
-agree_prefixes ps r s a b = ap (λ (x : Records). first_of (count_of s) x) a ∙ ap Holds (both (count_of s) (count_of r)) ∙ sym (ap (λ (x : Records). first_of (count_of r) x) b)
+agree_prefixes ps r s a b = ap (λ (x : Records). first_of (count_of s) x) a ∙ ap Intact (both (count_of s) (count_of r)) ∙ sym (ap (λ (x : Records). first_of (count_of r) x) b)
   where
     low : (k l : ℕ) → k ≤ l → take k (take l ps) ≡ take l (take k ps)
     low k l le = take-take k l ps le ∙ sym (take_all l (take k ps) (omega (arith, le, length-take k ps)))
@@ -125,12 +125,12 @@ remains_begun past now P i j m n ge le ati atj may = subst (λ x. MayLeave P x) 
 -- a history goes on by a call that adds a payload, or fails to
 module _ (from : ℕ) (past : List Moment) (now : Moment) (past' : List Moment) (now' : Moment) (ps : List (List ℕ)) (p : List ℕ)
     (so_far : IsHistory from (past ++ now ∷ [])) (prefixes : EachFrom from (past ++ now ∷ []) (λ c. IsPrefixOf ps (records c))) (begun : from ≤ length past)
-    (run : LeavesOnly past now past' now' (IsWithOrWithout ps p)) (without : SomeFrom (length past) past' (λ c. records c ≡ Holds ps))
-    (here : (c : List ℕ) × IsImage now c × (records c ≡ Holds ps)) where
+    (run : LeavesOnly past now past' now' (IsWithOrWithout ps p)) (without : SomeFrom (length past) past' (λ c. records c ≡ Intact ps))
+    (here : (c : List ℕ) × IsImage now c × (records c ≡ Intact ps)) where
   prefix_of_new : (c : List ℕ) → IsWithOrWithout ps p c → IsPrefixOf (ps ++ p ∷ []) (records c)
   prefix_of_new c is = ⊎_elim
       (λ old. subst (λ (r : Records). IsPrefixOf (ps ++ p ∷ []) r) (sym old) (prefix_self ps (p ∷ [])))
-      (λ new. subst (λ (r : Records). IsPrefixOf (ps ++ p ∷ []) r) (sym new) (ap Holds (sym (take_all (length (ps ++ p ∷ [])) (ps ++ p ∷ []) (omega arith)))))
+      (λ new. subst (λ (r : Records). IsPrefixOf (ps ++ p ∷ []) r) (sym new) (ap Intact (sym (take_all (length (ps ++ p ∷ [])) (ps ++ p ∷ []) (omega arith)))))
       is
 
   -- each crash leaves a prefix of the payloads with the new one
@@ -140,13 +140,13 @@ module _ (from : ℕ) (past : List Moment) (now : Moment) (past' : List Moment) 
     | inr gt ↦ prefix_of_new c (run_each past now past' now' (IsWithOrWithout ps p) run i m c (omega (arith, gt)) at is)
   ]
 
-  begins_new : (qs : List (List ℕ)) (c : List ℕ) → BeginsWith qs (Holds ps) → IsWithOrWithout ps p c → BeginsWith qs (records c)
+  begins_new : (qs : List (List ℕ)) (c : List ℕ) → BeginsWith qs (Intact ps) → IsWithOrWithout ps p c → BeginsWith qs (records c)
   begins_new qs c is held = ⊎_elim
       (λ old. subst (λ (r : Records). BeginsWith qs r) (sym old) is)
       (λ new. subst (λ (r : Records). BeginsWith qs r) (sym new) (begins_more qs ps (p ∷ []) is))
       held
 
-  begins_here : (qs : List (List ℕ)) → Keeps qs now → BeginsWith qs (Holds ps)
+  begins_here : (qs : List (List ℕ)) → Keeps qs now → BeginsWith qs (Intact ps)
   begins_here qs keeps = subst (λ (r : Records). BeginsWith qs r) here.2 (keeps here.0 here.1)
 
   lasts : (i j : ℕ) (m n : Moment) (qs : List (List ℕ)) → from ≤ i → i ≤ j → slice_get (past' ++ now' ∷ []) i ≡ Some m → slice_get (past' ++ now' ∷ []) j ≡ Some n → Keeps qs m → Keeps qs n
@@ -164,19 +164,19 @@ module _ (from : ℕ) (past : List Moment) (now : Moment) (past' : List Moment) 
       old : (k : ℕ) (x : Moment) → k ≤ length past → slice_get (past' ++ now' ∷ []) k ≡ Some x → slice_get (past ++ now ∷ []) k ≡ Some x
       old = old_moment past now past' now' (IsWithOrWithout ps p) run
 
-      from_now : length past ≤ j → BeginsWith qs (Holds ps) → Keeps qs n
+      from_now : length past ≤ j → BeginsWith qs (Intact ps) → Keeps qs n
       from_now late is c image = begins_new qs c is (run_each past now past' now' (IsWithOrWithout ps p) run j n c late atj image)
 
-      begins_by : (c : List ℕ) × IsImage m c × (records c ≡ Holds ps) → BeginsWith qs (Holds ps)
+      begins_by : (c : List ℕ) × IsImage m c × (records c ≡ Intact ps) → BeginsWith qs (Intact ps)
       begins_by w = subst (λ (r : Records). BeginsWith qs r) w.2 (keeps w.0 w.1)
 
       equal : length past' ≤ i → i ≡ j
       equal last = omega (arith, last, le, slice_get_within (past' ++ now' ∷ []) j n atj, length-append past' (now' ∷ []))
 
   -- once some crash leaves the new payload, some crash at each later moment does
-  module _ (added : RemainsFrom (length past) (past' ++ now' ∷ []) (λ c. records c ≡ Holds (ps ++ p ∷ []))) (seen : IsImage now' now'.seen) where
+  module _ (added : RemainsFrom (length past) (past' ++ now' ∷ []) (λ c. records c ≡ Intact (ps ++ p ∷ []))) (seen : IsImage now' now'.seen) where
     can_leave : SomeFrom (length past) (past' ++ now' ∷ []) (IsWithOrWithout ps p)
-    can_leave = some_last (length past) past' now' (IsWithOrWithout ps p) (some_weaker (length past) past' (λ c. records c ≡ Holds ps) (IsWithOrWithout ps p) (λ c is. inl is) without)
+    can_leave = some_last (length past) past' now' (IsWithOrWithout ps p) (some_weaker (length past) past' (λ c. records c ≡ Intact ps) (IsWithOrWithout ps p) (λ c is. inl is) without)
         (now'.seen, seen, run_each past now past' now' (IsWithOrWithout ps p) run (length past') now' now'.seen (longer past now past' now' (IsWithOrWithout ps p) run) (get_seam past' now' []) seen)
 
     remains : (qs : List (List ℕ)) → RemainsFrom from (past' ++ now' ∷ []) (λ c. BeginsWith qs (records c))
@@ -194,10 +194,10 @@ module _ (from : ℕ) (past : List Moment) (now : Moment) (past' : List Moment) 
         old : (k : ℕ) (x : Moment) → k ≤ length past → slice_get (past' ++ now' ∷ []) k ≡ Some x → slice_get (past ++ now ∷ []) k ≡ Some x
         old = old_moment past now past' now' (IsWithOrWithout ps p) run
 
-        from_old : length past ≤ j → BeginsWith qs (Holds ps) → MayLeave (λ c. BeginsWith qs (records c)) n
+        from_old : length past ≤ j → BeginsWith qs (Intact ps) → MayLeave (λ c. BeginsWith qs (records c)) n
         from_old late is = let w = can_leave j n late atj in ∣ (w.0, w.1, begins_new qs w.0 is w.2) ∣₁
 
-        from_new : MayLeave (λ c. records c ≡ Holds (ps ++ p ∷ [])) n → BeginsWith qs (Holds (ps ++ p ∷ [])) → MayLeave (λ c. BeginsWith qs (records c)) n
+        from_new : MayLeave (λ c. records c ≡ Intact (ps ++ p ∷ [])) n → BeginsWith qs (Intact (ps ++ p ∷ [])) → MayLeave (λ c. BeginsWith qs (records c)) n
         from_new may is = ∥∥₁_map may (λ w. (w.0, w.1, subst (λ (r : Records). BeginsWith qs r) (sym w.2) is))
 
     pub history_grows : IsHistory from (past' ++ now' ∷ [])
@@ -209,13 +209,13 @@ module _ (from : ℕ) (past : List Moment) (now : Moment) (past' : List Moment) 
     }
 
 -- a history begins by calls at each moment of which a crash leaves these payloads alone
-module _ (past : List Moment) (now : Moment) (past' : List Moment) (now' : Moment) (ps : List (List ℕ)) (run : LeavesOnly past now past' now' (λ c. records c ≡ Holds ps))
-    (some : SomeFrom (length past) past' (λ c. records c ≡ Holds ps)) where
-  each : EachFrom (length past) (past' ++ now' ∷ []) (λ c. records c ≡ Holds ps)
-  each = run_each past now past' now' (λ c. records c ≡ Holds ps) run
+module _ (past : List Moment) (now : Moment) (past' : List Moment) (now' : Moment) (ps : List (List ℕ)) (run : LeavesOnly past now past' now' (λ c. records c ≡ Intact ps))
+    (some : SomeFrom (length past) past' (λ c. records c ≡ Intact ps)) where
+  each : EachFrom (length past) (past' ++ now' ∷ []) (λ c. records c ≡ Intact ps)
+  each = run_each past now past' now' (λ c. records c ≡ Intact ps) run
 
   pub prefixes_begin : EachFrom (length past) (past' ++ now' ∷ []) (λ c. IsPrefixOf ps (records c))
-  prefixes_begin i m c ge at is = subst (λ (r : Records). IsPrefixOf ps r) (sym (each i m c ge at is)) (ap Holds (sym (take_all (length ps) ps (omega arith))))
+  prefixes_begin i m c ge at is = subst (λ (r : Records). IsPrefixOf ps r) (sym (each i m c ge at is)) (ap Intact (sym (take_all (length ps) ps (omega arith))))
 
   lasts_begin : (i j : ℕ) (m n : Moment) (qs : List (List ℕ)) → length past ≤ i → i ≤ j → slice_get (past' ++ now' ∷ []) i ≡ Some m → slice_get (past' ++ now' ∷ []) j ≡ Some n → Keeps qs m → Keeps qs n
   lasts_begin i j m n qs ge le ati atj keeps = elim (side (length past') i) [
@@ -226,7 +226,7 @@ module _ (past : List Moment) (now : Moment) (past' : List Moment) (now' : Momen
       equal : length past' ≤ i → i ≡ j
       equal last = omega (arith, last, le, slice_get_within (past' ++ now' ∷ []) j n atj, length-append past' (now' ∷ []))
 
-      held : (c : List ℕ) × IsImage m c × (records c ≡ Holds ps) → Keeps qs n
+      held : (c : List ℕ) × IsImage m c × (records c ≡ Intact ps) → Keeps qs n
       held w d is = subst (λ (r : Records). BeginsWith qs r) (w.2 ∙ sym (each j n d (omega (arith, ge, le)) atj is)) (keeps w.0 w.1)
 
   pub history_begins : ((qs : List (List ℕ)) → RemainsFrom (length past) (past' ++ now' ∷ []) (λ c. BeginsWith qs (records c))) → IsHistory (length past) (past' ++ now' ∷ [])

@@ -6,7 +6,7 @@ use Rattle.std.proofs.lemmas.Option.{slice_get_cases, slice_get_within}
 use Rattle.outside.specs.Images.{IsImage}
 use Rattle.outside.specs.declared.moment.Moment.{Moment}
 use Rattle.node_journal.specs.History.{first_of, count_of, BeginsWith, IsPrefixOf, Agree, Keeps, RemainsFrom, ExtendsMoments, IsHistory, KeepsHistory}
-use Rattle.node_journal.specs.Records.{Records, Holds, Foreign, BrokenAt, records}
+use Rattle.node_journal.specs.Records.{Records, Intact, Foreign, BrokenAt, records}
 
 side : (i l : ℕ) → (i ≤ l) ⊎ (l < i)
 side i l = grind arith
@@ -17,12 +17,12 @@ last_moment [] now = refl
 last_moment (x ∷ past) now = last_moment past now
 
 fewer : (n : ℕ) (s : Records) → count_of (first_of n s) ≤ count_of s
-fewer n (Holds ps) = omega (arith, length-take n ps)
+fewer n (Intact ps) = omega (arith, length-take n ps)
 fewer n Foreign = omega arith
 fewer n (BrokenAt place) = omega arith
 
 first_of_first : (k l : ℕ) (s : Records) → k ≤ l → first_of k s ≡ first_of k (first_of l s)
-first_of_first k l (Holds ps) le = ap Holds (sym (take-take k l ps le))
+first_of_first k l (Intact ps) le = ap Intact (sym (take-take k l ps le))
 first_of_first k l Foreign le = refl
 first_of_first k l (BrokenAt place) le = refl
 
@@ -35,7 +35,7 @@ slice_get_is ms i lt = elim (slice_get_cases ms i).1 [
 
 -- what begins a list of payloads agrees with what begins with all of them
 agree_beyond : (ps : List (List ℕ)) (r s : Records) → IsPrefixOf ps r → BeginsWith ps s → Agree r s
-agree_beyond ps r s less more = ap (λ (x : Records). first_of (count_of s) x) less ∙ ap Holds same ∙ sym there
+agree_beyond ps r s less more = ap (λ (x : Records). first_of (count_of s) x) less ∙ ap Intact same ∙ sym there
   where
     short : count_of r ≤ length ps
     short = omega (arith, ap count_of less, length-take (count_of r) ps)
@@ -43,7 +43,7 @@ agree_beyond ps r s less more = ap (λ (x : Records). first_of (count_of s) x) l
     long : length ps ≤ count_of s
     long = omega (arith, ap count_of more, fewer (length ps) s)
 
-    there : first_of (count_of r) s ≡ Holds (take (count_of r) ps)
+    there : first_of (count_of r) s ≡ Intact (take (count_of r) ps)
     there = first_of_first (count_of r) (length ps) s short ∙ ap (λ (x : Records). first_of (count_of r) x) more
 
     same : take (count_of s) (take (count_of r) ps) ≡ take (count_of r) ps
@@ -108,7 +108,7 @@ module _ (from since : ℕ) (past past' : List Moment) (now now' : Moment) (ps :
   histories_joined = record { reads = reads; agreeing = agreeing; lasting = lasting; remaining = remaining }
 
 prefix_longer : (ps qs : List (List ℕ)) (r : Records) → take (length ps) qs ≡ ps → IsPrefixOf ps r → IsPrefixOf qs r
-prefix_longer ps qs r begins is = is ∙ ap Holds (ap (λ (l : List (List ℕ)). take (count_of r) l) (sym begins) ∙ take-take (count_of r) (length ps) qs short)
+prefix_longer ps qs r begins is = is ∙ ap Intact (ap (λ (l : List (List ℕ)). take (count_of r) l) (sym begins) ∙ take-take (count_of r) (length ps) qs short)
   where
     short : count_of r ≤ length ps
     short = omega (arith, ap count_of is, length-take (count_of r) ps)

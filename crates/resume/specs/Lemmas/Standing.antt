@@ -12,7 +12,7 @@ use Rattle.event_core.specs.After.{after}
 use Rattle.event_core.specs.Histories.{state_from, state_of, journaled, AreLegal, IsLegal}
 use Rattle.event_core.specs.Laws.{unheld, JournalsAreLegal}
 use Rattle.event_core.specs.Lemmas.Running.{state_from-append, legal_prefix, legal_more}
-use Rattle.node_journal.specs.Records.{Holds, records}
+use Rattle.node_journal.specs.Records.{Intact, records}
 use Rattle.node_journal.specs.History.{IsPrefixOf, count_of}
 use Rattle.node_pool.specs.Payloads.{codes, codes_given, model_in, IsJournalOf}
 use Rattle.node_pool.specs.Stored.{IsStored}
@@ -55,7 +55,7 @@ read_take p k es read = record {
 }
 
 -- a beginning of the model's record and the codes of events stands for the problem, or is none
-beginning_stands : (p : Problem) (model : List ℕ) (es : List Entry) → IsModelOf model p → IsReadAs p (codes es) es → (k : ℕ) (c : List ℕ) → records c ≡ Holds (take k (model ∷ codes es)) → IsFreshOrStands p c
+beginning_stands : (p : Problem) (model : List ℕ) (es : List Entry) → IsModelOf model p → IsReadAs p (codes es) es → (k : ℕ) (c : List ℕ) → records c ≡ Intact (take k (model ∷ codes es)) → IsFreshOrStands p c
 beginning_stands p model es is read zero c held = inl held
 beginning_stands p model es is read (suc k) c held =
     inr (model ∷ take k (codes es), take k es, held, record { rest = take k (codes es); parts = refl; model = is; read = read_take p k es read })

@@ -34,7 +34,7 @@ use Rattle.event_core.specs.Lemmas.Ended.{left_within, leaves-length}
 use Rattle.event_core.specs.Lemmas.Sounding.{IsKept, is_improvement}
 use Rattle.expand.specs.declared.finding.Finding.{Finding}
 use Rattle.expand.specs.declared.finding.Finding.TheVariants.{Cuts, Shut, Whole, Solved, Loose}
-use Rattle.expand.specs.Findings.{HasRow, IsOfRun, Holds}
+use Rattle.expand.specs.Findings.{HasRow, IsOfRun, IsTrueFinding}
 
 -- ---- cutoffs
 pub same_cutoff : (c : Option ℚ) → IsAtMost c c
@@ -61,7 +61,7 @@ module _ (p : Problem) (cs more : List Cut) (box : List Span) (old lower : Optio
   still_run (Cramped k pivots) h = (longer k h.0, ap (λ ds. answer p ds box) (take-append-le k cs more h.0) ∙ h.1)
   still_run (Stalled k) h = (longer k h.0, ap (λ ds. answer p ds box) (take-append-le k cs more h.0) ∙ h.1)
 
-  pub still_found : (f : Finding) → Holds p cs box old f → Holds p (cs ++ more) box lower f
+  pub still_found : (f : Finding) → IsTrueFinding p cs box old f → IsTrueFinding p (cs ++ more) box lower f
   still_found (Cuts mults) h = record { some = h.some; few = h.few; rows = All-weaker (HasRow p cs) (HasRow p (cs ++ more)) still_row mults h.rows }
   still_found (Shut proof) h = still_shut proof h
   still_found (Whole x) h = h
@@ -76,7 +76,7 @@ module _ (p : Problem) (cs more : List Cut) (box : List Span) (old lower : Optio
 -- ---- events
 -- it holds at the node
 abbrev pub HoldsAt : ℕ → Finding → State → Type 0
-HoldsAt node f s = Holds s.problem s.cuts (box_of s node) (cutoff s) f
+HoldsAt node f s = IsTrueFinding s.problem s.cuts (box_of s node) (cutoff s) f
 
 found_cut : (node : ℕ) (f : Finding) (s : State) (mult : Multipliers) (o : Option Row) → HoldsAt node f s → HoldsAt node f (after_cut s mult o)
 found_cut node f s mult None h = h
@@ -85,7 +85,7 @@ found_cut node f s mult (Some r) h = still_found s.problem s.cuts (record { row 
 found_offer : (node : ℕ) (f : Finding) (s : State) (o : Option ℕ) (x : Point) → IsLegal s o (Offer x) → HoldsAt node f s → HoldsAt node f (after s o (Offer x))
 found_offer node f s o x l h =
     let lower = better_cutoff s.incumbent (objective_at s.problem x) (is_improvement s o x l).better in
-    subst (λ (cs : List Cut). Holds s.problem cs (box_of s node) (Some (objective_at s.problem x)) f) (append-nil s.cuts)
+    subst (λ (cs : List Cut). IsTrueFinding s.problem cs (box_of s node) (Some (objective_at s.problem x)) f) (append-nil s.cuts)
     (still_found s.problem s.cuts [] (box_of s node) (cutoff s) (Some (objective_at s.problem x)) lower f h)
 
 -- what was found of a node that is there holds after each legal event
@@ -97,5 +97,5 @@ found_after node f s o (Offer x) k n l h = found_offer node f s o x l h
 found_after node f s o (Split i j b r) k n l h =
     let there = left_within s.ended i (split_passed s o i j b r l.admitted).opened in
     let share = splits_share (tree_of s) k.tree i j b (omega (arith, there, leaves-length s.ended s.nodes k.leaves)) in
-    subst (λ (box : List Span). Holds s.problem s.cuts box (cutoff s) f) (sym (share.box_kept node n)) h
+    subst (λ (box : List Span). IsTrueFinding s.problem s.cuts box (cutoff s) f) (sym (share.box_kept node n)) h
 found_after node f s o (Close i proof) k n l h = h

@@ -18,7 +18,7 @@ use Rattle.worker_gate.specs.declared.entry.PoolEntry.{PoolEntry}
 use Rattle.worker_gate.specs.declared.entry.PoolEntry.TheVariants.{Opened, Happened, Halted}
 use Rattle.worker_gate.specs.Entries.{name_of, is_opened, opening_in, events_in, state_in}
 use Rattle.worker_gate.specs.Legal.{IsRecorded, IsLegalList}
-use Rattle.worker_gate.specs.Laws.{Stays, ConditionsStay}
+use Rattle.worker_gate.specs.Laws.{KeepsConditions, ConditionsStay}
 use Rattle.worker_gate.specs.Lemmas.Lists.{events-append, opening-append, state-append}
 use Rattle.worker_gate.specs.Lemmas.Holding.{IsOther, none_after, node_after, held_open}
 use Rattle.worker_gate.specs.Lemmas.Findings.{HoldsAt, found_after}
@@ -106,7 +106,7 @@ module _ (w : ℕ) (old behind : List PoolEntry) (opened : is_opened old ≡ tru
   leads : state_from (state_in old) (events_in behind) ≡ state_in (old ++ behind)
   leads = sym (state-append old behind opened)
 
-  stays_behind : Stays w old (old ++ behind)
+  stays_behind : KeepsConditions w old (old ++ behind)
   stays_behind = record {
     none = λ h. subst (λ (s : State). is_holding s w ≡ false) leads (none_from w (state_in old) (events_in behind) o h);
     node = λ node h. subst (λ (s : State). holds_node s w node ≡ true) leads (node_from w node (state_in old) (events_in behind) k l o h);
@@ -116,4 +116,4 @@ module _ (w : ℕ) (old behind : List PoolEntry) (opened : is_opened old ≡ tru
 
 pub conditions_stay : ConditionsStay
 conditions_stay w old at opened legal goes =
-    subst (λ (l : List PoolEntry). Stays w old l) (sym goes.1) (stays_behind w old goes.0 opened (subst IsLegalList goes.1 legal) goes.2)
+    subst (λ (l : List PoolEntry). KeepsConditions w old l) (sym goes.1) (stays_behind w old goes.0 opened (subst IsLegalList goes.1 legal) goes.2)

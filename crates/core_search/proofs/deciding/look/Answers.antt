@@ -5,15 +5,15 @@ use Rattle.problem.specs.Problem.{Problem}
 use Rattle.incumbent.specs.Offers.{cutoff_of}
 use Rattle.event_core.specs.States.{cutoff}
 use Rattle.expand.specs.Expansion.{IsExpansion}
-use Rattle.expand.specs.Findings.{Holds}
+use Rattle.expand.specs.Findings.{IsTrueFinding}
 use Rattle.expand.specs.Lemmas.Rooms.{without_room}
 use Rattle.core_search.specs.Deciding.{IsLastLook}
-use Rattle.core_search.proofs.Looking.{costs_same, expansion_same, glance_same, holds_same, prepared_still}
+use Rattle.core_search.proofs.Looking.{costs_same, expansion_same, subproblem_same, holds_same, prepared_still}
 use Rattle.core_search.proofs.deciding.look.Goals as goal
 
-pub expand-requires-clause-glance : goal.expand-requires-clause-glance
-expand-requires-clause-glance c =
-    glance_same c.args.state.now.state c.problem.result.now c.book.result.now.cuts c.args.worker.now.relaxation c.args.node.now.area c.problem.ensures c.book.ensures (record {
+pub expand-requires-clause-subproblem : goal.expand-requires-clause-subproblem
+expand-requires-clause-subproblem c =
+    subproblem_same c.args.state.now.state c.problem.result.now c.book.result.now.cuts c.args.worker.now.relaxation c.args.node.now.area c.problem.ensures c.book.ensures (record {
       few = c.node_conditions_hold.ensures.sound.few_cuts;
       all_cuts = c.requires.prepared.all_cuts;
       prepared = c.requires.prepared.prepared;
@@ -34,7 +34,7 @@ returns-clause-holds c =
     let p = c.problem.result.now in
     let cs = c.book.result.now.cuts in
     let box = c.args.node.now.area in
-    IfOk-weaker c.expand.result (Holds p cs box c.cutoff.result) (Holds s.problem s.cuts box (cutoff s))
+    IfOk-weaker c.expand.result (IsTrueFinding p cs box c.cutoff.result) (IsTrueFinding s.problem s.cuts box (cutoff s))
     (λ f h. holds_same s p cs box c.cutoff.result f c.problem.ensures c.book.ensures (c.cutoff.ensures ∙ ap cutoff_of c.incumbent.ensures) h) c.expand.ensures.holds
 
 pub returns-clause-last : goal.returns-clause-last

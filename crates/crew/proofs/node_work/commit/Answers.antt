@@ -1,7 +1,7 @@
 use Rattle.std.proofs.Common.{sym, subst}
 use Rattle.worker_gate.specs.Calls.{Commits}
 use Rattle.worker_gate.specs.Gates.{Stepped}
-use Rattle.crew.specs.Steps.{Leaves}
+use Rattle.crew.specs.WorkerSteps.{Leaves}
 use Rattle.crew.proofs.Calling.{committed, refused}
 use Rattle.crew.proofs.node_work.commit.Goals as goal
 

@@ -1,7 +1,7 @@
 use Rattle.crew.proofs.Calling.{leaves_front, leaves_on}
 use Rattle.crew.proofs.Fronts.{front_knows}
 use Rattle.std.proofs.Common.{subst}
-use Rattle.crew.specs.Steps.{Leaves}
+use Rattle.crew.specs.WorkerSteps.{Leaves}
 use Rattle.crew.proofs.node_work.settle_once.Goals as goal
 
 pub returns-in-Ok-clause-knows : goal.returns-in-Ok-clause-knows

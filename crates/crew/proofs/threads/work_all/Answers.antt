@@ -9,13 +9,13 @@ use Rattle.worker_gate.specs.declared.lock_gate.LockGate.{LockGate}
 use Rattle.worker_gate.specs.Conditions.{HoldsNone}
 use Rattle.worker_gate.specs.Entries.{is_opened, state_in}
 use Rattle.worker_gate.specs.Passes.{seen_in}
-use Rattle.crew.specs.Gates.{PoolLock, first_list, IsNewGate, IsDoneGate, IsReady}
+use Rattle.crew.specs.Gates.{PoolLock, first_list, IsNewGate, IsDoneGate, IsReadyGate}
 use Rattle.crew.specs.Lists.{Worked, IsOver}
 use Rattle.crew.proofs.Sending.{gate_send}
 use Rattle.crew.proofs.threads.work_all.Goals as goal
 
 module _ {D : Type 0} (lock : PoolLock) (w : ℕ) (old : LockGate D) (new : IsNewGate lock w old) where
-  ready : (p : Problem) → is_opened (first_list lock) ≡ true → (state_in (first_list lock)).holds ≡ [] → (state_in (first_list lock)).problem ≡ p → IsReady p w old.worker (seen_in old.pass)
+  ready : (p : Problem) → is_opened (first_list lock) ≡ true → (state_in (first_list lock)).holds ≡ [] → (state_in (first_list lock)).problem ≡ p → IsReadyGate p w old.worker (seen_in old.pass)
   ready p opened unheld problem =
       let by : Holder → Bool = λ (k : Holder). nat_eq k.worker old.worker in
       record {

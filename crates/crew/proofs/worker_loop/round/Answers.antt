@@ -1,5 +1,5 @@
 use Rattle.std.proofs.Common.{subst}
-use Rattle.crew.specs.Steps.{Takes}
+use Rattle.crew.specs.WorkerSteps.{Takes}
 use Rattle.crew.proofs.Fronts.{front_knows}
 use Rattle.crew.proofs.worker_loop.round.Goals as goal
 

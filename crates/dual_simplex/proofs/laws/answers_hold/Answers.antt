@@ -1,4 +1,4 @@
-use Rattle.dual_simplex.specs.Lemmas.Holds.{answers_hold}
+use Rattle.dual_simplex.specs.Lemmas.TrueAnswers.{answers_hold}
 use Rattle.dual_simplex.proofs.laws.answers_hold.Goals as goal
 
 pub returns : goal.returns

@@ -3,7 +3,7 @@ use Rattle.std.specs.Prelude.{slice_get}
 use Rattle.std.proofs.lemmas.List.Elements.{All-more}
 use Rattle.std.proofs.lemmas.Option.{get_or_from_slice_get}
 use Rattle.derivation_book.specs.declared.cut.Cut.{Cut}
-use Rattle.derivation_book.specs.Lemmas.Steps.{was_mapped}
+use Rattle.derivation_book.specs.Lemmas.OptionChains.{was_mapped}
 use Rattle.dual_simplex.specs.Sizes.{IsIntegerRow}
 use Rattle.dual_simplex.proofs.sizes.are_small_cuts.Goals as goal
 

@@ -1,5 +1,5 @@
 use Rattle.std.proofs.Common.{ap, subst, ◌∙◌, arith}
-use Rattle.event_codec.specs.Steps.{Gives}
+use Rattle.event_codec.specs.ReadResults.{Gives}
 use Rattle.event_codec.specs.Reading.{event_of}
 use Rattle.event_codec.proofs.Events.{is_found, whole_again}
 use Rattle.event_codec.proofs.decoding.decode.Goals as goal

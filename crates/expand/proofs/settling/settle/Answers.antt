@@ -4,7 +4,7 @@ use Rattle.expand.specs.declared.finding.Finding.TheVariants.{Cuts, Whole, Solve
 use Rattle.expand.specs.declared.settlement.Settlement.{Settlement}
 use Rattle.event_core.specs.States.{cutoff}
 use Rattle.std.specs.Prelude.{ℤ}
-use Rattle.expand.specs.Findings.{IsLoose, Holds}
+use Rattle.expand.specs.Findings.{IsLoose, IsTrueFinding}
 use Rattle.expand.specs.Lemmas.Bounds.{kept_bound}
 use Rattle.expand.proofs.Middles.{middle_modest}
 use Rattle.expand.specs.Settlements.{IsSettlement}
@@ -32,7 +32,7 @@ settled_unanswered-requires-clause-limited c =
     let n : IsNodeBox s.problem box =
     node_box s c.problem.result.now c.args.node box c.conditions_hold.ensures.sound.tree c.problem.ensures c.limits_hold.ensures c.requires.area
     in
-    let h : Holds s.problem s.cuts box (cutoff s) (Loose c.in-Loose.reason c.in-Loose.column c.in-Loose.bound) = subst (Holds s.problem s.cuts box (cutoff s)) c.in-Loose.is c.requires.holds in
+    let h : IsTrueFinding s.problem s.cuts box (cutoff s) (Loose c.in-Loose.reason c.in-Loose.column c.in-Loose.bound) = subst (IsTrueFinding s.problem s.cuts box (cutoff s)) c.in-Loose.is c.requires.holds in
     record { few_columns = few_columns s.problem box n; modest = n.modest; nonempty = h.nonempty }
 
 pub returns-in-Cuts-clause-legal : goal.returns-in-Cuts-clause-legal
@@ -41,7 +41,7 @@ returns-in-Cuts-clause-legal c =
     let box = c.args.area.now in
     let n = node_box s c.problem.result.now c.args.node box c.conditions_hold.ensures.sound.tree c.problem.ensures c.limits_hold.ensures c.requires.area in
     subst (IsSettlement s box) (sym c.separated.ensures)
-    (settled_is_legal s box n c.args.limit (Cuts c.in-Cuts.mults) c.requires.limit c.conditions_hold.ensures.sound.few_cuts (subst (Holds s.problem s.cuts box (cutoff s)) c.in-Cuts.is c.requires.holds))
+    (settled_is_legal s box n c.args.limit (Cuts c.in-Cuts.mults) c.requires.limit c.conditions_hold.ensures.sound.few_cuts (subst (IsTrueFinding s.problem s.cuts box (cutoff s)) c.in-Cuts.is c.requires.holds))
 
 pub returns-in-Whole-clause-legal : goal.returns-in-Whole-clause-legal
 returns-in-Whole-clause-legal c =
@@ -49,7 +49,7 @@ returns-in-Whole-clause-legal c =
     let box = c.args.area.now in
     let n = node_box s c.problem.result.now c.args.node box c.conditions_hold.ensures.sound.tree c.problem.ensures c.limits_hold.ensures c.requires.area in
     subst (IsSettlement s box) (sym (c.improved_or_closed.ensures ∙ ap (improved_or_closed s c.in-Whole.point) c.objective_bound.ensures))
-    (settled_is_legal s box n c.args.limit (Whole c.in-Whole.point) c.requires.limit c.conditions_hold.ensures.sound.few_cuts (subst (Holds s.problem s.cuts box (cutoff s)) c.in-Whole.is c.requires.holds))
+    (settled_is_legal s box n c.args.limit (Whole c.in-Whole.point) c.requires.limit c.conditions_hold.ensures.sound.few_cuts (subst (IsTrueFinding s.problem s.cuts box (cutoff s)) c.in-Whole.is c.requires.holds))
 
 pub returns-in-Solved-clause-legal : goal.returns-in-Solved-clause-legal
 returns-in-Solved-clause-legal c =
@@ -57,7 +57,7 @@ returns-in-Solved-clause-legal c =
     let box = c.args.area.now in
     let n = node_box s c.problem.result.now c.args.node box c.conditions_hold.ensures.sound.tree c.problem.ensures c.limits_hold.ensures c.requires.area in
     let f = Solved c.in-Solved.cuts c.in-Solved.point c.in-Solved.mult c.in-Solved.value c.in-Solved.column in
-    let legal = settled_is_legal s box n c.args.limit f c.requires.limit c.conditions_hold.ensures.sound.few_cuts (subst (Holds s.problem s.cuts box (cutoff s)) c.in-Solved.is c.requires.holds) in
+    let legal = settled_is_legal s box n c.args.limit f c.requires.limit c.conditions_hold.ensures.sound.few_cuts (subst (IsTrueFinding s.problem s.cuts box (cutoff s)) c.in-Solved.is c.requires.holds) in
     IfOk-weaker c.settled_optimum.result (λ (g : Settlement). g ≡ settled s box c.args.limit f) (IsSettlement s box) (λ g e. subst (IsSettlement s box) (sym e) legal) c.settled_optimum.ensures
 
 pub returns-in-Loose-clause-legal : goal.returns-in-Loose-clause-legal
@@ -69,7 +69,7 @@ returns-in-Loose-clause-legal c =
     in
     let reason = c.in-Loose.reason in
     let j = c.in-Loose.column in
-    let h : IsLoose s.problem s.cuts box reason j c.in-Loose.bound = subst (Holds s.problem s.cuts box (cutoff s)) c.in-Loose.is c.requires.holds in
+    let h : IsLoose s.problem s.cuts box reason j c.in-Loose.bound = subst (IsTrueFinding s.problem s.cuts box (cutoff s)) c.in-Loose.is c.requires.holds in
     let kept = kept_bound c.in-Loose.bound (middle_modest box j h.middle.free c.in-Loose.bound h.middle.bound n.modest) in
     subst (IsSettlement s box) (sym (c.settled_unanswered.ensures ∙ ap (λ (b : ℤ). settled s box c.args.limit (Loose reason j b)) kept))
     (settled_is_legal s box n c.args.limit (Loose reason j c.in-Loose.bound) c.requires.limit c.conditions_hold.ensures.sound.few_cuts h)

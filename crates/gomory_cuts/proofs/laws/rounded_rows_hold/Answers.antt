@@ -11,7 +11,7 @@ use Rattle.derivation_book.specs.Rounded.{rounded_row}
 use Rattle.derivation_book.specs.Cuts.{AreCutsOf}
 use Rattle.derivation_book.specs.Lemmas.Cutting.{cuts_hold}
 use Rattle.derivation_book.specs.Lemmas.Rounded.{one_more}
-use Rattle.dual_simplex.specs.Lemmas.Holds.{all_of_both}
+use Rattle.dual_simplex.specs.Lemmas.TrueAnswers.{all_of_both}
 use Rattle.gomory_cuts.proofs.laws.rounded_rows_hold.Goals as goal
 
 last_holds : (p : Problem) (cs : List Cut) (mult : List (ℕ × ℚ)) (r : Row) → IsLimited p → AreCutsOf p cs → rounded_row p cs mult ≡ Some r → (x : List ℤ) → IsFeasible p x → Satisfies x r

@@ -2,7 +2,7 @@ use Rattle.std.proofs.Common.{IsErrOf, ◌≡◌, sym, subst, refl, ap, ◌∙�
 use Rattle.outside.specs.Images.{AtRest, LeavesOnly}
 use Rattle.node_journal.specs.declared.fault.AppendFault.{AppendFault}
 use Rattle.node_journal.specs.declared.fault.AppendFault.TheVariants.{Memory}
-use Rattle.node_journal.specs.Records.{Holds, records}
+use Rattle.node_journal.specs.Records.{Intact, records}
 use Rattle.node_journal.specs.Views.{payloads_of}
 use Rattle.resume.specs.Crashes.{IsAsBeforeOrBegun, LeavesHistory}
 use Rattle.resume.proofs.KeptHistories.{unchanged, begun_history, leaves, leaves_failed, sound_history, rests_at}
@@ -42,13 +42,13 @@ returns-in-Ok-appended-clause-rests g c told = rests_at _ _ (c.in-Ok-appended.en
 pub returns-in-Ok-appended-clause-history : goal.returns-in-Ok-appended-clause-history
 returns-in-Ok-appended-clause-history g c told rests =
     sound_history _ _ _ _ _ c.in-Ok-appended.ensures.sound.1
-    (begun_history _ _ _ _ _ _ _ _ _ _ (c.in-Ok.ensures.read told ∙ ap Holds c.requires.none) (c.in-Ok.ensures.any_moment told rests) (c.in-Ok.ensures.offers told) (g.met.D.Disk.seen_is_image c.in-Ok.journal.disk told)
+    (begun_history _ _ _ _ _ _ _ _ _ _ (c.in-Ok.ensures.read told ∙ ap Intact c.requires.none) (c.in-Ok.ensures.any_moment told rests) (c.in-Ok.ensures.offers told) (g.met.D.Disk.seen_is_image c.in-Ok.journal.disk told)
     (c.history_holds.ensures.kept told).begun (c.append-appended.ensures.continued told) c.append-appended.ensures.opened (c.history_holds-2.ensures.kept told))
 
 pub returns-in-Err-Disk-clause-history_err : goal.returns-in-Err-Disk-clause-history_err
 returns-in-Err-Disk-clause-history_err g c told rests ps holds =
     subst (λ d. LeavesHistory (length (g.D.Disk.past c.args.disk)) (g.D.Disk.past d) (g.D.Disk.now d) true) (sym c.into_disk.ensures)
-    (leaves_failed _ _ _ (begun_history _ _ _ _ _ _ _ _ _ _ (c.in-Ok.ensures.read told ∙ ap Holds c.requires.none) (c.in-Ok.ensures.any_moment told rests) (c.in-Ok.ensures.offers told) (g.met.D.Disk.seen_is_image c.in-Ok.journal.disk told)
+    (leaves_failed _ _ _ (begun_history _ _ _ _ _ _ _ _ _ _ (c.in-Ok.ensures.read told ∙ ap Intact c.requires.none) (c.in-Ok.ensures.any_moment told rests) (c.in-Ok.ensures.offers told) (g.met.D.Disk.seen_is_image c.in-Ok.journal.disk told)
     (c.history_holds.ensures.kept told).begun (c.append-appended.ensures.continued told) c.append-appended.ensures.opened (c.history_holds-2.ensures.kept told)).history)
 
 pub returns-in-Err-Memory-clause-history_err : goal.returns-in-Err-Memory-clause-history_err
@@ -56,7 +56,7 @@ returns-in-Err-Memory-clause-history_err g c told rests ps holds =
     let memory : c.in-Err-Memory.field-0 ≡ Memory = rw c.in-Err-Memory.is at c.in-Err-Memory.field-0-is in
     let failed = subst (λ (f : AppendFault). IsErrOf c.append-appended.result f) memory c.in-Err-Memory.is in
     subst (λ d. LeavesHistory (length (g.D.Disk.past c.args.disk)) (g.D.Disk.past d) (g.D.Disk.now d) false) (sym c.into_disk-in-Err-Memory.ensures)
-    (leaves _ _ _ _ _ refl (sound_history _ _ _ _ _ (c.append-appended.ensures.memory failed).1 (begun_history _ _ _ _ _ _ _ _ _ _ (c.in-Ok.ensures.read told ∙ ap Holds c.requires.none) (c.in-Ok.ensures.any_moment told rests) (c.in-Ok.ensures.offers told) (g.met.D.Disk.seen_is_image c.in-Ok.journal.disk told)
+    (leaves _ _ _ _ _ refl (sound_history _ _ _ _ _ (c.append-appended.ensures.memory failed).1 (begun_history _ _ _ _ _ _ _ _ _ _ (c.in-Ok.ensures.read told ∙ ap Intact c.requires.none) (c.in-Ok.ensures.any_moment told rests) (c.in-Ok.ensures.offers told) (g.met.D.Disk.seen_is_image c.in-Ok.journal.disk told)
     (c.history_holds.ensures.kept told).begun (c.append-appended.ensures.continued told) c.append-appended.ensures.opened (c.history_holds-2.ensures.kept told))))
 
 pub returns-in-Err-Memory-clause-rests_err : goal.returns-in-Err-Memory-clause-rests_err

@@ -6,7 +6,7 @@ use Rattle.event_codec.specs.Models.{model_code}
 use Rattle.event_core.specs.declared.entry.Entry.{Entry}
 use Rattle.event_core.specs.Rooms.{Recorded}
 use Rattle.event_core.specs.States.{State, first_state}
-use Rattle.node_journal.specs.Records.{Holds, records}
+use Rattle.node_journal.specs.Records.{Intact, records}
 use Rattle.node_journal.specs.Views.{payloads_of}
 use Rattle.node_journal.specs.Whole.{payloads_in}
 use Rattle.resume.specs.Journals.{StandsFor, IsFreshOrOf, IsReadFrom}
@@ -103,7 +103,7 @@ returns-then-count-eq0-clause-spared g c told =
     let past = g.D.Disk.past in
     let now = g.D.Disk.now in
     if_err_all c.begin_search.result (λ e. NoMomentPasses (past c.args.disk) (now c.args.disk) (past e.1) (now e.1) ⊎ IsFreshOrOf (model_code c.args.text.now c.args.upper) c.args.problem (now c.args.disk).seen)
-    (λ e. inr (inl (c.in-Ok.ensures.records told ∙ ap Holds (none_held (payloads_of c.in-Ok.scanned) (sym c.count.ensures ∙ c.if-count-eq0.true)))))
+    (λ e. inr (inl (c.in-Ok.ensures.records told ∙ ap Intact (none_held (payloads_of c.in-Ok.scanned) (sym c.count.ensures ∙ c.if-count-eq0.true)))))
 
 pub returns-in-Ok-read_search_of-clause-spared : goal.returns-in-Ok-read_search_of-clause-spared
 returns-in-Ok-read_search_of-clause-spared g c told =

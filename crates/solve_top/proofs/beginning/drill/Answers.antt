@@ -1,6 +1,6 @@
 use Rattle.std.specs.Prelude.{Err, None, Some, refl}
 use Rattle.std.proofs.Common.{◌∙◌}
-use Rattle.solve_top.specs.Steps.{without_disk}
+use Rattle.solve_top.specs.Outcomes.{without_disk}
 use Rattle.solve_top.proofs.Opened.{kept_untouched}
 use Rattle.solve_top.proofs.Performing.{alone_by, drilled_by, drilled_search}
 use Rattle.solve_top.proofs.beginning.drill.Goals as goal

@@ -4,7 +4,7 @@ use Rattle.mps_reader.specs.Reading.{IsRefused}
 use Rattle.drill_instance.specs.Texts.{generated}
 use Rattle.solve_top.specs.declared.outcome.Refusal.{Refusal}
 use Rattle.solve_top.specs.declared.outcome.Refusal.TheVariants as refusal
-use Rattle.solve_top.specs.Steps.{IsReadingOf, IsRefusedDrill}
+use Rattle.solve_top.specs.Outcomes.{IsReadingOf, IsRefusedDrill}
 use Rattle.solve_top.proofs.drill.drilled_model.Goals as goal
 
 refused_drill : (seed : ℕ) (text : List ℕ) (r : Refusal) → text ≡ generated seed → IsReadingOf text None (Err r) → IsRefusedDrill seed r

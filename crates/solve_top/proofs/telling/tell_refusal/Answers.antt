@@ -5,7 +5,7 @@ use Rattle.solve_top.specs.declared.outcome.Refusal.TheVariants as refusal
 use Rattle.solve_top.specs.declared.status.Status.{Status}
 use Rattle.solve_top.specs.Changes.{SinkChange, sink_change}
 use Rattle.solve_top.specs.Statuses.{refused_line}
-use Rattle.solve_top.specs.Steps.{IsToldAs}
+use Rattle.solve_top.specs.Outcomes.{IsToldAs}
 use Rattle.solve_top.proofs.telling.tell_refusal.Goals as goal
 
 told_as : (out : SinkChange) (q r : Refusal) (s : Status) → q ≡ r → IsToldAs out (Err r) s → IsToldAs out (Err q) s

@@ -1,6 +1,6 @@
 use Rattle.std.proofs.Common.{subst}
 use Rattle.turn_lock.specs.Lists.{list_in}
-use Rattle.turn_lock.specs.Steps.{Takes}
+use Rattle.turn_lock.specs.SeatSteps.{Takes}
 use Rattle.turn_lock.proofs.enter.wait_for_turn.Goals as goal
 
 pub returns-then-look-clause-told : goal.returns-then-look-clause-told

@@ -8,7 +8,7 @@ use problem_box::IntBox;
 
 /// What is known when a node is looked at.
 #[derive(Clone, Copy)]
-pub struct Glance<'a> {
+pub struct Subproblem<'a> {
     /// The problem.
     pub problem: &'a Problem,
     /// The problem's cuts.

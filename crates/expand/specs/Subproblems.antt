@@ -9,7 +9,7 @@ use Rattle.dual_simplex.specs.Prepared.{Prepared, IsRelaxationOf}
 use Rattle.expand.specs.Verdicts.{IsPart}
 
 -- a relaxation of the problem with all these cuts, of which there are few, and a box within the problem's
-pub record IsGlance (p : Problem) (cs : List Cut) (r : Prepared) (box : List Span) : Type 0 where
+pub record IsSubproblem (p : Problem) (cs : List Cut) (r : Prepared) (box : List Span) : Type 0 where
   pub few : length cs ≤ most_cuts
   pub all_cuts : r.cuts ≡ length cs
   pub prepared : IsRelaxationOf p cs r

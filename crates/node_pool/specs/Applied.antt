@@ -10,6 +10,6 @@ pub record Applies (s : Recorded) (worker : Option ℕ) (event : Event) (t : Rec
   pub history : t.history ≡ s.history ++ record { worker = worker; event = event } ∷ []
 
 -- nothing was applied
-pub record Stays (s t : Recorded) : Type 0 where
+pub record AppliesNothing (s t : Recorded) : Type 0 where
   pub state : t.state ≡ s.state
   pub history : t.history ≡ s.history
