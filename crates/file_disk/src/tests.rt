@@ -7,9 +7,10 @@ use std::fs::File;
 use std::io::{ErrorKind, Write};
 use std::os::fd::AsRawFd;
 use std::os::unix::fs::symlink;
+use std::rt::Files;
 use std::test::Fail;
 use std::time::UNIX_EPOCH;
-use std::{env, fs, process};
+use std::{env, fs, io, process};
 use watched::Watched;
 
 /// A file where the test runs.
@@ -35,83 +36,154 @@ fn text(path: &Option<String>) -> &str {
     path.as_deref().unwrap_or("")
 }
 
+/// Whether the folder was removed with all that is in it.
+fn remove(rt: &HostRuntime, folder: &String) -> bool {
+    fs::remove_dir_all(rt, folder.as_str()).is_ok()
+}
+
+/// Whether the bytes were written to a file of this name.
+fn fill(rt: &HostRuntime, path: &Option<String>, bytes: &str) -> bool {
+    fs::write(rt, text(path), bytes).is_ok()
+}
+
+/// Whether the file has these bytes.
+fn holds(rt: &HostRuntime, path: &Option<String>, bytes: &str) -> bool {
+    match fs::read_to_string(rt, text(path)) {
+        Ok(held) => held.as_str() == bytes,
+        Err(_) => false,
+    }
+}
+
+/// Whether the disk has these three bytes at its beginning.
+fn has<R: Files<File = File>>(disk: &mut FileDisk<'_, R>, bytes: &[u8; 3]) -> bool {
+    let mut buf = [0; 3];
+    disk.read_at(0, &mut buf) == Ok(()) && buf == *bytes
+}
+
+/// Whether a disk without a path fails.
+fn fails_without_a_path(rt: &HostRuntime) -> bool {
+    let none: Option<String> = None;
+    let mut nowhere = FileDisk::new(rt, &none);
+    nowhere.size() == Err(Failed) && nowhere.faults() == 1
+}
+
+/// Whether a file that isn't there is an empty disk, and is made by the first write.
+fn begins(rt: &HostRuntime, path: &Option<String>) -> bool {
+    let mut disk = FileDisk::new(rt, path);
+    disk.size() == Ok(0)
+        && disk.sync() == Ok(())
+        && matches!(fs::exists(rt, text(path)), Ok(false))
+        && disk.write_at(0, b"abcdef") == Ok(())
+        && disk.write_at(4, b"EFG") == Ok(())
+        && disk.sync() == Ok(())
+        && disk.cut(6) == Ok(())
+}
+
+/// Whether what was written is there for another disk, and no more.
+fn goes_on(rt: &HostRuntime, path: &Option<String>) -> bool {
+    let mut disk = FileDisk::new(rt, path);
+    let mut buf = [0; 4];
+    disk.size() == Ok(6)
+        && disk.read_at(2, &mut buf) == Ok(())
+        && buf == *b"cdEF"
+        && disk.read_at(4, &mut buf) == Err(Failed)
+        && disk.faults() == 1
+}
+
 #[test]
 fn a_file_is_a_disk(rt: HostRuntime) -> Result<(), Fail> {
     let path = Some(format!(in rt.alloc(); "{NAME}")?);
     let _ = fs::remove_file(&rt, NAME);
-    let none: Option<String> = None;
-    let mut nowhere = FileDisk::new(&rt, &none);
-    assert_eq!(rt; nowhere.size(), Err(Failed));
-    assert_eq!(rt; nowhere.faults(), 1);
-    {
-        let mut disk = FileDisk::new(&rt, &path);
-        assert_eq!(rt; disk.size(), Ok(0));
-        assert_eq!(rt; disk.sync(), Ok(()));
-        assert!(rt; !fs::exists(&rt, NAME)?);
-        assert_eq!(rt; disk.write_at(0, b"abcdef"), Ok(()));
-        assert_eq!(rt; disk.write_at(4, b"EFG"), Ok(()));
-        assert_eq!(rt; disk.sync(), Ok(()));
-        assert_eq!(rt; disk.cut(6), Ok(()));
-    }
-    let mut disk = FileDisk::new(&rt, &path);
-    assert_eq!(rt; disk.size(), Ok(6));
-    let mut buf = [0; 4];
-    assert_eq!(rt; disk.read_at(2, &mut buf), Ok(()));
-    assert_eq!(rt; buf.as_slice(), b"cdEF".as_slice());
-    assert_eq!(rt; disk.read_at(4, &mut buf), Err(Failed));
-    assert_eq!(rt; disk.faults(), 1);
-    fs::remove_file(&rt, NAME)?;
+    assert!(rt; fails_without_a_path(&rt));
+    assert!(rt; begins(&rt, &path));
+    assert!(rt; goes_on(&rt, &path));
+    assert!(rt; fs::remove_file(&rt, NAME).is_ok());
     Ok(())
+}
+
+/// Whether a file that can't be opened for writing is read, and each change of it refused, but for one that changes nothing.
+fn only_reads(files: &Watched<'_>, path: &Option<String>) -> bool {
+    let mut disk = FileDisk::new(files, path);
+    disk.size() == Ok(3)
+        && has(&mut disk, b"abc")
+        && disk.sync() == Ok(())
+        && disk.write_at(0, b"x") == Err(Failed)
+        && disk.write_at(1, b"bcd") == Err(Failed)
+        && disk.cut(0) == Err(Failed)
+        && disk.write_at(1, b"bc") == Ok(())
+        && disk.faults() == 3
+        && disk.size() == Ok(3)
+}
+
+/// Whether a disk that has its file for itself writes these bytes at its beginning.
+fn writes(rt: &HostRuntime, path: &Option<String>, bytes: &[u8]) -> bool {
+    FileDisk::new(rt, path).write_at(0, bytes) == Ok(())
 }
 
 #[test]
 fn a_file_that_may_only_be_read(rt: HostRuntime) -> Result<(), Fail> {
     let folder = scratch(&rt, "read")?;
     let path = within(&rt, folder.as_str(), "j")?;
-    fs::write(&rt, text(&path), "abc")?;
-    for kind in [ErrorKind::PermissionDenied, ErrorKind::ReadOnlyFilesystem] {
-        let files = Watched::refusing(&rt, kind);
-        let mut disk = FileDisk::new(&files, &path);
-        let mut buf = [0; 3];
-        assert_eq!(rt; disk.size(), Ok(3));
-        assert_eq!(rt; disk.read_at(0, &mut buf), Ok(()));
-        assert_eq!(rt; buf.as_slice(), b"abc".as_slice());
-        assert_eq!(rt; disk.sync(), Ok(()));
-        assert_eq!(rt; disk.write_at(0, b"x"), Err(Failed));
-        assert_eq!(rt; disk.write_at(1, b"bcd"), Err(Failed));
-        assert_eq!(rt; disk.cut(0), Err(Failed));
-        assert_eq!(rt; disk.write_at(1, b"bc"), Ok(()));
-        assert_eq!(rt; disk.faults(), 3);
-        assert_eq!(rt; disk.size(), Ok(3));
-        let mut other = FileDisk::new(&rt, &path);
-        assert_eq!(rt; other.write_at(0, b"abc"), Ok(()));
+    assert!(rt; fill(&rt, &path, "abc"));
+    for kind in &[ErrorKind::PermissionDenied, ErrorKind::ReadOnlyFilesystem] {
+        assert!(rt; only_reads(&Watched::refusing(&rt, *kind), &path));
+        assert!(rt; writes(&rt, &path, b"abc"));
     }
     let files = Watched::refusing(&rt, ErrorKind::Other);
     assert_eq!(rt; FileDisk::new(&files, &path).size(), Err(Failed));
-    fs::remove_dir_all(&rt, folder.as_str())?;
+    assert!(rt; remove(&rt, &folder));
     Ok(())
+}
+
+/// Whether what is at this path is no disk.
+fn is_no_disk(rt: &HostRuntime, path: &Option<String>) -> bool {
+    let mut disk = FileDisk::new(rt, path);
+    disk.size() == Err(Failed)
+        && disk.sync() == Err(Failed)
+        && disk.write_at(0, b"x") == Err(Failed)
+        && disk.faults() == 3
+}
+
+/// Whether a pipe is no disk.
+fn no_pipe_is_a_disk(rt: &HostRuntime) -> Result<bool, Fail> {
+    let (reader, writer) = std::io::pipe(rt)?;
+    let pipe = reader.as_raw_fd();
+    drop(writer);
+    let path = Some(format!(in rt.alloc(); "/proc/self/fd/{pipe}")?);
+    Ok(is_no_disk(rt, &path))
 }
 
 #[test]
 fn only_a_plain_file_is_a_disk(rt: HostRuntime) -> Result<(), Fail> {
     let folder = scratch(&rt, "plain")?;
-    let (reader, writer) = std::io::pipe(&rt)?;
-    let pipe = reader.as_raw_fd();
-    let pipe = format!(in rt.alloc(); "/proc/self/fd/{pipe}")?;
-    drop(writer);
-    let others = [folder.as_str(), "/dev/null", "/dev/zero", pipe.as_str()];
-    for other in others {
+    for other in &[folder.as_str(), "/dev/null", "/dev/zero"] {
         let path = Some(format!(in rt.alloc(); "{other}")?);
-        let mut disk = FileDisk::new(&rt, &path);
-        assert_eq!(rt; disk.size(), Err(Failed));
-        assert_eq!(rt; disk.sync(), Err(Failed));
-        assert_eq!(rt; disk.write_at(0, b"x"), Err(Failed));
-        assert_eq!(rt; disk.faults(), 3);
+        assert!(rt; is_no_disk(&rt, &path));
     }
+    assert!(rt; no_pipe_is_a_disk(&rt)?);
     let below_a_file = within(&rt, "/dev/null", "j")?;
     assert_eq!(rt; FileDisk::new(&rt, &below_a_file).size(), Err(Failed));
-    fs::remove_dir_all(&rt, folder.as_str())?;
+    assert!(rt; remove(&rt, &folder));
     Ok(())
+}
+
+/// Whether a disk syncs the entry of its file once; so many tries were made with this one.
+fn syncs_its_entry(files: &Watched<'_>, path: &Option<String>, tries: u32) -> bool {
+    let mut disk = FileDisk::new(files, path);
+    disk.write_at(0, b"abc") == Ok(())
+        && disk.sync() == Ok(())
+        && files.tries() == tries
+        && disk.sync() == Ok(())
+        && files.tries() == tries
+}
+
+/// Whether a disk whose entry can't be synced fails from then on, and is read still.
+fn fails_without_its_entry(files: &Watched<'_>, path: &Option<String>) -> bool {
+    files.close();
+    let mut disk = FileDisk::new(files, path);
+    let refused = disk.sync();
+    files.open();
+    refused == Err(Failed) && disk.sync() == Err(Failed) && disk.size() == Ok(3)
 }
 
 #[test]
@@ -120,114 +192,146 @@ fn the_entry_is_synced_once_a_run(rt: HostRuntime) -> Result<(), Fail> {
     let path = within(&rt, folder.as_str(), "j")?;
     let files = Watched::at(&rt, folder.as_str());
     for run in 1..3 {
-        let mut disk = FileDisk::new(&files, &path);
-        assert_eq!(rt; disk.write_at(0, b"abc"), Ok(()));
-        assert_eq!(rt; disk.sync(), Ok(()));
-        assert_eq!(rt; files.tries(), run);
-        assert_eq!(rt; disk.sync(), Ok(()));
-        assert_eq!(rt; files.tries(), run);
+        assert!(rt; syncs_its_entry(&files, &path, run));
     }
-    files.close();
-    let mut disk = FileDisk::new(&files, &path);
-    assert_eq!(rt; disk.sync(), Err(Failed));
-    files.open();
-    assert_eq!(rt; disk.sync(), Err(Failed));
-    assert_eq!(rt; disk.size(), Ok(3));
-    fs::remove_dir_all(&rt, folder.as_str())?;
+    assert!(rt; fails_without_its_entry(&files, &path));
+    assert!(rt; remove(&rt, &folder));
     Ok(())
+}
+
+/// Whether a disk behind links syncs the entry of their target, with so many tries by now.
+fn syncs_the_target(files: &Watched<'_>, path: &Option<String>, size: u64, tries: u32) -> bool {
+    let mut disk = FileDisk::new(files, path);
+    disk.size() == Ok(size)
+        && disk.write_at(0, b"abc") == Ok(())
+        && disk.sync() == Ok(())
+        && files.tries() == tries
 }
 
 #[test]
 fn the_entry_is_that_of_a_links_target(rt: HostRuntime) -> Result<(), Fail> {
     let folder = scratch(&rt, "link")?;
     let below = within(&rt, folder.as_str(), "below")?;
-    fs::create_dir(&rt, text(&below))?;
     let path = within(&rt, folder.as_str(), "j")?;
-    symlink(&rt, "hop", text(&path))?;
     let hop = within(&rt, folder.as_str(), "hop")?;
-    symlink(&rt, "below/j", text(&hop))?;
-    let files = Watched::at(&rt, text(&below));
-    for run in 1..3 {
-        let mut disk = FileDisk::new(&files, &path);
-        assert_eq!(rt; disk.size(), Ok(if run == 1 { 0 } else { 3 }));
-        assert_eq!(rt; disk.write_at(0, b"abc"), Ok(()));
-        assert_eq!(rt; disk.sync(), Ok(()));
-        assert_eq!(rt; files.tries(), run);
-    }
     let target = within(&rt, text(&below), "j")?;
-    let held = fs::read_to_string(&rt, text(&target))?;
-    assert_eq!(rt; held.as_str(), "abc");
-    fs::remove_dir_all(&rt, folder.as_str())?;
+    assert!(rt; fs::create_dir(&rt, text(&below)).is_ok());
+    assert!(rt; symlink(&rt, "hop", text(&path)).is_ok());
+    assert!(rt; symlink(&rt, "below/j", text(&hop)).is_ok());
+    let files = Watched::at(&rt, text(&below));
+    assert!(rt; syncs_the_target(&files, &path, 0, 1));
+    assert!(rt; syncs_the_target(&files, &path, 3, 2));
+    assert!(rt; holds(&rt, &target, "abc"));
+    assert!(rt; remove(&rt, &folder));
     Ok(())
+}
+
+/// Whether a file is not synced whose name is gone, or another's; it may have been synced before.
+fn notices_that_its_name_is_gone(
+    rt: &HostRuntime,
+    path: &Option<String>,
+    replaced: bool,
+    synced: bool,
+) -> bool {
+    let mut disk = FileDisk::new(rt, path);
+    disk.write_at(0, b"abc") == Ok(())
+        && (!synced || disk.sync() == Ok(()))
+        && fs::remove_file(rt, text(path)).is_ok()
+        && (!replaced || fill(rt, path, "abc"))
+        && disk.sync() == Err(Failed)
 }
 
 #[test]
 fn a_file_whose_name_is_gone_is_not_synced(rt: HostRuntime) -> Result<(), Fail> {
     let folder = scratch(&rt, "gone")?;
     let path = within(&rt, folder.as_str(), "j")?;
-    for (replaced, synced) in [(false, false), (false, true), (true, false), (true, true)] {
-        let mut disk = FileDisk::new(&rt, &path);
-        assert_eq!(rt; disk.write_at(0, b"abc"), Ok(()));
-        if synced {
-            assert_eq!(rt; disk.sync(), Ok(()));
-        }
-        fs::remove_file(&rt, text(&path))?;
-        if replaced {
-            fs::write(&rt, text(&path), "abc")?;
-        }
-        assert_eq!(rt; disk.sync(), Err(Failed));
+    for (replaced, synced) in &[(false, false), (false, true), (true, false), (true, true)] {
+        assert!(rt; notices_that_its_name_is_gone(&rt, &path, *replaced, *synced));
     }
-    fs::remove_dir_all(&rt, folder.as_str())?;
+    assert!(rt; remove(&rt, &folder));
     Ok(())
+}
+
+/// Whether a second disk reads the file of a first one and can't change it, also not when the first one is gone.
+fn leaves_the_file_to_the_first(rt: &HostRuntime, path: &Option<String>) -> bool {
+    let mut second = FileDisk::new(rt, path);
+    refuses_beside_the_first(rt, path, &mut second)
+        && second.write_at(0, b"x") == Err(Failed)
+        && second.size() == Ok(4)
+}
+
+/// The same while the first one is there.
+fn refuses_beside_the_first(
+    rt: &HostRuntime,
+    path: &Option<String>,
+    second: &mut FileDisk<'_, HostRuntime>,
+) -> bool {
+    let mut first = FileDisk::new(rt, path);
+    first.write_at(0, b"abc") == Ok(())
+        && has(second, b"abc")
+        && second.write_at(0, b"x") == Err(Failed)
+        && second.cut(0) == Err(Failed)
+        && second.faults() == 2
+        && first.write_at(3, b"d") == Ok(())
 }
 
 #[test]
 fn one_disk_writes_a_file(rt: HostRuntime) -> Result<(), Fail> {
     let folder = scratch(&rt, "lock")?;
     let path = within(&rt, folder.as_str(), "j")?;
-    let mut buf = [0; 3];
-    let mut second = {
-        let mut first = FileDisk::new(&rt, &path);
-        assert_eq!(rt; first.write_at(0, b"abc"), Ok(()));
-        let mut second = FileDisk::new(&rt, &path);
-        assert_eq!(rt; second.read_at(0, &mut buf), Ok(()));
-        assert_eq!(rt; buf.as_slice(), b"abc".as_slice());
-        assert_eq!(rt; second.write_at(0, b"x"), Err(Failed));
-        assert_eq!(rt; second.cut(0), Err(Failed));
-        assert_eq!(rt; second.faults(), 2);
-        assert_eq!(rt; first.write_at(3, b"d"), Ok(()));
-        second
-    };
-    // The first is gone. What the second had found was another file than this one is now.
-    assert_eq!(rt; second.write_at(0, b"x"), Err(Failed));
-    assert_eq!(rt; second.size(), Ok(4));
-    drop(second);
-    let mut third = FileDisk::new(&rt, &path);
-    assert_eq!(rt; third.write_at(4, b"e"), Ok(()));
-    let held = fs::read_to_string(&rt, text(&path))?;
-    assert_eq!(rt; held.as_str(), "abcde");
-    fs::remove_dir_all(&rt, folder.as_str())?;
+    assert!(rt; leaves_the_file_to_the_first(&rt, &path));
+    assert_eq!(rt; FileDisk::new(&rt, &path).write_at(4, b"e"), Ok(()));
+    assert!(rt; holds(&rt, &path, "abcde"));
+    assert!(rt; remove(&rt, &folder));
     Ok(())
+}
+
+/// Writes somebody else's bytes over those of the file, with another time of change.
+fn changes(rt: &HostRuntime, path: &Option<String>) -> io::Result<()> {
+    let mut other = File::options().write(true).open(rt, text(path))?;
+    other.write_all(b"xyz")?;
+    other.set_modified(UNIX_EPOCH)
+}
+
+/// Whether a file that was changed since a disk looked at it is left alone.
+fn leaves_what_was_changed(rt: &HostRuntime, path: &Option<String>) -> bool {
+    let mut disk = FileDisk::new(rt, path);
+    disk.size() == Ok(3)
+        && changes(rt, path).is_ok()
+        && disk.write_at(3, b"d") == Err(Failed)
+        && disk.write_at(3, b"d") == Err(Failed)
 }
 
 #[test]
 fn a_file_that_was_changed_is_not_written(rt: HostRuntime) -> Result<(), Fail> {
     let folder = scratch(&rt, "changed")?;
     let path = within(&rt, folder.as_str(), "j")?;
-    fs::write(&rt, text(&path), "abc")?;
-    let mut disk = FileDisk::new(&rt, &path);
-    assert_eq!(rt; disk.size(), Ok(3));
-    {
-        let mut other = File::options().write(true).open(&rt, text(&path))?;
-        other.write_all(b"xyz")?;
-        other.set_modified(UNIX_EPOCH)?;
-    }
-    assert_eq!(rt; disk.write_at(3, b"d"), Err(Failed));
-    assert_eq!(rt; disk.write_at(3, b"d"), Err(Failed));
-    let held = fs::read_to_string(&rt, text(&path))?;
-    assert_eq!(rt; held.as_str(), "xyz");
-    fs::remove_dir_all(&rt, folder.as_str())?;
+    assert!(rt; fill(&rt, &path, "abc"));
+    assert!(rt; leaves_what_was_changed(&rt, &path));
+    assert!(rt; holds(&rt, &path, "xyz"));
+    assert!(rt; remove(&rt, &folder));
     Ok(())
+}
+
+/// Whether a file that appeared since a disk found none is left alone.
+fn leaves_what_appeared(
+    rt: &HostRuntime,
+    path: &Option<String>,
+    direct: &Option<String>,
+    bytes: &str,
+) -> bool {
+    let mut disk = FileDisk::new(rt, path);
+    disk.size() == Ok(0)
+        && fill(rt, direct, bytes)
+        && disk.write_at(0, b"xyz") == Err(Failed)
+        && holds(rt, direct, bytes)
+        && fs::remove_file(rt, text(direct)).is_ok()
+}
+
+/// Whether a disk whose folder isn't there is empty, and can't be written.
+fn needs_its_folder(rt: &HostRuntime, path: &Option<String>) -> bool {
+    let mut disk = FileDisk::new(rt, path);
+    disk.size() == Ok(0) && disk.write_at(0, b"xyz") == Err(Failed)
 }
 
 #[test]
@@ -235,40 +339,34 @@ fn a_file_that_appeared_is_not_taken(rt: HostRuntime) -> Result<(), Fail> {
     let folder = scratch(&rt, "appeared")?;
     let direct = within(&rt, folder.as_str(), "j")?;
     let link = within(&rt, folder.as_str(), "link")?;
-    symlink(&rt, "j", text(&link))?;
-    for (path, bytes) in [(&direct, ""), (&direct, "abc"), (&link, "abc")] {
-        let mut disk = FileDisk::new(&rt, path);
-        assert_eq!(rt; disk.size(), Ok(0));
-        fs::write(&rt, text(&direct), bytes)?;
-        assert_eq!(rt; disk.write_at(0, b"xyz"), Err(Failed));
-        let held = fs::read_to_string(&rt, text(&direct))?;
-        assert_eq!(rt; held.as_str(), bytes);
-        fs::remove_file(&rt, text(&direct))?;
-    }
     let no_folder = within(&rt, text(&direct), "j")?;
-    let mut disk = FileDisk::new(&rt, &no_folder);
-    assert_eq!(rt; disk.size(), Ok(0));
-    assert_eq!(rt; disk.write_at(0, b"xyz"), Err(Failed));
-    fs::remove_dir_all(&rt, folder.as_str())?;
+    assert!(rt; symlink(&rt, "j", text(&link)).is_ok());
+    assert!(rt; leaves_what_appeared(&rt, &direct, &direct, ""));
+    assert!(rt; leaves_what_appeared(&rt, &direct, &direct, "abc"));
+    assert!(rt; leaves_what_appeared(&rt, &link, &direct, "abc"));
+    assert!(rt; needs_its_folder(&rt, &no_folder));
+    assert!(rt; remove(&rt, &folder));
     Ok(())
 }
 
-// A place that no file system has stands for one that is full.
+/// Whether nothing is written where there is no room, and the rest stays. A place that no file system has stands for one that is full.
+fn keeps_the_rest(rt: &HostRuntime, path: &Option<String>) -> bool {
+    let mut disk = FileDisk::new(rt, path);
+    disk.write_at(0, b"abc") == Ok(())
+        && disk.write_at(u64::MAX, b"xyz") == Err(Failed)
+        && disk.write_at(1 << 63, b"xyz") == Err(Failed)
+        && disk.write_at((1 << 63) - 1, b"xyz") == Err(Failed)
+        && disk.cut(1 << 63) == Err(Failed)
+        && disk.faults() == 4
+        && disk.size() == Ok(3)
+        && has(&mut disk, b"abc")
+}
+
 #[test]
 fn what_finds_no_room_leaves_the_rest(rt: HostRuntime) -> Result<(), Fail> {
     let folder = scratch(&rt, "room")?;
     let path = within(&rt, folder.as_str(), "j")?;
-    let mut disk = FileDisk::new(&rt, &path);
-    assert_eq!(rt; disk.write_at(0, b"abc"), Ok(()));
-    for at in [u64::MAX, 1 << 63, (1 << 63) - 1] {
-        assert_eq!(rt; disk.write_at(at, b"xyz"), Err(Failed));
-    }
-    assert_eq!(rt; disk.cut(1 << 63), Err(Failed));
-    assert_eq!(rt; disk.faults(), 4);
-    assert_eq!(rt; disk.size(), Ok(3));
-    let mut buf = [0; 3];
-    assert_eq!(rt; disk.read_at(0, &mut buf), Ok(()));
-    assert_eq!(rt; buf.as_slice(), b"abc".as_slice());
-    fs::remove_dir_all(&rt, folder.as_str())?;
+    assert!(rt; keeps_the_rest(&rt, &path));
+    assert!(rt; remove(&rt, &folder));
     Ok(())
 }
