@@ -64,7 +64,7 @@ close_takes : (p q : Place) (y : Event) → IsBytes p.rest → close_at p ≡ Ok
 unfolding close_at code
 close_takes p q y fits e = both_take u32_at u32_code FitsU32 u32_field proof_at proof_code IsWholeProof proof_field Close 5 code IsWholeEvent (λ a b. refl) (λ a b is is'. (is'.0, (is, is'.1))) p q y fits e
 
-event_takes : (p q : Place) (y : Event) → IsBytes p.rest → event_at p ≡ Ok (y, q) → Takes p.rest (code y) q.rest × IsWholeEvent y
+pub event_takes : (p q : Place) (y : Event) → IsBytes p.rest → event_at p ≡ Ok (y, q) → Takes p.rest (code y) q.rest × IsWholeEvent y
 unfolding event_at
 event_takes p q y fits e =
     let b = bind_ok (byte_at p) (λ (tag : ℕ × Place). cond (eqb tag.0 2) (cut_at tag.1) (cond (eqb tag.0 3) (offer_at tag.1) (cond (eqb tag.0 4) (split_at tag.1) (cond (eqb tag.0 5) (close_at tag.1) (Err (BadTag p.at)))))) (y, q) e in
@@ -114,7 +114,7 @@ close_again : (node : ℕ) (proof : Proof) (place : ℕ) (rest : List ℕ) → F
 unfolding close_at
 close_again node proof place rest is is' = both_again u32_at u32_code FitsU32 u32_field proof_at proof_code IsWholeProof proof_field Close node proof place rest is is'
 
-event_again : (e : Event) (place : ℕ) (rest : List ℕ) → IsWholeEvent e → (to : ℕ) × (event_at (at_place place (code e ++ rest)) ≡ Ok (e, at_place to rest))
+pub event_again : (e : Event) (place : ℕ) (rest : List ℕ) → IsWholeEvent e → (to : ℕ) × (event_at (at_place place (code e ++ rest)) ≡ Ok (e, at_place to rest))
 unfolding event_at code
 event_again (Claim node) place rest is = absurd is.0
 event_again (Release node) place rest is = absurd is.0

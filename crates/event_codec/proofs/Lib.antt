@@ -6,6 +6,7 @@ pub mod Combined
 pub mod Lists
 pub mod Parts
 pub mod Events
+pub mod Groups
 pub mod Records
 pub mod Factors
 pub mod Loops

@@ -20,7 +20,7 @@ use Rattle.event_codec.proofs.Fractions.{plain_field, nonzero_field, nonzero, no
 
 -- ---- so many elements
 module _ {A : Type 0} (read : Place → Read A) (spell : A → List ℕ) (Is : A → Type 0) (one : IsField read spell Is) where
-  elements_take : (n : ℕ) (p q : Place) (xs : List A) → IsBytes p.rest → elements_at read n p ≡ Ok (xs, q) → Takes p.rest (flat_map spell xs) q.rest × (length xs ≡ n) × AllByRecursion Is xs
+  pub elements_take : (n : ℕ) (p q : Place) (xs : List A) → IsBytes p.rest → elements_at read n p ≡ Ok (xs, q) → Takes p.rest (flat_map spell xs) q.rest × (length xs ≡ n) × AllByRecursion Is xs
   unfolding elements_at
   elements_take zero p q xs fits e =
       ok_then (λ (y : List A × Place). Takes p.rest (flat_map spell y.0) y.1.rest × (length y.0 ≡ 0) × AllByRecursion Is y.0) ([], p) (xs, q) e (record { parts = refl; rest_fits = fits }, refl, tt)
@@ -32,7 +32,7 @@ module _ {A : Type 0} (read : Place → Read A) (spell : A → List ℕ) (Is : A
       let both = Takes-then p.rest (spell a.0.0) a.0.1.rest (flat_map spell b.0.0) b.0.1.rest first.0 second.0 in
       ok_then (λ (y : List A × Place). Takes p.rest (flat_map spell y.0) y.1.rest × (length y.0 ≡ suc n) × AllByRecursion Is y.0) (a.0.0 ∷ b.0.0, b.0.1) (xs, q) b.2 (rw flat_map-cons both, ap suc second.1, (first.1, second.2))
 
-  elements_again : (xs : List A) (place : ℕ) (rest : List ℕ) → AllByRecursion Is xs → (to : ℕ) × (elements_at read (length xs) (at_place place (flat_map spell xs ++ rest)) ≡ Ok (xs, at_place to rest))
+  pub elements_again : (xs : List A) (place : ℕ) (rest : List ℕ) → AllByRecursion Is xs → (to : ℕ) × (elements_at read (length xs) (at_place place (flat_map spell xs ++ rest)) ≡ Ok (xs, at_place to rest))
   unfolding elements_at
   elements_again [] place rest are = (place, refl)
   elements_again (x ∷ xs) place rest are =

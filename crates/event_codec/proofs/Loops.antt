@@ -4,7 +4,9 @@ use Rattle.std.proofs.lemmas.List.{append-nil}
 use Rattle.fraction.specs.Rational.{ℚ}
 use Rattle.event_codec.specs.declared.fault.CodecFault.{CodecFault}
 use Rattle.event_codec.specs.Places.{Place}
-use Rattle.event_codec.specs.ReadResults.{Read, ◌>>=◌}
+use Rattle.event_codec.specs.declared.fault.CodecError.{CodecError}
+use Rattle.event_codec.specs.declared.fault.CodecError.TheVariants.{Memory, Fault}
+use Rattle.event_codec.specs.ReadResults.{Read, ◌>>=◌, Fails}
 use Rattle.event_codec.specs.Reading.{elements_at, factor_at, factors_at}
 
 -- what was read before, and what is still read
@@ -30,6 +32,12 @@ ends read f front count i p total lt h so_far =
     let k : count - i ≡ suc (count - (i + 1)) = omega arith in
     let one : with_front front (elements_at read (count - i) p) ≡ Err f = rw (k, h) refl in
     sym so_far ∙ one
+
+-- the same where memory may have run out
+pub fails : {A : Type 0} (read : Place → Read A) (e : CodecError) (front : List A) (count i : ℕ) (p : Place) (total : Read (List A)) → i < count → Fails e (read p)
+    → with_front front (elements_at read (count - i) p) ≡ total → Fails e total
+fails read Memory front count i p total lt h so_far = tt
+fails read (Fault f) front count i p total lt h so_far = ends read f front count i p total lt h so_far
 
 pub is_done : {A : Type 0} (read : Place → Read A) (front : List A) (count i : ℕ) (p : Place) (total : Read (List A)) → count ≤ i
     → with_front front (elements_at read (count - i) p) ≡ total → total ≡ Ok (front, p)

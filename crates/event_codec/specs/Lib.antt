@@ -4,4 +4,5 @@ pub mod Places
 pub mod ReadResults
 pub mod Reading
 pub mod Models
+pub mod Groups
 pub mod Laws

@@ -44,3 +44,8 @@ ReadsList (Err e) now read = Fails e read
 abbrev pub Gives : {A : Type 0} → Result A CodecError → Result A CodecFault → Type 0
 Gives (Ok x) read = read ≡ Ok x
 Gives (Err e) read = Fails e read
+
+-- the same of a list
+abbrev pub GivesList : {A : Type 0} → Result (Vec A) CodecError → Result (List A) CodecFault → Type 0
+GivesList (Ok v) read = read ≡ Ok v.items
+GivesList (Err e) read = Fails e read

@@ -60,7 +60,7 @@ fn put_proof(out: &mut Vec<u8>, proof: &Proof) -> Result<(), AllocError>
 
 /// The code of an event behind other bytes.
 #[tactic(auto, unfolding(crate::specs::Codes::code))]
-fn put_event(out: &mut Vec<u8>, event: &Event) -> Result<(), AllocError>
+pub(crate) fn put_event(out: &mut Vec<u8>, event: &Event) -> Result<(), AllocError>
     requires { IsCodable event.now }
     ensures spelled { OnOk result (out.new.items ≡ out.old.items ++ code event.now) }
     ensures typed { OnOk result (IsEvent event.now) }

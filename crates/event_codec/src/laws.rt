@@ -1,6 +1,6 @@
-//! Laws of the codes of events, and of the records of models.
+//! Laws of the codes of events and of groups, and of the records of models.
 
-ghost use Rattle.event_codec.specs.Laws.{NoCodeIsAPrefix, CodesTellApart, RecordsTellApart};
+ghost use Rattle.event_codec.specs.Laws.{NoCodeIsAPrefix, CodesTellApart, GroupsTellApart, RecordsTellApart};
 
 /// The code of no event is a proper prefix of another's: where the same bytes begin with the codes of two events, the events and the codes are
 /// equal.
@@ -11,6 +11,11 @@ pub fn no_code_is_a_prefix()
 /// Only equal events have equal codes.
 pub fn codes_tell_apart()
     ensures { CodesTellApart }
+{}
+
+/// Only equal groups of events have equal codes.
+pub fn groups_tell_apart()
+    ensures { GroupsTellApart }
 {}
 
 /// Only equal models have equal records: a record says the text of the model, and the upper bound for columns that lack one.

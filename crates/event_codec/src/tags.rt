@@ -10,6 +10,8 @@ pub(crate) const OFFER: u8 = 3;
 pub(crate) const SPLIT: u8 = 4;
 /// A closing.
 pub(crate) const CLOSE: u8 = 5;
+/// Several events.
+pub(crate) const SEVERAL: u8 = 6;
 
 /// A reason: a point of the relaxation.
 pub(crate) const FRACTIONAL: u8 = 0;
