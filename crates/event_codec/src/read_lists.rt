@@ -16,6 +16,16 @@ use std::alloc::Global;
 /// How many bytes a fraction has.
 const FRACTION_BYTES: usize = 32;
 
+/// The bytes of a row with its factor.
+const FACTOR_BYTES: usize = 36;
+
+/// Room for a list of so many elements, but for no more than there are bytes for.
+fn room(cursor: &Cursor<'_>, count: u32, bytes: usize) -> usize
+    requires { 0 < bytes }
+{
+    (cursor.rest().len() / bytes).min(count as usize)
+}
+
 /// Whether a fraction may have the numerator.
 fn is_small(num: i128) -> bool
     ensures { result ≡ is_small num }
@@ -104,21 +114,23 @@ pub(crate) fn point(alloc: Global, cursor: &mut Cursor<'_>) -> Result<Point, Cod
     Ok(Point::make(numbers))
 }
 
-/// So many fractions.
-fn fractions(alloc: Global, count: u32, cursor: &mut Cursor<'_>) -> Result<Vec<Frac>, CodecError>
-    ensures { ReadsList result cursor.new (elements_at (fraction_at is_small) count cursor.old) }
+/// So many fractions, as a point.
+fn fractions(
+    alloc: Global,
+    count: u32,
+    cursor: &mut Cursor<'_>,
+) -> Result<RationalPoint, CodecError>
+    ensures { ReadsUnlessMemory result cursor.new (elements_at (fraction_at is_small) count cursor.old) }
 {
-    // Room for no more numbers than there are bytes for.
-    let room = (cursor.rest().len() / FRACTION_BYTES).min(count as usize);
-    let mut numbers = Vec::with_capacity(alloc, room)?;
+    let mut point = RationalPoint::with_capacity(alloc, room(cursor, count, FRACTION_BYTES))?;
     for _ in 0..count {
         let number = fraction(cursor)?;
-        numbers.push(number)?;
+        point.push(alloc, number)?;
     }
-    Ok(numbers)
+    Ok(point)
 }
 
-/// A point of fractions.
+/// A list of fractions, as a point.
 #[tactic(auto, unfolding(crate::specs::Reading::rational_point_at))]
 pub(crate) fn rational_point(
     alloc: Global,
@@ -127,8 +139,7 @@ pub(crate) fn rational_point(
     ensures { ReadsUnlessMemory result cursor.new (rational_point_at cursor.old) }
 {
     let count = cursor.u32()?;
-    let numbers = fractions(alloc, count, cursor)?;
-    Ok(RationalPoint::make(alloc, numbers)?)
+    fractions(alloc, count, cursor)
 }
 
 /// The number of a row from the least one on, with its factor.
@@ -149,7 +160,7 @@ fn row(least: u64, cursor: &mut Cursor<'_>) -> Result<(u32, Frac), CodecFault>
 fn rows(alloc: Global, count: u32, cursor: &mut Cursor<'_>) -> Result<Terms, CodecError>
     ensures { ReadsUnlessMemory result cursor.new (factors_at 0 count cursor.old) }
 {
-    let mut terms = Terms::new(alloc);
+    let mut terms = Terms::with_capacity(alloc, room(cursor, count, FACTOR_BYTES))?;
     let mut least = 0;
     for _ in 0..count {
         let (row, factor) = row(least, cursor)?;

@@ -1,5 +1,6 @@
 // Points whose numbers need not be whole.
-ghost use Rattle.std.specs.Prelude.{◌≡◌, ◌<◌, ◌↔◌, IsTrue, IfOk, IfSome, Some, length, slice_get};
+ghost use Rattle.std.specs.Prelude.{◌≡◌, ◌<◌, ◌↔◌, ◌++◌, ◌∷◌, [], IsTrue, IfOk, OnOk, IfSome, Some, length, slice_get};
+ghost use Rattle.node_events.specs.Points.{numbers_of};
 
 use fraction::{Frac, NarrowFrac};
 use std::alloc::{AllocError, Global};
@@ -52,6 +53,36 @@ fn narrowed(alloc: Global, numbers: &[Frac]) -> Result<Option<Vec<NarrowFrac>>, 
     Ok(Some(narrow))
 }
 
+/// Numbers of 64 bits as fractions, and one more. The one error is want of memory.
+fn widened(alloc: Global, numbers: &[NarrowFrac], number: Frac) -> Result<Vec<Frac>, AllocError>
+    ensures { IfOk result (λ v. v.items ≡ numbers.now ++ number ∷ []) }
+{
+    let mut wide = Vec::with_capacity(alloc, numbers.len())?;
+    for narrow in numbers {
+        wide.push(narrow.wide())?;
+    }
+    wide.push(number)?;
+    Ok(wide)
+}
+
+impl Numbers {
+    /// Puts one more number behind the others: in 64 bits, as long as each fits. The one error is want of memory.
+    fn push(&mut self, alloc: Global, number: Frac) -> Result<(), AllocError>
+        ensures { OnOk result (numbers_of self.new ≡ numbers_of self.old ++ number ∷ []) }
+    {
+        match self {
+            Numbers::Wide(numbers) => Ok(numbers.push(number)?),
+            Numbers::Narrow(numbers) => match number.narrow() {
+                Some(narrow) => Ok(numbers.push(narrow)?),
+                None => {
+                    *self = Numbers::Wide(widened(alloc, numbers, number)?);
+                    Ok(())
+                }
+            },
+        }
+    }
+}
+
 impl RationalPoint {
     /// The point of these numbers, column 0 first. The one error is want of memory.
     pub fn make(alloc: Global, numbers: Vec<Frac>) -> Result<RationalPoint, AllocError>
@@ -64,6 +95,23 @@ impl RationalPoint {
         Ok(RationalPoint {
             numbers: Box::new(alloc, numbers)?,
         })
+    }
+
+    /// The point of no column, with room for so many. The one error is want of memory.
+    pub fn with_capacity(alloc: Global, room: usize) -> Result<RationalPoint, AllocError>
+        ensures { IfOk result (λ p. p ≡ []) }
+    {
+        let numbers = Numbers::Narrow(Vec::with_capacity(alloc, room)?);
+        Ok(RationalPoint {
+            numbers: Box::new(alloc, numbers)?,
+        })
+    }
+
+    /// Puts the number of one more column behind the others. The one error is want of memory.
+    pub fn push(&mut self, alloc: Global, number: Frac) -> Result<(), AllocError>
+        ensures { OnOk result (self.new ≡ self.old ++ number ∷ []) }
+    {
+        self.numbers.push(alloc, number)
     }
 
     /// How many columns it has.

@@ -47,6 +47,14 @@ impl Terms {
         }
     }
 
+    /// No terms, with room for so many. The one error is want of memory.
+    pub fn with_capacity(alloc: Global, room: usize) -> Result<Terms, AllocError>
+        ensures { IfOk result (λ t. t ≡ []) }
+    {
+        let items = Vec::with_capacity(alloc, room)?;
+        Ok(Terms { items })
+    }
+
     /// The terms of these pairs of a column and its coefficient. The one error is want of memory.
     pub fn make(alloc: Global, pairs: &[(u32, Frac)]) -> Result<Terms, AllocError>
         ensures { IfOk result (λ t. t ≡ pairs.now) }

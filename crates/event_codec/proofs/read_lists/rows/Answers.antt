@@ -6,7 +6,7 @@ use Rattle.event_codec.proofs.read_lists.rows.Goals as goal
 
 pub returns-in_err-row : goal.returns-in_err-row
 returns-in_err-row c =
-    let p = err_from_is_err_and c.from_residual.result c.from_residual.ensures.1 in
+    let p = err_from_is_err_and c.from_residual-in_err-row.result c.from_residual-in_err-row.ensures.1 in
     rw (p.1, p.2) (row_ends c.in_err-row.field-0.0 c.loop.terms c.loop.least c.args.count c.loop.counter c.loop.cursor (factors_at 0 c.args.count c.args.cursor.now) c.loop-test.true c.in_err-row.ensures c.loop.invariant)
 
 pub loop-preserved : goal.loop-preserved
