@@ -1,6 +1,6 @@
 //! A reader of fields, from left to right.
 
-ghost use Rattle.std.specs.Prelude.{◌≡◌};
+ghost use Rattle.std.specs.Prelude.{◌≡◌, length, IfOk, IfErr, Ok, Err};
 ghost use Rattle.event_codec.specs.Places.{beginning};
 ghost use Rattle.event_codec.specs.ReadResults.{Reads};
 ghost use Rattle.event_codec.specs.Reading.{bytes_at, byte_at, u32_at, i64_at, i128_at, flag_at};
@@ -28,6 +28,17 @@ impl<'a> Model for Cursor<'a> {
     ghost invariant = { λ c. c.at + length c.rest.now < 2 ^ 64 };
 }
 
+/// So many bytes as an array.
+#[inline(always)]
+fn array<const N: usize>(bytes: &[u8]) -> [u8; N]
+    requires { length bytes.now ≡ N }
+    ensures { result ≡ bytes.now }
+{
+    let mut array = [0; N];
+    array.copy_from_slice(bytes);
+    array
+}
+
 impl<'a> Cursor<'a> {
     /// The first place.
     pub(crate) fn new(bytes: &'a [u8]) -> Cursor<'a>
@@ -50,20 +61,21 @@ impl<'a> Cursor<'a> {
         self.rest
     }
 
-    /// The next N bytes.
+    /// The next bytes. They are borrowed: an array within a result is copied in odd pieces, which is slow to read again.
+    #[inline(always)]
     #[tactic(auto, unfolding(crate::specs::Reading::bytes_at))]
-    fn bytes<const N: usize>(&mut self) -> Result<[u8; N], CodecFault>
-        ensures { Reads result self.new (bytes_at N self.old) }
+    fn bytes(&mut self, count: usize) -> Result<&'a [u8], CodecFault>
+        ensures found { IfOk result (λ b. bytes_at count self.old ≡ Ok (b.now, self.new)) }
+        ensures size { IfOk result (λ b. length b.now ≡ count) }
+        ensures short { IfErr result (λ f. bytes_at count self.old ≡ Err f) }
     {
-        if self.rest.len() < N {
+        if self.rest.len() < count {
             return Err(CodecFault::Short { at: self.at });
         }
-        let (front, rest) = self.rest.split_at(N);
-        let mut bytes = [0; N];
-        bytes.copy_from_slice(front);
-        self.at += N;
+        let (front, rest) = self.rest.split_at(count);
+        self.at += count;
         self.rest = rest;
-        Ok(bytes)
+        Ok(front)
     }
 
     /// One byte.
@@ -71,7 +83,8 @@ impl<'a> Cursor<'a> {
     pub(crate) fn byte(&mut self) -> Result<u8, CodecFault>
         ensures { Reads result self.new (byte_at self.old) }
     {
-        Ok(u8::from_le_bytes(self.bytes()?))
+        let bytes = self.bytes(1)?;
+        Ok(u8::from_le_bytes(array(bytes)))
     }
 
     /// A number of 32 bits.
@@ -79,7 +92,8 @@ impl<'a> Cursor<'a> {
     pub(crate) fn u32(&mut self) -> Result<u32, CodecFault>
         ensures { Reads result self.new (u32_at self.old) }
     {
-        Ok(u32::from_le_bytes(self.bytes()?))
+        let bytes = self.bytes(4)?;
+        Ok(u32::from_le_bytes(array(bytes)))
     }
 
     /// A signed number of 64 bits.
@@ -87,7 +101,8 @@ impl<'a> Cursor<'a> {
     pub(crate) fn i64(&mut self) -> Result<i64, CodecFault>
         ensures { Reads result self.new (i64_at self.old) }
     {
-        Ok(i64::from_le_bytes(self.bytes()?))
+        let bytes = self.bytes(8)?;
+        Ok(i64::from_le_bytes(array(bytes)))
     }
 
     /// A signed number of 128 bits.
@@ -95,7 +110,8 @@ impl<'a> Cursor<'a> {
     pub(crate) fn i128(&mut self) -> Result<i128, CodecFault>
         ensures { Reads result self.new (i128_at self.old) }
     {
-        Ok(i128::from_le_bytes(self.bytes()?))
+        let bytes = self.bytes(16)?;
+        Ok(i128::from_le_bytes(array(bytes)))
     }
 
     /// A flag: 0 is false, and 1 is true.
