@@ -22,6 +22,7 @@ use Rattle.expand.specs.Laws.{entries_of}
 use Rattle.expand.specs.Settlements.{events_of}
 use Rattle.expand.specs.Lemmas.Rooms.{IsNotSeparated}
 use Rattle.worker_gate.specs.Calls.{ends_node}
+use Rattle.worker_gate.specs.Lemmas.Holding.{none_without}
 use Rattle.event_core.specs.Frames.{ended_by}
 use Rattle.event_core.specs.Lemmas.Frames.{journaled_claims, journaled_frees, quiet_holds}
 
@@ -54,16 +55,6 @@ some_by w i (h ∷ hs) e = step (nat_eq h.worker w) (nat_eq h.node i) e (λ k. s
     step : (a b : Bool) → ((a && b) || list_any (is_of w i) hs) ≡ true → (list_any (is_of w i) hs ≡ true → list_any (is_by w) hs ≡ true) → (a || list_any (is_by w) hs) ≡ true
     step true b k f = refl
     step false b k f = f k
-
-none_without : (w i : ℕ) (hs : List Holder) → list_any (is_by w) hs ≡ false → list_any (is_by w) (without_hold i hs) ≡ false
-none_without w i [] e = refl
-none_without w i (h ∷ hs) e = step (nat_eq h.node i) (is_by w h) refl e (λ k. none_without w i hs k)
-  where
-    step : (b c : Bool) → is_by w h ≡ c → (c || list_any (is_by w) hs) ≡ false → (list_any (is_by w) hs ≡ false → list_any (is_by w) (without_hold i hs) ≡ false)
-        → list_any (is_by w) (cond (not b) (h ∷ without_hold i hs) (without_hold i hs)) ≡ false
-    step b true q k f = cc
-    step true false q k f = f k
-    step false false q k f = ap (λ c. c || list_any (is_by w) (without_hold i hs)) q ∙ f k
 
 -- each worker holds one node at most: without it the worker holds none
 pub lone : (w i : ℕ) (hs : List Holder) → AreApart hs → list_any (is_of w i) hs ≡ true → list_any (is_by w) (without_hold i hs) ≡ false

@@ -1,53 +1,29 @@
 -- The names of passes: split off one by one from the greatest, and put together again.
-use Rattle.std.specs.Prelude.{◌≡◌, ◌<◌, ◌≤◌, ◌+◌, ℕ, zero, suc, Bool, true, false, List, [], ◌∷◌, ◌++◌, length, Contains, max, if◌then◌else◌, refl}
+use Rattle.std.specs.Prelude.{◌≡◌, ◌<◌, ◌≤◌, ◌+◌, ℕ, zero, suc, Bool, true, false, List, [], ◌∷◌, ◌++◌, Contains, max, if◌then◌else◌, refl}
 use Rattle.std.proofs.Common.{◌⊎◌, ⊎_elim, sym, ◌∙◌, ap, subst, eqb, arith}
 use Rattle.std.proofs.lemmas.Bool.{eq-eqb, eqb-true}
-use Rattle.std.proofs.lemmas.List.{length-append}
-use Rattle.std.proofs.lemmas.List.Elements.{Contains-append_left, Contains-append_right, Contains-append_cases}
+use Rattle.std.proofs.lemmas.List.Elements.{Contains-append_left, Contains-append_right}
 use Rattle.std.proofs.Math.Nat.{max-eq_left, max-eq_right}
 use Rattle.turn_lock.specs.Names.{greatest, without_first, names_below}
-
-pub in_first : (x : ℕ) (xs : List ℕ) → Contains (x ∷ xs) x
-in_first x xs = (0, omega arith, refl)
-
-pub in_rest : (x : ℕ) (xs : List ℕ) (y : ℕ) → Contains xs y → Contains (x ∷ xs) y
-in_rest x xs y c = Contains-append_right (x ∷ []) xs y c
-
-pub in_one : (x y : ℕ) → Contains (x ∷ []) y → y ≡ x
-in_one x y (zero, _, is) = sym is
-in_one x y (suc k, low, _) = absurd (omega (arith, low))
-
-in_none : (y : ℕ) → Contains [] y → ⊥
-in_none y (k, low, _) = omega (arith, low)
+use Rattle.turn_lock.specs.Lemmas.Names.{head_in, tail_in, below}
 
 -- a number above all others is the greatest, and taken away from the end
 module _ (m : ℕ) where
   pub greatest_last : (xs : List ℕ) → ((k : ℕ) → Contains xs k → k < m) → greatest (xs ++ m ∷ []) ≡ m
   greatest_last [] low = max-eq_left (omega arith)
   greatest_last (x ∷ xs) low =
-      let here = low x (in_first x xs) in
-      ap (max x) (greatest_last xs (λ k c. low k (in_rest x xs k c))) ∙ max-eq_right (omega (arith, here))
+      let here = low x (head_in x xs) in
+      ap (max x) (greatest_last xs (λ k c. low k (tail_in x xs k c))) ∙ max-eq_right (omega (arith, here))
 
   pub without_last : (xs : List ℕ) → ((k : ℕ) → Contains xs k → k < m) → without_first m (xs ++ m ∷ []) ≡ xs
   without_last [] low = ap (λ (b : Bool). if b then [] else m ∷ []) (eq-eqb m m refl)
-  without_last (x ∷ xs) low = go (eqb x m) refl (without_last xs (λ k c. low k (in_rest x xs k c)))
+  without_last (x ∷ xs) low = go (eqb x m) refl (without_last xs (λ k c. low k (tail_in x xs k c)))
     where
       go : (b : Bool) → eqb x m ≡ b → without_first m (xs ++ m ∷ []) ≡ xs → (if b then xs ++ m ∷ [] else x ∷ without_first m (xs ++ m ∷ [])) ≡ x ∷ xs
-      go true is deeper = let same = eqb-true x m is in let here = low x (in_first x xs) in absurd (omega (arith, same, here))
+      go true is deeper = let same = eqb-true x m is in let here = low x (head_in x xs) in absurd (omega (arith, same, here))
       go false is deeper = ap (λ ys. x ∷ ys) deeper
 
 -- ---- the numbers below n
-pub length_below : (n : ℕ) → length (names_below n) ≡ n
-length_below zero = refl
-length_below (suc n) = let before = length_below n in omega (arith, length-append (names_below n) (n ∷ []), before)
-
-pub below : (n k : ℕ) → Contains (names_below n) k → k < n
-below zero k c = absurd (in_none k c)
-below (suc n) k c = ⊎_elim
-    (λ (h : Contains (names_below n) k). let lt = below n k h in omega (arith, lt))
-    (λ (h : Contains (n ∷ []) k). let same = in_one n k h in omega (arith, same))
-    (Contains-append_cases (names_below n) (n ∷ []) k c)
-
 pub in_below : (n k : ℕ) → k < n → Contains (names_below n) k
 in_below zero k h = absurd (omega (arith, h))
 in_below (suc n) k h = go (eqb k n) refl (λ l. in_below n k l)
@@ -56,7 +32,7 @@ in_below (suc n) k h = go (eqb k n) refl (λ l. in_below n k l)
     other f e = let bad : true ≡ false = sym (eq-eqb k n e) ∙ f in cc
 
     go : (b : Bool) → eqb k n ≡ b → (k < n → Contains (names_below n) k) → Contains (names_below n ++ n ∷ []) k
-    go true is deeper = subst (Contains (names_below n ++ n ∷ [])) (sym (eqb-true k n is)) (Contains-append_right (names_below n) (n ∷ []) n (in_first n []))
+    go true is deeper = subst (Contains (names_below n ++ n ∷ [])) (sym (eqb-true k n is)) (Contains-append_right (names_below n) (n ∷ []) n (head_in n []))
     go false is deeper = Contains-append_left (names_below n) (n ∷ []) k (deeper (⊎_elim (λ (l : k < n). l) (λ (e : k ≡ n). absurd (other is e)) (parted (omega (arith, h)))))
       where
         parted : k ≤ n → (k < n) ⊎ (k ≡ n)

@@ -5,6 +5,7 @@ use Rattle.turn_lock.specs.Lists.{GoesOn, longer}
 use Rattle.std.proofs.lemmas.List.{append-nil, length-append}
 use Rattle.event_core.specs.States.{State}
 use Rattle.turn_lock.specs.Names.{names_below}
+use Rattle.turn_lock.specs.Lemmas.Names.{nothing, head_in, only_in}
 use Rattle.turn_lock.specs.Passes.{IsPassOf, names_of, seen_by}
 use Rattle.turn_lock.specs.declared.pass.Pass.{Pass}
 use Rattle.worker_gate.specs.declared.entry.PoolEntry.{PoolEntry}
@@ -21,11 +22,11 @@ use Rattle.crew.proofs.Calling.{quiet, halt_over, state_new}
 use Rattle.crew.proofs.Fronts.{front_on}
 use Rattle.crew.proofs.Halting.{over_stays}
 use Rattle.crew.proofs.Places.{each_first, each_last}
-use Rattle.crew.proofs.Names.{in_below, in_first, in_one, below_more}
+use Rattle.crew.proofs.Names.{in_below, below_more}
 
 -- what goes on by entries of none of many workers goes on by entries that aren't this one's
 pub goes_by : (many : List ℕ) (w : ℕ) (a b : List PoolEntry) → Contains many w → GoesOn name_of many a b → GoesOn name_of (w ∷ []) a b
-goes_by many w a b among goes = (goes.0, goes.1, λ e n c is one. goes.2 e n c is (subst (Contains many) (sym (in_one w n one)) among))
+goes_by many w a b among goes = (goes.0, goes.1, λ e n c is one. goes.2 e n c is (subst (Contains many) (sym (only_in w n one)) among))
 
 pub longer_has : (P : List PoolEntry → Type 0) (a b : List PoolEntry) → P a → P b → P (longer a b)
 longer_has P a b p q = step (nat_le (length a) (length b))
@@ -50,7 +51,7 @@ module _ (k : ℕ) (a b c : List PoolEntry) (opened_a : is_opened a ≡ true) (o
   pub none_joined : ((w : ℕ) → w < k → HoldsNone w a) → HoldsNone k b → (w : ℕ) → w < k + 1 → HoldsNone w c
   none_joined before here w h = ⊎_elim
       (λ (l : w < k). none_goes (names_below k) w a c (in_below k w l) opened_a legal left (before w l))
-      (λ (e : w ≡ k). subst (λ n. HoldsNone n c) (sym e) (none_goes (k ∷ []) k b c (in_first k []) opened_b legal right here))
+      (λ (e : w ≡ k). subst (λ n. HoldsNone n c) (sym e) (none_goes (k ∷ []) k b c (head_in k []) opened_b legal right here))
       (parted w k h)
 
 -- the passes of the first k workers and of worker k, joined
@@ -70,9 +71,6 @@ joined_pass lock k a b c opened done named worked own names seen left right =
     }
 
 -- ---- a pool that is halted once its lock is gone
-nothing : (e : PoolEntry) → Contains [] e → ⊥
-nothing e (k, low, _) = omega (arith, low)
-
 module _ (old new : List PoolEntry) (legal : IsLegalList old) (makes : Makes 0 old new (Halts old)) where
   abbrev step : Stepped 0 old new Halts
   step = record { at = old; goes_on = ([], sym (append-nil old), λ e n c is among. nothing e c); found = legal; makes = makes }

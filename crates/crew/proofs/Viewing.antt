@@ -9,7 +9,6 @@ use Rattle.problem.specs.Limits.{most_cuts}
 use Rattle.derivation_book.specs.declared.cut.Cut.{Cut}
 use Rattle.derivation_book.specs.Cuts.{AreCutsAfter}
 use Rattle.event_core.specs.States.{State}
-use Rattle.event_core.specs.Lemmas.Sounding.{kept_sound}
 use Rattle.event_core.specs.Sound.{IsSound}
 use Rattle.worker_gate.specs.declared.entry.PoolEntry.{PoolEntry}
 use Rattle.worker_gate.specs.declared.glance.Glance.{Glance}
@@ -17,8 +16,7 @@ use Rattle.worker_gate.specs.Calls.{Glances, IsGlanceOf}
 use Rattle.worker_gate.specs.Conditions.{HoldsNode}
 use Rattle.worker_gate.specs.Entries.{is_opened, state_in}
 use Rattle.worker_gate.specs.Gates.{Stepped}
-use Rattle.worker_gate.specs.Legal.{IsLegalList}
-use Rattle.worker_gate.specs.Lemmas.Staying.{kept_in}
+use Rattle.worker_gate.specs.Lemmas.Staying.{sound_in}
 use Rattle.crew.specs.declared.node_view.NodeView.{NodeView}
 use Rattle.crew.specs.declared.worker.Worker.{Worker}
 use Rattle.crew.specs.Lists.{IsHolding}
@@ -26,9 +24,6 @@ use Rattle.crew.specs.Workers.{IsViewOf, IsNodeOf, IsPrepared, HasFirst, Knows}
 use Rattle.crew.proofs.Calling.{same_if, still_holds}
 use Rattle.crew.proofs.Fronts.{front_knows}
 use Rattle.crew.proofs.Looking.{told_rest, rest_after, rest_few, node_of}
-
-pub sound_in : (list : List PoolEntry) → IsLegalList list → IsSound (state_in list)
-sound_in list legal = kept_sound (state_in list) (kept_in list legal)
 
 -- a glance that failed
 pub unseen : (w node known : ℕ) (e : AllocError) (old new : List PoolEntry) → is_opened old ≡ true → HoldsNode w node old → Stepped w old new (Glances node known (Err e)) → IsHolding w node old new

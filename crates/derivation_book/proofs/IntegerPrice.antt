@@ -1,5 +1,5 @@
 -- Prices over one denominator: the fractions that the whole numbers stand for, and that no step on the way to them is cramped.
-use Rattle.std.specs.Prelude.{ℤ, pos, negsuc, neg_ℤ, ◌+ℤ◌, ◌-ℤ◌, ◌*ℤ◌, ◌≤ℤ◌, nat_abs, int_lt, if◌then◌else◌}
+use Rattle.std.specs.Prelude.{ℤ, pos, negsuc, neg_ℤ, ◌+ℤ◌, ◌-ℤ◌, ◌*ℤ◌, nat_abs, int_lt, if◌then◌else◌}
 use Rattle.std.proofs.Common.{◌≡◌, ℕ, ◌+◌, ◌*◌, ◌^◌, ◌<◌, ◌≤◌, arith, refl, ap, sym, ◌∙◌, subst, Bool, true, false, Some}
 use Rattle.std.specs.Int.{w128}
 use Rattle.std.specs.Option.{option_and_then}
@@ -7,11 +7,11 @@ use Rattle.std.proofs.lemmas.Int.{ints, unsigned_abs-mul}
 use Rattle.std.proofs.Math.Nat.{mul-le-mul}
 use mir.Val.{SFits}
 use lib.Signed.{mag}
-use Rattle.fraction.specs.Rational.{ℚ, frac, whole, ◌≤ℚ◌}
+use Rattle.fraction.specs.Rational.{ℚ, frac, whole}
 use Rattle.fraction.specs.Checked.{add_checked, sub_checked}
 use Rattle.fraction.specs.Lemmas.Checked.{zero_test, zero_from_test}
-use Rattle.fraction.specs.Lemmas.Order.{same_le}
-use Rattle.fraction.specs.Lemmas.Rational.{lit_one, frac-≤ℚ, ≤ℚ_frac, frac_same, neg_ℚ-frac, ℚ_is}
+use Rattle.fraction.specs.Lemmas.Order.{same_le, above_zero}
+use Rattle.fraction.specs.Lemmas.Rational.{lit_one, ≤ℚ_frac, frac_same, neg_ℚ-frac, ℚ_is}
 use Rattle.problem_box.specs.declared.span.Span.{Span}
 use Rattle.derivation_book.specs.Sums.{with_product}
 use Rattle.derivation_book.specs.Rounded.{is_zero}
@@ -32,27 +32,6 @@ pub wide_fits : (z : ℤ) → mag z < 2 ^ 127 → SFits w128 z
 wide_fits z h = record { sfits = h }
 
 -- ---- signs
-at_most_zero : (z : ℤ) (d : ℕ) → 0 < d → z ≤ℤ pos 0 → frac z d ≤ℚ whole (pos 0)
-at_most_zero z d o h = frac-≤ℚ z (pos 0) d 1 o lit_one (omega (arith, ints))
-
-at_most_zero_back : (z : ℤ) (d : ℕ) → 0 < d → frac z d ≤ℚ whole (pos 0) → z ≤ℤ pos 0
-at_most_zero_back z d o h = let k = ≤ℚ_frac z (pos 0) d 1 o lit_one h in omega (arith, ints)
-
-above_zero : (z : ℤ) (d : ℕ) → 0 < d → int_lt (pos 0) (frac z d).num ≡ int_lt (pos 0) z
-above_zero z d o =
-    same_test (frac z d).num z
-    (λ h. at_most_zero_back z d o (subst (λ q. q ≤ℚ whole (pos 0)) (sym (ℚ_is (frac z d))) (at_most_zero (frac z d).num (frac z d).den (frac z d).lowest.0 h)))
-    (λ h. at_most_zero_back (frac z d).num (frac z d).den (frac z d).lowest.0 (subst (λ q. q ≤ℚ whole (pos 0)) (ℚ_is (frac z d)) (at_most_zero z d o h)))
-  where
-    same_test : (n z : ℤ) → (n ≤ℤ pos 0 → z ≤ℤ pos 0) → (z ≤ℤ pos 0 → n ≤ℤ pos 0) → int_lt (pos 0) n ≡ int_lt (pos 0) z
-    same_test n z f g = at (int_lt (pos 0) n) (int_lt (pos 0) z) refl refl
-      where
-        at : (s t : Bool) → int_lt (pos 0) n ≡ s → int_lt (pos 0) z ≡ t → int_lt (pos 0) n ≡ int_lt (pos 0) z
-        at true true p q = p ∙ sym q
-        at true false p q = absurd (grind (arith, ints))
-        at false true p q = absurd (grind (arith, ints))
-        at false false p q = p ∙ sym q
-
 -- a fraction is 0 only where its numerator is
 is_zero_not : (z : ℤ) (d : ℕ) → 0 < d → (z ≡ pos 0 → ⊥) → is_zero (frac z d) ≡ false
 is_zero_not z d o n = at (is_zero (frac z d)) refl

@@ -1,5 +1,5 @@
 -- What a combination that has a price leaves of each column.
-use Rattle.std.specs.Prelude.{◌≡◌, ◌<◌, ◌+◌, ℕ, zero, suc, pos, List, [], ◌∷◌, ◌++◌, length, slice_index_or, Option, Some, None, IsSome, Result, Ok, Err, IfOk, refl}
+use Rattle.std.specs.Prelude.{◌≡◌, ◌<◌, ◌+◌, ℕ, zero, suc, pos, List, [], ◌∷◌, ◌++◌, length, slice_index_or, Some, is_some, IsSome}
 use Rattle.std.proofs.Common.{sym, ap, ◌∙◌, subst, inl, inr, arith}
 use Rattle.std.proofs.lemmas.Bool.{cases_lt}
 use Rattle.std.proofs.lemmas.List.{get_or_append_left, get_or_push}
@@ -19,10 +19,6 @@ use Rattle.derivation_book.specs.Lemmas.Combining.{combined_length}
 use Rattle.derivation_book.specs.Lemmas.Price.{has_sums}
 use Rattle.derivation_book.specs.Lemmas.Exact.{columns_exact}
 
-is_some : (o : Option ℚ) (r : ℚ) → o ≡ Some r → IsSome o
-is_some None r e = cc
-is_some (Some v) r e = refl
-
 -- ---- nothing is cramped
 fits_from : (total : ℚ) (target : List (ℕ × ℚ)) (j : ℕ) (cs : List ℚ) (ss : List Span) (v : ℚ) → length ss ≡ length cs → with_columns total target j cs ss ≡ Some v
     → (i : ℕ) → i < length cs → IsSome (sub_checked (coefficient target (j + i)) (slice_index_or cs i (whole (pos 0))))
@@ -32,7 +28,7 @@ fits_from total target j (c ∷ cs) (s ∷ ss) v l e zero h =
     let w = was_some (λ t. with_columns t target (j + 1) cs ss) (with_reduced_cost total (coefficient target j) c s) v e in
     let b = was_some (λ r. with_bound total r s) (sub_checked (coefficient target j) c) w.0 w.1 in
     let z : j ≡ j + 0 = omega arith in
-    subst (λ k. IsSome (sub_checked (coefficient target k) c)) z (is_some (sub_checked (coefficient target j) c) b.0 b.1)
+    subst (λ k. IsSome (sub_checked (coefficient target k) c)) z (ap is_some b.1)
 fits_from total target j (c ∷ cs) (s ∷ ss) v l e (suc i) h =
     let w = was_some (λ t. with_columns t target (j + 1) cs ss) (with_reduced_cost total (coefficient target j) c s) v e in
     let z : j + 1 + i ≡ j + suc i = omega arith in
@@ -81,8 +77,3 @@ one_more F xs ys n x e l q h j m = elim (cases_lt j n) [
       (let k : j ≡ n = omega (arith, g, m) in
       ap (λ zs. slice_index_or zs j (whole (pos 0))) e ∙ get_or_push xs x (whole (pos 0)) j (l ∙ sym k) ∙ q ∙ ap F (sym k))
 ]
-
--- ---- a result that says more
-pub if_ok : {A E : Type 0} (r : Result A E) (P Q : A → Type 0) → ((a : A) → P a → Q a) → IfOk r P → IfOk r Q
-if_ok (Ok a) P Q f h = f a h
-if_ok (Err e) P Q f h = tt

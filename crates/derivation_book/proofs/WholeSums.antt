@@ -1,5 +1,5 @@
 -- Combinations of multipliers over one denominator: where their sums in whole numbers aren't cramped, those of the fractions aren't either.
-use Rattle.std.specs.Prelude.{◌≡◌, ℕ, zero, suc, ◌+◌, ◌*◌, ◌^◌, ◌<◌, ℤ, pos, ◌+ℤ◌, ◌*ℤ◌, nat_abs, eqb, Bool, true, false, if◌then◌else◌, List, [], ◌∷◌, ◌++◌, map, slice_index_or, All, IfSome, Option, Some, option_map, refl}
+use Rattle.std.specs.Prelude.{◌≡◌, ℕ, zero, suc, ◌+◌, ◌*◌, ◌^◌, ◌<◌, ℤ, pos, ◌+ℤ◌, ◌*ℤ◌, nat_abs, eqb, Bool, true, false, if◌then◌else◌, List, [], ◌∷◌, ◌++◌, map, slice_index_or, All, Option, Some, option_map, refl}
 use Rattle.std.specs.Option.{option_and_then}
 use Rattle.std.proofs.Common.{sym, ap, ◌∙◌, subst, arith, get_or, take, drop, length}
 use Rattle.std.proofs.lemmas.Int.{ints}
@@ -7,10 +7,10 @@ use Rattle.std.proofs.lemmas.List.{take_more, length-map}
 use Rattle.std.proofs.Math.Seq.{take-append_seam}
 use Rattle.std.proofs.lemmas.List.Elements.{All-nil, All-cons, All-head, All-tail, All-weaker}
 use Rattle.std.proofs.Math.Nat.{le_of_dvd}
-use Rattle.fraction.specs.Rational.{ℚ, whole, frac, inv_ℚ, ◌+ℚ◌, ◌*ℚ◌}
+use Rattle.fraction.specs.Rational.{ℚ, whole, frac, ◌+ℚ◌, ◌*ℚ◌}
 use Rattle.fraction.specs.Checked.{add_checked, mul_checked}
 use Rattle.fraction.specs.Lemmas.Integers.{is_diff, diff-pos, diff-mul, diff-same}
-use Rattle.fraction.specs.Lemmas.Rational.{lit_one, frac_den, frac_same, frac-*ℚ, *ℚ_assoc, *ℚ_comm, one-*ℚ, mul-inv_ℚ}
+use Rattle.fraction.specs.Lemmas.Rational.{lit_one, frac_den, frac_same, frac-*ℚ, divided}
 use Rattle.fraction.specs.Lemmas.Bounds.{was_some, value_from_add, value_from_mul, whole_parts, frac-num_le}
 use Rattle.fraction.specs.Lemmas.Checked.{sum_has_fraction, product_has_fraction}
 use Rattle.fraction.specs.Lemmas.Whole.{IsAnInteger, integer_from_whole, integer-+, whole-+, whole-*}
@@ -120,12 +120,6 @@ combined_over ls d ms ws n s o h w k e =
     (λ i. option_and_then (λ cs. option_map (sums_of cs) (side i)) (columns_over ls d ms ws 0 n a.0 o h w k a.1 i)) ∙ ap (λ v. Some (sums_over d v)) b.2
 
 -- ---- a multiplier times the denominator
-alone : (x y : ℚ) → 0 < nat_abs y.num → x ≡ (x *ℚ y) *ℚ inv_ℚ y
-alone x y o = sym (*ℚ_assoc x y (inv_ℚ y) ∙ ap (λ v. x *ℚ v) (mul-inv_ℚ y o) ∙ *ℚ_comm x (whole (pos 1)) ∙ one-*ℚ x)
-
-same_times : (x z y : ℚ) → 0 < nat_abs y.num → x *ℚ y ≡ z *ℚ y → x ≡ z
-same_times x z y o e = alone x y o ∙ ap (λ v. v *ℚ inv_ℚ y) e ∙ sym (alone z y o)
-
 times_one : (z : ℤ) (d : ℕ) → (z *ℤ pos d) *ℤ pos 1 ≡ z *ℤ pos (d * 1)
 times_one z d = rw (is_diff z) (simp (diff-pos, diff-mul) (diff-same _ _ _ _ (omega arith)))
 
@@ -136,7 +130,7 @@ pub times_is : (d : ℕ) (m w : ℚ) → 0 < d → mul_checked m (whole (pos d))
 times_is d m w o e h =
     let i = integer_from_whole w h in
     let n : 0 < nat_abs (whole (pos d)).num = subst (λ z. 0 < nat_abs z) (sym (whole_parts (pos d)).0) o in
-    (i.0, i.1, same_times m (frac i.0 d) (whole (pos d)) n (value_from_mul m (whole (pos d)) w e ∙ i.1 ∙ sym (over_times i.0 d o)))
+    (i.0, i.1, divided (whole (pos d)) m (frac i.0 d) n (value_from_mul m (whole (pos d)) w e ∙ i.1 ∙ sym (over_times i.0 d o)))
 
 pub one_scaled : (d : ℕ) (ms ws : List (ℕ × ℚ)) (m w : ℕ × ℚ) → AreScaled d ms ws → IsScaled d m w → AreScaled d (ms ++ m ∷ []) (ws ++ w ∷ [])
 one_scaled d [] [] m w h k = (k, tt)
@@ -192,6 +186,3 @@ pub written : (n d : ℕ) (items now more : List ℚ) → more ≡ map (over d) 
 written n d items now more e f l =
     let k : length more ≡ n = ap length e ∙ length-map now (over d) ∙ l in
     ap (λ m. take m (more ++ drop (length more) items)) (sym k) ∙ take-append_seam more (drop (length more) items) ∙ e ∙ ap (map (over d)) f
-
-pub some_of : {A : Type 0} (o : Option A) (v : A) (P : A → Type 0) → IfSome o P → o ≡ Some v → P v
-some_of {A} o v P h e = subst (λ o. IfSome o P) e h

@@ -1,5 +1,5 @@
 -- What a relaxation with all cuts answers.
-use Rattle.std.specs.Prelude.{◌≡◌, ℕ, List, [], ◌∷◌, length, take, Option, Some, IfSome, refl}
+use Rattle.std.specs.Prelude.{◌≡◌, ℕ, List, length, take, Option, Some, IfSome}
 use Rattle.std.proofs.Common.{ap, ◌∙◌, subst, arith}
 use Rattle.std.proofs.lemmas.List.{take_all}
 use Rattle.fraction.specs.Rational.{ℚ}
@@ -10,11 +10,12 @@ use Rattle.derivation_book.specs.declared.cut.Cut.{Cut}
 use Rattle.tableau.specs.Tableau.{Tableau}
 use Rattle.dual_simplex.specs.declared.answer.Answer.{Answer}
 use Rattle.dual_simplex.specs.declared.answer.Answer.TheVariants.{Optimal}
-use Rattle.dual_simplex.specs.Relaxation.{RationalPoint, LiesInBox}
+use Rattle.dual_simplex.specs.Relaxation.{RationalPoint}
 use Rattle.dual_simplex.specs.Answers.{linear_program, run, answer}
 use Rattle.dual_simplex.specs.Meaning.{IsOptimal, AnswerHolds}
 use Rattle.dual_simplex.specs.Laws.{IsBoxOf}
 use Rattle.dual_simplex.specs.Lemmas.TrueAnswers.{answers_hold}
+use Rattle.dual_simplex.specs.Lemmas.Below.{length-lies}
 
 module _ (p : Problem) (cs : List Cut) (box : List Span) (n : ℕ) (e : n ≡ length cs) where
   all_cuts : take n cs ≡ cs
@@ -26,14 +27,7 @@ module _ (p : Problem) (cs : List Cut) (box : List Span) (n : ℕ) (e : n ≡ le
   pub tableau_left : (o : Option Tableau) → IfSome (run (linear_program p (take n cs) box)).tableau (λ t. o ≡ Some t) → IfSome (run (linear_program p cs box)).tableau (λ t. o ≡ Some t)
   tableau_left o h = subst (λ ds. IfSome (run (linear_program p ds box)).tableau (λ t. o ≡ Some t)) all_cuts h
 
--- a point of a box has a number for each column
-lies_length : (ss : List Span) (x : RationalPoint) → LiesInBox ss x → length x ≡ length ss
-lies_length [] [] h = refl
-lies_length [] (q ∷ x) h = absurd h
-lies_length (s ∷ ss) [] h = absurd h
-lies_length (s ∷ ss) (q ∷ x) h = let k = lies_length ss x h.2 in omega (arith, k)
-
 pub point_columns : (p : Problem) (cs : List Cut) (box : List Span) (x : RationalPoint) (mult : Multipliers) (v : ℚ) → IsBoxOf p box → answer p cs box ≡ Optimal x mult v → length x ≡ length p.spans
 point_columns p cs box x mult v b e =
     let optimum : IsOptimal p cs box x mult v = subst (AnswerHolds p cs box) e (answers_hold p cs box b) in
-    lies_length box x optimum.point.in_box ∙ b.columns
+    length-lies box x optimum.point.in_box ∙ b.columns

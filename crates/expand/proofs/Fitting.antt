@@ -20,6 +20,7 @@ use Rattle.problem.specs.Rising.{RiseFrom}
 use Rattle.problem.specs.Limited.{IsModestSpan, AreLimited, IsLimitedRow}
 use Rattle.problem.specs.Problem.{Problem}
 use Rattle.problem.specs.Limits.{most_columns, largest_bound}
+use Rattle.problem.specs.Lemmas.Rising.{before_first}
 use Rattle.cert_rows.specs.Lines.{CertLine, row_at}
 use Rattle.derivation_book.specs.declared.cut.Cut.{Cut}
 use Rattle.derivation_book.specs.Known.{known_lines}
@@ -142,14 +143,6 @@ all_columns target mt j (c ∷ cs) (s ∷ ss) total k l h mc ms =
     (r.0, ap (option_and_then (λ t. with_columns t target (j + 1) cs ss)) n.1 ∙ r.1)
 
 -- ---- coefficients of rising terms
-before_all : (k : ℕ) (ts : List (ℕ × ℚ)) (j : ℕ) → RiseFrom k ts → j < k → coefficient ts j ≡ whole (pos 0)
-before_all k [] j h l = refl
-before_all k (t ∷ ts) j h l = (λ i. elsewhere (eqb t.0 j) refl i +ℚ before_all (suc t.0) ts j h.1 (omega (arith, h.0)) i) ∙ zero-+ℚ _
-  where
-    elsewhere : (b : Bool) → eqb t.0 j ≡ b → cond b t.1 (whole (pos 0)) ≡ whole (pos 0)
-    elsewhere true e = absurd (let q = eqb-true t.0 j e in omega (arith, h.0, q))
-    elsewhere false e = refl
-
 zero_modest : IsModest (whole (pos 0))
 zero_modest = wider 0 (10 ^ 24) (whole (pos 0)) (omega arith) zero_small
 
@@ -160,7 +153,7 @@ rising_modest k (t ∷ ts) h m j = step (eqb t.0 j) refl (rising_modest (suc t.0
     step : (b : Bool) → eqb t.0 j ≡ b → IsModest (coefficient ts j) → IsModest (cond b t.1 (whole (pos 0)) +ℚ coefficient ts j)
     step true e r =
         let q = eqb-true t.0 j e in
-        let none = before_all (suc t.0) ts j h.1 (omega (arith, q)) in
+        let none = before_first (suc t.0) ts j h.1 (omega (arith, q)) in
         subst IsModest (sym (ap (λ v. t.1 +ℚ v) none ∙ +ℚ-zero t.1)) (All-head (λ (t : ℕ × ℚ). IsModest t.1) t ts m)
     step false e r = subst IsModest (sym (zero-+ℚ (coefficient ts j))) r
 

@@ -1,8 +1,8 @@
 -- What is read of a file whose end is torn.
-use Rattle.std.specs.Prelude.{◌≡◌, ℕ, ◌+◌, ◌*◌, ◌≤◌, ◌<◌, Bool, true, false, ◌&&◌, nat_eq, nat_lt, List, [], ◌∷◌, ◌++◌, length, take, drop, get_or, refl}
+use Rattle.std.specs.Prelude.{◌≡◌, ℕ, ◌+◌, ◌*◌, ◌≤◌, ◌<◌, true, false, ◌&&◌, nat_eq, nat_lt, List, [], ◌∷◌, ◌++◌, length, take, drop, get_or, refl}
 use Rattle.std.proofs.Common.{arith, ap, sym, ◌∙◌, inl, inr, ⊎_elim, append_assoc, length-append, length-drop, take-append-drop}
 use Rattle.std.proofs.lemmas.Grind.{common_steps}
-use Rattle.std.proofs.lemmas.Bool.{cases_eq}
+use Rattle.std.proofs.lemmas.Bool.{and_left, and_right, cases_eq}
 use Rattle.std.proofs.lemmas.Bool.Decides.{nat_tests}
 use Rattle.std.proofs.lemmas.List.{take_more}
 use Rattle.std.specs.List.{list_all}
@@ -16,21 +16,13 @@ use Rattle.node_journal.specs.Index.{EndsAt, ReadsTo}
 use Rattle.node_journal.specs.Repairs.{IsPrefixAndOne}
 use Rattle.node_journal.specs.Appends.{IsWithOrWithout}
 
-and_shut : (a b : Bool) → b ≡ false → (a && b) ≡ false
-and_shut true b h = h
-and_shut false b h = refl
-
-shut_and : (a b : Bool) → a ≡ false → (a && b) ≡ false
-shut_and true b h = cc
-shut_and false b h = refl
-
 -- a gate that is not 1 is closed
 pub gate_shut : (gate : ℕ) (rest : List ℕ) → nat_eq gate 1 ≡ false → is_gate_open (gate ∷ rest) ≡ false
-gate_shut gate rest h = and_shut (nat_lt 1 (length (gate ∷ rest))) (nat_eq gate 1) h
+gate_shut gate rest h = and_right (nat_lt 1 (length (gate ∷ rest))) (nat_eq gate 1) h
 
 -- and so is the last byte
 pub last_shut : (rest : List ℕ) → length rest ≤ 1 → is_gate_open rest ≡ false
-last_shut rest le = shut_and (nat_lt 1 (length rest)) (nat_eq (get_or rest 0 0) 1) (truth (length rest) le)
+last_shut rest le = and_left (nat_lt 1 (length rest)) (nat_eq (get_or rest 0 0) 1) (truth (length rest) le)
   where
     truth : (k : ℕ) → k ≤ 1 → nat_lt 1 k ≡ false
     truth k le = grind (arith, nat_tests)

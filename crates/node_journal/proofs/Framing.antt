@@ -1,6 +1,7 @@
 -- What a file of frames reads as.
-use Rattle.std.specs.Prelude.{◌≡◌, ℕ, zero, suc, ◌+◌, ◌-◌, ◌*◌, ◌≤◌, ◌<◌, ◌^◌, Bool, true, false, ◌&&◌, nat_eq, nat_le, nat_lt, if◌then◌else◌, List, [], ◌∷◌, ◌++◌, length, take, drop, slice_index, refl}
+use Rattle.std.specs.Prelude.{◌≡◌, ℕ, zero, suc, ◌+◌, ◌-◌, ◌*◌, ◌≤◌, ◌<◌, ◌^◌, Bool, true, false, nat_eq, nat_le, nat_lt, if◌then◌else◌, List, [], ◌∷◌, ◌++◌, length, take, drop, slice_index, refl}
 use Rattle.std.proofs.Common.{arith, ap, sym, ◌∙◌, append_assoc, length-append}
+use Rattle.std.proofs.lemmas.Bool.{and_parts}
 use Rattle.std.proofs.lemmas.Bool.Decides.{nat_tests}
 use Rattle.std.proofs.lemmas.List.{take_at, drop_at}
 use Rattle.std.proofs.lemmas.Nat.{from_le_bytes-to_le_bytes_4}
@@ -10,14 +11,6 @@ use Rattle.node_journal.specs.Frames.{frame, frames_of, places_from, payloads_at
 
 small_is : (p : List ℕ) → has_small_length p ≡ true → length p < 2 ^ 32
 small_is p h = grind (arith, nat_tests)
-
-and_first : (a b : Bool) → (a && b) ≡ true → a ≡ true
-and_first true b h = refl
-and_first false b h = cc
-
-and_second : (a b : Bool) → (a && b) ≡ true → b ≡ true
-and_second true b h = h
-and_second false b h = cc
 
 -- the frame of p, in front of other bytes
 pub head_open : (p rest : List ℕ) → is_gate_open (frame p ++ rest) ≡ true
@@ -71,8 +64,8 @@ pub frames_all : (ps : List (List ℕ)) (n at : ℕ) (rest : List ℕ) → list_
     → read_frames (length ps + n) at (frames_of ps ++ rest) ≡ with_all ps (read_frames n (at + length (frames_of ps)) rest)
 frames_all [] n at rest small = let a : length {A = List ℕ} [] + n ≡ n = omega arith in let b : at ≡ at + length (frames_of []) = omega arith in ap (λ (k : ℕ). read_frames k at rest) a ∙ ap (λ (k : ℕ). read_frames n k rest) b
 frames_all (p ∷ ps) n at rest small =
-    let one = and_first (has_small_length p) (list_all has_small_length ps) small in
-    let more = and_second (has_small_length p) (list_all has_small_length ps) small in
+    let one = (and_parts (has_small_length p) (list_all has_small_length ps) small).0 in
+    let more = (and_parts (has_small_length p) (list_all has_small_length ps) small).1 in
     let apart : (frame p ++ frames_of ps) ++ rest ≡ frame p ++ (frames_of ps ++ rest) = append_assoc (frame p) (frames_of ps) rest in
     let behind = frames_of ps ++ rest in
     let more_one : length (p ∷ ps) + n ≡ suc (length ps + n) = omega arith in
@@ -102,8 +95,8 @@ pub payloads_are : (prefix : List ℕ) (ps : List (List ℕ)) (rest : List ℕ) 
     → payloads_at (prefix ++ frames_of ps ++ rest) (places_from at ps) ≡ ps
 payloads_are prefix [] rest at len small = refl
 payloads_are prefix (p ∷ ps) rest at len small =
-    let one = and_first (has_small_length p) (list_all has_small_length ps) small in
-    let more = and_second (has_small_length p) (list_all has_small_length ps) small in
+    let one = (and_parts (has_small_length p) (list_all has_small_length ps) small).0 in
+    let more = (and_parts (has_small_length p) (list_all has_small_length ps) small).1 in
     let split : prefix ++ (frame p ++ frames_of ps) ++ rest ≡ prefix ++ (frame p ++ (frames_of ps ++ rest)) = append_assoc prefix (frame p ++ frames_of ps) rest ∙ ap (λ (l : List ℕ). prefix ++ l) (append_assoc (frame p) (frames_of ps) rest) in
     let here : payload_of (drop at (prefix ++ (frame p ++ frames_of ps) ++ rest)) ≡ p = ap (λ (l : List ℕ). payload_of (drop at l)) split ∙ ap payload_of (drop_at prefix (frame p ++ (frames_of ps ++ rest)) at len) ∙ head_payload p (frames_of ps ++ rest) one in
     let apart : prefix ++ (frame p ++ frames_of ps) ++ rest ≡ (prefix ++ frame p) ++ frames_of ps ++ rest = ap (λ (l : List ℕ). l ++ rest) (sym (append_assoc prefix (frame p) (frames_of ps))) in
@@ -156,7 +149,7 @@ module _ (ps : List (List ℕ)) (rest : List ℕ) (small : list_all has_small_le
       (λ h. absurd (omega (arith, short_file h, total, two)))
     where
       two : 1 < length rest
-      two = lt (length rest) (and_first (nat_lt 1 (length rest)) (nat_eq (slice_index rest 0) 1) opened)
+      two = lt (length rest) (and_parts (nat_lt 1 (length rest)) (nat_eq (slice_index rest 0) 1) opened).0
         where
           lt : (k : ℕ) → nat_lt 1 k ≡ true → 1 < k
           lt k h = grind (arith, nat_tests)

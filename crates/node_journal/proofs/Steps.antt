@@ -1,10 +1,10 @@
 -- From one gate to the next.
-use Rattle.std.specs.Prelude.{◌≡◌, ℕ, zero, suc, ◌+◌, ◌-◌, ◌≤◌, ◌<◌, ◌^◌, Bool, true, false, ◌&&◌, nat_eq, nat_le, nat_lt, List, [], ◌∷◌, ◌++◌, length, take, drop, get_or, slice_index, Some, None, if◌then◌else◌, refl}
+use Rattle.std.specs.Prelude.{◌≡◌, ℕ, zero, suc, ◌+◌, ◌≤◌, ◌<◌, ◌^◌, Bool, true, false, ◌&&◌, nat_eq, nat_le, nat_lt, List, [], ◌∷◌, ◌++◌, length, take, drop, get_or, slice_index, Some, None, if◌then◌else◌, refl}
 use Rattle.std.proofs.Common.{arith, ap, subst, sym, ◌∙◌, append_assoc, length-append, length-take, length-drop, take-append-drop}
 use Rattle.std.proofs.Math.Seq.{take-add}
 use Rattle.std.proofs.lemmas.Grind.{common_steps}
 use Rattle.std.proofs.lemmas.Bool.Decides.{nat_tests}
-use Rattle.std.proofs.lemmas.List.{append-nil, map-append, take_all}
+use Rattle.std.proofs.lemmas.List.{append-nil, map-append}
 use Rattle.std.proofs.lemmas.List.Folds.{list_all-append}
 use Rattle.std.proofs.lemmas.Nat.{le_bytes_4}
 use Rattle.std.specs.List.{list_all}
@@ -135,9 +135,6 @@ module _ (file places : List ℕ) (gate : ℕ) (is : IsIndexed file places gate)
 
       all_small : list_all has_small_length (payloads_at file (places ++ gate ∷ [])) ≡ true
       all_small = ap (λ (qs : List (List ℕ)). list_all has_small_length qs) one_more ∙ list_all-append has_small_length ps (p ∷ []) ∙ both (list_all has_small_length ps) (has_small_length p) is.small little
-
-pub tail_is : (n : ℕ) (file : List ℕ) → take (length file - n) (drop n file) ≡ drop n file
-tail_is n file = take_all (length file - n) (drop n file) (omega (arith, length-drop n file))
 
 pub none_is : (b : Bool) (n : ℕ) → None ≡ (if b then Some n else None) → b ≡ false
 none_is true n h = cc

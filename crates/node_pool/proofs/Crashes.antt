@@ -1,5 +1,5 @@
 -- What crashes leave of a pool's journal.
-use Rattle.std.specs.Prelude.{◌≡◌, ◌≤◌, ℕ, List, [], ◌∷◌, ◌++◌, length, take, Option, Some, None, slice_get, refl}
+use Rattle.std.specs.Prelude.{◌≡◌, ◌≤◌, ℕ, List, [], ◌∷◌, ◌++◌, length, take, Option, Some, None, refl}
 use Rattle.std.proofs.Common.{sym, ap, ◌∙◌, subst, inl, arith, ⊎_elim, length-take}
 use Rattle.std.proofs.lemmas.List.{take_all}
 use Rattle.outside.specs.Images.{IsImage, Leaves, LeavesOnly, NoMomentPasses}
@@ -13,6 +13,7 @@ use Rattle.node_journal.specs.Appends.{IsWithOrWithout}
 use Rattle.node_journal.specs.History.{first_of, count_of, BeginsWith, IsPrefixOf, Keeps, EachFrom, KeepsHistory}
 use Rattle.node_journal.specs.Records.{Records, Intact, payloads_held, records}
 use Rattle.node_journal.specs.Whole.{payloads_in}
+use Rattle.node_journal.specs.Lemmas.Histories.{get_seam}
 use Rattle.node_pool.specs.declared.halt.Halt.{Halt}
 use Rattle.node_pool.specs.declared.halt.Halt.TheVariants as halt
 use Rattle.node_pool.specs.Payloads.{codes, codes_given, model_in, IsJournalOf, LeavesPrefixes}
@@ -53,10 +54,6 @@ exact ps r prefix begins = prefix ∙ ap Intact (sym (take_all (length ps) (take
 
     whole : take (length ps) (take (count_of r) ps) ≡ ps
     whole = ap payloads_held (sym (ap (λ (x : Records). first_of (length ps) x) prefix) ∙ begins)
-
-get_seam : (xs : List Moment) (y : Moment) (ys : List Moment) → slice_get (xs ++ y ∷ ys) (length xs) ≡ Some y
-get_seam [] y ys = refl
-get_seam (x ∷ xs) y ys = get_seam xs y ys
 
 -- where no call is made, a crash leaves the payloads that are there
 pub none_added : (from : ℕ) (past : List Moment) (now : Moment) (fault : Option ℕ) (p : List ℕ) → KeepsHistory from past now (payloads_in now) fault → fault ≡ None → Keeps (payloads_in now) now

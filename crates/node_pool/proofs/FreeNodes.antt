@@ -2,7 +2,7 @@
 use Rattle.std.specs.Prelude.{◌≡◌, ◌<◌, ◌+◌, ℕ, ℤ, Bool, true, false, not, ◌&&◌, ◌||◌, nat_eq, List, [], ◌∷◌, ◌++◌, length, Option, Some, None, slice_index_or, slice_set, refl, cond, pos}
 use Rattle.std.specs.List.{list_any}
 use Rattle.std.proofs.Common.{sym, ap, ◌∙◌, subst, inl, inr, arith}
-use Rattle.std.proofs.lemmas.Bool.{cases_lt, eqb-true, eq-eqb}
+use Rattle.std.proofs.lemmas.Bool.{false_from_ne_true, or_cases, cases_lt, eqb-true, eq-eqb}
 use Rattle.std.proofs.lemmas.List.{append-nil, append_assoc, length-set}
 use Rattle.std.proofs.lemmas.List.Folds.{list_any-append, list_any_at}
 use Rattle.node_events.specs.declared.event.Event.{Event}
@@ -17,7 +17,7 @@ use Rattle.event_core.specs.Sound.{IsSound}
 use Rattle.event_core.specs.Lemmas.Ended.{is_left, left_within}
 use Rattle.node_pool.specs.Free.{has_node, AreRising, AreFreeNodes, children_of}
 use Rattle.node_pool.specs.Answers.{IsGreatestFree}
-use Rattle.node_pool.proofs.RisingLists.{is_false, or_cases, or_end, has-push, AreBelow, missing, rising-push, below-push, rising-front, below-last, greatest_last, has_last, fewer, below_has}
+use Rattle.node_pool.proofs.RisingLists.{or_end, has-push, AreBelow, missing, rising-push, below-push, rising-front, below-last, greatest_last, has_last, fewer, below_has}
 use Rattle.node_pool.proofs.OpenAndHeld.{and_no, and_yes, or_no, left-set, left-two, is_of_two, held-push, held-without, held_by, held_open, given, given_back, split_off}
 use Rattle.event_core.specs.Frames.{is_split, ended_by, opened_by, with_ended, without_holds, KeepsFrame}
 use Rattle.event_core.specs.Lemmas.Frames.{keeps_frame, journaled_claims, journaled_frees, freed_yours, splits_end, freed_holds}
@@ -98,7 +98,7 @@ module _ (s : State) (w n : ℕ) (sound : IsSound s) (held : holds_node s w n �
   size = length-set s.ended n true ∙ sound.lengths
 
   new_unheld : (i : ℕ) → is_of_two (length s.nodes) i ≡ true → is_held s i ≡ false
-  new_unheld i e = is_false (is_held s i) (λ q. let l = left_within s.ended i (held_open s.ended s.holds i sound.holds_open q) in
+  new_unheld i e = false_from_ne_true (is_held s i) (λ q. let l = left_within s.ended i (held_open s.ended s.holds i sound.holds_open q) in
       elim (or_cases (nat_eq (length s.nodes) i) (nat_eq (length s.nodes + 1) i) e) [
         | inl a ↦ (let m = eqb-true (length s.nodes) i a in omega (arith, l, m, sound.lengths))
         | inr a ↦ (let m = eqb-true (length s.nodes + 1) i a in omega (arith, l, m, sound.lengths))
@@ -194,7 +194,7 @@ pub record AreOpenBelow (s : State) (n : ℕ) (ns : List ℕ) : Type 0 where
   pub listed : (i : ℕ) → i < n → has_node ns i ≡ is_open s i
 
 test_below : (n i : ℕ) → i < n → nat_eq n i ≡ false
-test_below n i lt = is_false (nat_eq n i) (λ e. let q = eqb-true n i e in omega (arith, q, lt))
+test_below n i lt = false_from_ne_true (nat_eq n i) (λ e. let q = eqb-true n i e in omega (arith, q, lt))
 
 pub open_more : (s : State) (n : ℕ) (ns : List ℕ) → is_open s n ≡ true → AreOpenBelow s n ns → AreOpenBelow s (n + 1) (ns ++ n ∷ [])
 open_more s n ns opened h = record {
@@ -226,6 +226,6 @@ all_open s n ns unheld size all h = record { rising = h.rising; listed = λ i. h
     here i = elim (cases_lt i n) [
       | inl lt ↦ h.listed i lt
       | inr ge ↦
-          is_false (has_node ns i) (λ e. let b = below_has ns n i h.below e in omega (arith, b, ge))
-          ∙ sym (is_false (is_open s i) (λ e. let l = left_within s.ended i e in omega (arith, l, ge, size, all)))
+          false_from_ne_true (has_node ns i) (λ e. let b = below_has ns n i h.below e in omega (arith, b, ge))
+          ∙ sym (false_from_ne_true (is_open s i) (λ e. let l = left_within s.ended i e in omega (arith, l, ge, size, all)))
     ]

@@ -3,12 +3,12 @@ use Rattle.std.specs.Prelude.{◌≡◌, ◌+◌, ℕ, zero, suc, Bool, true, fa
 use Rattle.std.specs.List.{list_any}
 use Rattle.std.proofs.Common.{sym, ap, ◌∙◌, arith}
 use Rattle.std.proofs.Math.Dec.{eqb-suc-zero, eqb-zero-suc, eqb-suc-suc}
-use Rattle.std.proofs.lemmas.Bool.{eqb-true, eqb-false, eq-eqb}
+use Rattle.std.proofs.lemmas.Bool.{false_from_ne_true, eqb-true, eqb-false, eq-eqb}
 use Rattle.std.proofs.lemmas.List.Folds.{list_any-append, Any-from_list_any}
 use Rattle.event_core.specs.declared.entry.Holder.{Holder}
 use Rattle.event_core.specs.Holds.{without_hold}
 use Rattle.event_core.specs.Lemmas.Ended.{is_left}
-use Rattle.node_pool.proofs.RisingLists.{is_false, or_end}
+use Rattle.node_pool.proofs.RisingLists.{or_end}
 
 -- ---- open nodes
 pub and_yes : (a : Bool) → a ≡ (a && true)
@@ -35,7 +35,7 @@ of_two-suc : (n k : ℕ) → is_of_two (suc n) (suc k) ≡ is_of_two n k
 of_two-suc n k = ap (λ b. b || nat_eq (suc n + 1) (suc k)) (eqb-suc-suc n k) ∙ ap (λ b. nat_eq n k || b) (ap (λ m. nat_eq m (suc k)) (let e : suc n + 1 ≡ suc (n + 1) = omega arith in e) ∙ eqb-suc-suc (n + 1) k)
 
 of_two-zero : (n : ℕ) → is_of_two (suc n) zero ≡ false
-of_two-zero n = ap (λ b. b || nat_eq (suc n + 1) zero) (eqb-suc-zero n) ∙ is_false (nat_eq (suc n + 1) zero) (λ e. let q = eqb-true (suc n + 1) zero e in omega (arith, q))
+of_two-zero n = ap (λ b. b || nat_eq (suc n + 1) zero) (eqb-suc-zero n) ∙ false_from_ne_true (nat_eq (suc n + 1) zero) (λ e. let q = eqb-true (suc n + 1) zero e in omega (arith, q))
 
 pub or_no : (a b : Bool) → b ≡ false → a ≡ (a || b)
 or_no true b e = refl
@@ -45,7 +45,7 @@ or_no false b e = sym e
 pub left-two : (es : List Bool) (k : ℕ) → is_left (es ++ false ∷ false ∷ []) k ≡ (is_left es k || is_of_two (length es) k)
 left-two [] zero = refl
 left-two [] (suc zero) = refl
-left-two [] (suc (suc k)) = sym (is_false (is_of_two 0 (suc (suc k))) (λ e. two e))
+left-two [] (suc (suc k)) = sym (false_from_ne_true (is_of_two 0 (suc (suc k))) (λ e. two e))
   where
     two : is_of_two 0 (suc (suc k)) ≡ true → ⊥
     two e = step (nat_eq 0 (suc (suc k))) (nat_eq 1 (suc (suc k))) refl refl e
@@ -68,7 +68,7 @@ pub held-without : (i k : ℕ) (hs : List Holder) → has_hold (without_hold i h
 held-without i k [] = refl
 held-without i k (h ∷ hs) = step (nat_eq h.node i) (nat_eq h.node k) (has_hold hs k) (nat_eq i k) (held-without i k hs)
     (λ e. ap (λ m. nat_eq m k) (eqb-true h.node i e))
-    (λ e f. is_false (nat_eq i k) (λ q. eqb-false h.node i e (eqb-true h.node k f ∙ sym (eqb-true i k q)))) refl
+    (λ e f. false_from_ne_true (nat_eq i k) (λ q. eqb-false h.node i e (eqb-true h.node k f ∙ sym (eqb-true i k q)))) refl
   where
     step : (b c any e : Bool) → has_hold (without_hold i hs) k ≡ (any && not e) → (b ≡ true → c ≡ e) → (b ≡ false → c ≡ true → e ≡ false) → nat_eq h.node k ≡ c
         → has_hold (cond (not b) (h ∷ without_hold i hs) (without_hold i hs)) k ≡ ((c || any) && not e)

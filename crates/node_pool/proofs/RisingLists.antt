@@ -2,7 +2,7 @@
 use Rattle.std.specs.Prelude.{◌≡◌, ◌⊎◌, ◌<◌, ◌≤◌, ◌+◌, ◌-◌, ℕ, zero, suc, Bool, true, false, ◌||◌, nat_eq, nat_lt, List, [], ◌∷◌, ◌++◌, length, take, drop, slice_index_or, refl}
 use Rattle.std.specs.List.{insert}
 use Rattle.std.proofs.Common.{sym, ap, ◌∙◌, subst, inl, inr, arith}
-use Rattle.std.proofs.lemmas.Bool.{cases_lt, eqb-true, eq-eqb, ltb-true, ltb-false}
+use Rattle.std.proofs.lemmas.Bool.{false_from_ne_true, or_cases, cases_lt, eqb-true, eq-eqb, ltb-true, ltb-false}
 use Rattle.std.proofs.lemmas.List.{length_push, get_or_append_left, get_or_push, take-append-drop}
 use Rattle.std.proofs.lemmas.List.Edits.{length-insert, get_or-insert_below, get_or-insert_at, get_or-insert_above}
 use Rattle.std.proofs.lemmas.List.Folds.{list_any-append, list_any_at, Any-from_list_any}
@@ -11,14 +11,6 @@ use Rattle.std.specs.List.Sorted.{IsNonDecreasing, IsPartitionPoint}
 use Rattle.node_pool.specs.Free.{AreRising, has_node}
 
 -- ---- truth values
-pub is_false : (b : Bool) → (b ≡ true → ⊥) → b ≡ false
-is_false true n = absurd (n refl)
-is_false false n = refl
-
-pub or_cases : (a b : Bool) → (a || b) ≡ true → (a ≡ true) ⊎ (b ≡ true)
-or_cases true b e = inl refl
-or_cases false b e = inr e
-
 pub or_end : (a b : Bool) → (a || (b || false)) ≡ (a || b)
 or_end true b = refl
 or_end false true = refl
@@ -38,7 +30,7 @@ below_has ns n i below e =
     omega (arith, below w.0 w.1 w.2, w.3, eqb-true w.1 i w.4)
 
 pub missing : (ns : List ℕ) (n : ℕ) → AreBelow ns n → has_node ns n ≡ false
-missing ns n below = is_false (has_node ns n) (λ e. let l = below_has ns n n below e in omega (arith, l))
+missing ns n below = false_from_ne_true (has_node ns n) (λ e. let l = below_has ns n n below e in omega (arith, l))
 
 -- ---- one more at the end
 pub rising-push : (ns : List ℕ) (n : ℕ) → AreRising ns → AreBelow ns n → AreRising (ns ++ n ∷ [])

@@ -1,6 +1,7 @@
 -- What is refused is refused for one reason.
 use Rattle.std.specs.Prelude.{◌≡◌, ◌⊎◌, ℕ, zero, suc, ◌<◌, true, List, [], ◌∷◌, take, slice_get, slice_index, slice_index_or, refl}
 use Rattle.std.proofs.Common.{arith, sym, ◌∙◌, ap, subst, inl, inr, length-take}
+use Rattle.std.proofs.lemmas.Bool.{cases_order}
 use Rattle.std.proofs.lemmas.List.{take-take}
 use Rattle.problem.specs.Problem.{Problem}
 use Rattle.event_codec.specs.Laws.{CodesTellApart, RecordsTellApart}
@@ -41,15 +42,12 @@ get_take (x ∷ xs) zero n lt = absurd (omega (arith, lt))
 get_take (x ∷ xs) (suc m) zero lt = refl
 get_take (x ∷ xs) (suc m) (suc n) lt = get_take xs m n (omega (arith, lt))
 
-order : (a b : ℕ) → (a ≡ b) ⊎ ((a < b) ⊎ (b < a))
-order a b = grind arith
-
 -- ---- one place at which two payloads differ first
 no_earlier : (a b : List ℕ) (at later : ℕ) → at < later → DiffersFirstAt a b at → DiffersFirstAt a b later → ⊥
 no_earlier a b at later lt here there = here.differs (sym (get_take a later at lt) ∙ ap (λ (l : List ℕ). slice_get l at) there.same ∙ get_take b later at lt)
 
 one_difference : (a b : List ℕ) (at at2 : ℕ) → DiffersFirstAt a b at → DiffersFirstAt a b at2 → at ≡ at2
-one_difference a b at at2 x y = elim (order at at2) [
+one_difference a b at at2 x y = elim (cases_order at at2) [
   | inl same ↦ same
   | inr other ↦ elim other [ inl lt ↦ absurd (no_earlier a b at at2 lt x y) | inr gt ↦ absurd (no_earlier a b at2 at gt y x) ]
 ]
@@ -70,7 +68,7 @@ no_earlier_event law records_law ps at at2 e f lt =
     (subst (λ (l : List ℕ). IsNoEvent (state_of e.problem e.events) l) (sym (index_take ps f.number e.number lt)) e.none)
 
 one_event : CodesTellApart → RecordsTellApart → (ps : List (List ℕ)) (at at2 : ℕ) → IsDamagedEvent ps at → IsDamagedEvent ps at2 → at ≡ at2
-one_event law records_law ps at at2 e f = elim (order e.number f.number) [
+one_event law records_law ps at at2 e f = elim (cases_order e.number f.number) [
   | inl same ↦ e.place ∙ ap (λ (n : ℕ). slice_index (places_from 8 ps) n) same ∙ sym f.place
   | inr other ↦ elim other [ inl lt ↦ absurd (no_earlier_event law records_law ps at at2 e f lt) | inr gt ↦ absurd (no_earlier_event law records_law ps at2 at f e gt) ]
 ]

@@ -13,11 +13,11 @@ use Rattle.event_core.specs.Histories.{journaled}
 use Rattle.node_journal.specs.Records.{Records, Intact, records}
 use Rattle.node_journal.specs.Appends.{IsWithOrWithout}
 use Rattle.node_pool.specs.Payloads.{codes, model_in, IsJournalOf}
-use Rattle.resume.specs.Models.{IsModelOf}
 use Rattle.node_pool.specs.Stored.{IsStored}
 use Rattle.resume.specs.Journals.{StandsFor}
 use Rattle.resume.specs.Crashes.{IsAsBefore, IsAsBeforeOrBegun}
 use Rattle.resume.proofs.Applying.{codable_stays}
+use Rattle.resume.specs.Models.{IsModelOf}
 
 -- events that were read are all journaled
 pub all_journaled : (es : List Entry) → AllByRecursion IsStored es → journaled es ≡ es
@@ -79,14 +79,6 @@ pub if_both : {T E : Type 0} (r : Result T E) (P Q R : T → Type 0) → IfOk r 
 if_both (Ok x) P Q R p q f = f x p q
 if_both (Err e) P Q R p q f = tt
 
-pub if_then : {T E : Type 0} (r : Result T E) (P Q : T → Type 0) → IfOk r P → ((x : T) → P x → Q x) → IfOk r Q
-if_then (Ok x) P Q p f = f x p
-if_then (Err e) P Q p f = tt
-
-pub if_err : {T E : Type 0} (r : Result T E) (P Q : E → Type 0) → IfErr r P → ((e : E) → P e → Q e) → IfErr r Q
-if_err (Ok x) P Q p f = tt
-if_err (Err e) P Q p f = f e p
-
 -- what holds of a part of the value in an `Ok`, or in an `Err`, that is known
 pub ok_part : {T E A : Type 0} (r : Result T E) (f : T → A) (y : A) (P : A → Type 0) → IfOk r (λ x. f x ≡ y) → P y → IfOk r (λ x. P (f x))
 ok_part (Ok x) f y P same h = subst P (sym same) h
@@ -100,7 +92,3 @@ err_part (Err e) f y P same h = subst P (sym same) h
 pub if_err_all : {T E : Type 0} (r : Result T E) (P : E → Type 0) → ((e : E) → P e) → IfErr r P
 if_err_all (Ok x) P f = tt
 if_err_all (Err e) P f = f e
-
-pub none_held : (ps : List (List ℕ)) → length ps ≡ 0 → ps ≡ []
-none_held [] e = refl
-none_held (p ∷ ps) e = cc

@@ -6,9 +6,9 @@ use Rattle.problem.specs.Limited.{IsLimitedRow}
 use Rattle.problem.specs.Rising.{AreRising}
 use Rattle.tableau.specs.declared.bounds.Bounds.{Bounds}
 use Rattle.std.proofs.lemmas.List.{take_all}
-use Rattle.std.proofs.lemmas.List.{take_more, append-nil}
+use Rattle.std.proofs.lemmas.List.{append-nil}
 use Rattle.std.proofs.lemmas.Option.{slice_get_within, slice_get-get_or}
-use Rattle.std.proofs.lemmas.List.{map-append, length-append, length-map}
+use Rattle.std.proofs.lemmas.List.{length-append, length-map}
 use Rattle.problem_box.specs.declared.span.Span.{Span}
 use Rattle.problem.specs.declared.row.Row.{Row}
 use Rattle.problem.specs.Linear.{Terms}
@@ -17,18 +17,8 @@ use Rattle.problem.specs.Problem.{Problem}
 use Rattle.problem.specs.Limits.{most_columns}
 use Rattle.tableau.specs.Elimination.{Coefficients}
 use Rattle.tableau.specs.Lemmas.Started.{length-coefficients}
-use Rattle.tableau.specs.Lemmas.Programs.{program-with_row, numbers_more}
+use Rattle.tableau.specs.Lemmas.Programs.{program-with_row, numbers_more, next_taken}
 use Rattle.tableau.specs.LinearProgram.{coefficients_from, span_bounds, program_of, numbers_from, relaxation, with_row}
-
--- ---- one element more
-pub next_taken : {A : Type 0} (xs : List A) (i : ℕ) (x : A) → slice_get xs i ≡ Some x → take (i + 1) xs ≡ take i xs ++ (x ∷ [])
-next_taken xs i x e =
-    let l = slice_get_within xs i x e in
-    let f : get_or xs i x ≡ x = let g : Some (get_or xs i x) ≡ Some x = sym (slice_get-get_or xs i x l) ∙ e in cc in
-    take_more xs i x l ∙ ap (λ y. take i xs ++ (y ∷ [])) f
-
-pub next_mapped : {A B : Type 0} (f : A → B) (xs : List A) (i : ℕ) (x : A) → slice_get xs i ≡ Some x → map f (take (i + 1) xs) ≡ map f (take i xs) ++ (f x ∷ [])
-next_mapped f xs i x e = ap (map f) (next_taken xs i x e) ∙ map-append f (take i xs) (x ∷ [])
 
 -- ---- one row more
 pub next_program : (objective : Terms) (rows : Rows) (spans : List Span) (i : ℕ) (r : Row) → slice_get rows i ≡ Some r

@@ -14,7 +14,8 @@ use Rattle.turn_lock.specs.Lists.{NoneOf, GoesOn, longer, shorter, shorter_has}
 use Rattle.turn_lock.specs.SeatSteps.{joined, spent}
 use Rattle.turn_lock.specs.Turns.{TakesTurns, Seated, one_if, tickets_in, weight_in, Known}
 use Rattle.turn_lock.specs.declared.board.View.{View}
-use Rattle.turn_lock.proofs.NameLists.{distinct_append, nothing, from_nothing}
+use Rattle.turn_lock.specs.Lemmas.Names.{nothing}
+use Rattle.turn_lock.proofs.NameLists.{distinct_append, from_nothing}
 use Rattle.turn_lock.proofs.Seats.{sum_by_set_at, inside}
 use Rattle.turn_lock.proofs.Settled.{AreSettled, is_other, turns_go_on}
 

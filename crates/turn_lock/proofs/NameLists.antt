@@ -1,33 +1,16 @@
 -- Lists of distinct names.
-use Rattle.std.proofs.Common.{◌≡◌, ◌⊎◌, inl, inr, ⊎_elim, ℕ, Option, zero, suc, ◌+◌, ◌≤◌, ◌<◌, Bool, true, false, List, [], ◌∷◌, ◌++◌, length, eqb, refl, sym, ◌∙◌, subst, arith}
+use Rattle.std.proofs.Common.{◌≡◌, ⊎_elim, ℕ, Option, zero, suc, ◌+◌, ◌≤◌, ◌<◌, Bool, true, false, List, [], ◌∷◌, ◌++◌, length, eqb, refl, sym, ◌∙◌, subst, arith}
 use Rattle.std.specs.Prelude.{Contains, if◌then◌else◌}
-use Rattle.std.proofs.lemmas.Grind.{common_steps}
 use Rattle.std.proofs.lemmas.Bool.{eq-eqb, eqb-true, cases_lt}
-use Rattle.std.proofs.lemmas.List.{length-append}
-use Rattle.std.proofs.lemmas.List.Elements.{Contains-append_right, Contains-append_cases}
+use Rattle.std.proofs.lemmas.List.Elements.{Contains-append_cases}
 use Rattle.std.proofs.Math.Nat.{max-eq_left, max-eq_right}
 use Rattle.turn_lock.specs.Lists.{GoesOn}
 use Rattle.turn_lock.specs.Names.{AreDistinct, greatest, without_first, names_below}
-
-pub nothing : {X : Type 0} (e : X) → Contains [] e → ⊥
-nothing e c = grind (arith, common_steps)
+use Rattle.turn_lock.specs.Lemmas.Names.{nothing, head_in, only_in, tail_in, either_in, below}
 
 -- whatever the list is, it goes on from nothing, and behind that nobody's name was asked for
 pub from_nothing : {E : Type 0} (name : E → Option ℕ) (list : List E) → GoesOn name [] [] list
 from_nothing name list = (list, refl, λ e n c is has. nothing n has)
-
-pub head_in : {X : Type 0} (x : X) (xs : List X) → Contains (x ∷ xs) x
-head_in x xs = (0, omega arith, refl)
-
-pub only_in : {X : Type 0} (x y : X) → Contains (x ∷ []) y → y ≡ x
-only_in x y (zero, _, is) = sym is
-only_in x y (suc k, low, _) = absurd (omega (arith, low))
-
-pub tail_in : {X : Type 0} (x : X) (xs : List X) (y : X) → Contains xs y → Contains (x ∷ xs) y
-tail_in x xs y c = Contains-append_right (x ∷ []) xs y c
-
-pub either_in : {X : Type 0} (x : X) (xs : List X) (y : X) → Contains (x ∷ xs) y → (y ≡ x) ⊎ Contains xs y
-either_in x xs y c = ⊎_elim (λ h. inl (only_in x y h)) (λ t. inr t) (Contains-append_cases (x ∷ []) xs y c)
 
 -- the greatest of some names is one of them
 pub greatest_in : (xs : List ℕ) → 0 < length xs → Contains xs (greatest xs)
@@ -83,17 +66,6 @@ distinct_append (x ∷ xs) ys dx dy apart = (
   (λ c. ⊎_elim (λ (h : Contains xs x). dx.0 h) (λ (h : Contains ys x). apart x (head_in x xs) h) (Contains-append_cases xs ys x c)),
   distinct_append xs ys dx.1 dy (λ n a b. apart n (tail_in x xs n a) b),
 )
-
-pub length_below : (n : ℕ) → length (names_below n) ≡ n
-length_below zero = refl
-length_below (suc n) = let before = length_below n in omega (arith, length-append (names_below n) (n ∷ []), before)
-
-pub below : (n k : ℕ) → Contains (names_below n) k → k < n
-below zero k c = absurd (nothing k c)
-below (suc n) k c = ⊎_elim
-    (λ (h : Contains (names_below n) k). let lt = below n k h in omega (arith, lt))
-    (λ (h : Contains (n ∷ []) k). let same = only_in n k h in omega (arith, same))
-    (Contains-append_cases (names_below n) (n ∷ []) k c)
 
 pub distinct_below : (n : ℕ) → AreDistinct (names_below n)
 distinct_below zero = tt

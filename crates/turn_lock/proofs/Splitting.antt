@@ -12,7 +12,8 @@ use Rattle.turn_lock.specs.Names.{greatest, without_first}
 use Rattle.turn_lock.specs.SeatSteps.{others_of, greatest_of}
 use Rattle.turn_lock.specs.Turns.{TakesTurns, Seated, one_if, tickets_in, weight_in, Known}
 use Rattle.turn_lock.specs.declared.board.View.{View}
-use Rattle.turn_lock.proofs.NameLists.{greatest_in, without_in, length_without, distinct_without, not_without, only_in, nothing}
+use Rattle.turn_lock.specs.Lemmas.Names.{nothing, only_in}
+use Rattle.turn_lock.proofs.NameLists.{greatest_in, without_in, length_without, distinct_without, not_without}
 use Rattle.turn_lock.proofs.Seats.{sum_by_set_at, inside}
 use Rattle.turn_lock.proofs.Settled.{AreSettled, is_other, turns_go_on}
 

@@ -1,7 +1,8 @@
 -- What calls of a pool make of its list.
-use Rattle.std.specs.Prelude.{◌≡◌, ◌<◌, ℕ, Bool, true, false, not, ◌&&◌, ◌||◌, List, [], ◌∷◌, length, Option, Some, None, is_some, unwrap_or, option_copied, Ok, Err, refl}
+use Rattle.std.specs.Prelude.{◌≡◌, ◌<◌, ℕ, Bool, true, false, not, ◌||◌, List, [], ◌∷◌, length, Option, Some, None, is_some, unwrap_or, option_copied, Ok, Err, refl}
 use Rattle.std.specs.declared.alloc.AllocError.{AllocError}
 use Rattle.std.proofs.Common.{Bor, sym, ap, ◌∙◌, subst, arith}
+use Rattle.std.proofs.lemmas.Bool.{and_parts}
 use Rattle.std.proofs.lemmas.List.{append-nil}
 use Rattle.outside.specs.declared.disk.Disk.{Ghosts}
 use Rattle.node_tree.specs.declared.branch.Node.{Node}
@@ -34,17 +35,13 @@ use Rattle.worker_gate.proofs.Keeping.{event_kept, list_grows, events_kept, halt
 use Rattle.worker_gate.proofs.Making.{made_nothing, made_event, made_halt}
 
 -- ---- one event
-both_true : (a b : Bool) → (a && b) ≡ true → (a ≡ true) × (b ≡ true)
-both_true true b e = (refl, e)
-both_true false b e = cc
-
 neither : (a b : Bool) → not a ≡ true → b ≡ false → not (a || b) ≡ true
 neither true b e f = cc
 neither false b e f = ap not f
 
 claim_legal : (s : State) (w n : ℕ) → is_free s n ≡ true → is_holding s w ≡ false → IsLegal s (Some w) (event.Claim n)
 claim_legal s w n free none =
-    let k = both_true (is_open s n) (not (is_held s n)) free in
+    let k = and_parts (is_open s n) (not (is_held s n)) free in
     record {
       admitted = passing (is_open s n) NotOpen _ k.0 (passing (not (is_held s n || is_holding s w)) NotYours Yes (neither (is_held s n) (is_holding s w) k.1 none) refl);
       stands = tt;

@@ -1,9 +1,10 @@
 -- Entries that a call makes behind a list.
-use Rattle.std.specs.Prelude.{◌≡◌, ℕ, zero, suc, List, [], ◌∷◌, ◌++◌, Contains, Some, None}
-use Rattle.std.proofs.Common.{sym, ap, ◌∙◌, subst, arith, ⊎_elim}
+use Rattle.std.specs.Prelude.{◌≡◌, ℕ, List, [], ◌∷◌, ◌++◌, Contains, Some, None}
+use Rattle.std.proofs.Common.{sym, ap, ◌∙◌, subst, ⊎_elim}
 use Rattle.std.proofs.lemmas.List.{append-nil, append_assoc}
 use Rattle.std.proofs.lemmas.List.Elements.{Contains-append_cases}
 use Rattle.turn_lock.specs.Lists.{OwnOrNone}
+use Rattle.turn_lock.specs.Lemmas.Names.{nothing, head_in, only_in}
 use Rattle.node_events.specs.declared.event.Event.{Event}
 use Rattle.node_pool.specs.declared.halt.Halt.{Halt}
 use Rattle.worker_gate.specs.declared.entry.PoolEntry.{PoolEntry}
@@ -12,14 +13,6 @@ use Rattle.worker_gate.specs.Entries.{name_of}
 use Rattle.worker_gate.specs.Legal.{IsLegalList}
 use Rattle.worker_gate.specs.Calls.{entry_by}
 use Rattle.worker_gate.specs.Gates.{Makes}
-use Rattle.worker_gate.specs.Lemmas.Staying.{head_in}
-
-pub nothing : {X : Type 0} (e : X) → Contains [] e → ⊥
-nothing e (k, low, is) = omega (arith, low)
-
-only_in : {X : Type 0} (x y : X) → Contains (x ∷ []) y → y ≡ x
-only_in x y (zero, _, is) = sym is
-only_in x y (suc k, low, _) = absurd (omega (arith, low))
 
 module _ (w : ℕ) where
   pub named_none : OwnOrNone name_of (w ∷ []) []

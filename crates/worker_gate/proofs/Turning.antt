@@ -11,7 +11,7 @@ use Rattle.worker_gate.specs.Gates.{Makes, Stepped}
 use Rattle.worker_gate.specs.Laws.{KeepsConditions}
 use Rattle.worker_gate.specs.Lemmas.Lists.{opening-append}
 use Rattle.worker_gate.specs.Lemmas.Staying.{conditions_stay}
-use Rattle.worker_gate.proofs.Making.{nothing}
+use Rattle.turn_lock.specs.Lemmas.Names.{nothing}
 
 -- nobody else asks
 pub goes_itself : (w : ℕ) (list : List PoolEntry) → GoesOn name_of (w ∷ []) list list

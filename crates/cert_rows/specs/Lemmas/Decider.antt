@@ -1,19 +1,19 @@
 -- Validity is decided by a test that computes.
-use Rattle.std.specs.Prelude.{◌≡◌, ◌⊎◌, ◌<◌, ◌++◌, ℕ, zero, suc, ℤ, pos, negsuc, ◌*ℤ◌, ◌≤ℤ◌, ◌<ℤ◌, Bool, true, false, cond, not, ◌&&◌, ◌||◌, nat_lt, eqb, leb, List, [], ◌∷◌, map, length, All, Any, slice_index_or, refl}
+use Rattle.std.specs.Prelude.{◌≡◌, ◌⊎◌, ◌<◌, ◌++◌, ℕ, zero, suc, ℤ, pos, ◌*ℤ◌, ◌≤ℤ◌, ◌<ℤ◌, int_le, Bool, true, false, cond, not, ◌&&◌, ◌||◌, nat_lt, eqb, List, [], ◌∷◌, map, length, All, Any, slice_index_or, refl}
 use Rattle.std.specs.List.{list_all, list_any}
 use Rattle.std.specs.Bool.{Decides}
 use Rattle.std.specs.Ordering.{int_eq}
 use Rattle.std.proofs.Common.{sym, ap, ◌∙◌, subst, inl, inr, arith}
 use Rattle.std.proofs.lemmas.Int.{ints}
-use Rattle.std.proofs.lemmas.Bool.{eqb-true, leb-true, le-leb, false≢true}
+use Rattle.std.proofs.lemmas.Bool.{eqb-true, false≢true}
 use Rattle.std.proofs.lemmas.Bool.Decides.{Decides-like, Decides-not, Decides-and, Decides-or, Decides-eqb, Decides-ltb, Decides-by_and}
 use Rattle.std.proofs.lemmas.List.Elements.{All-head, All-tail}
 use Rattle.fraction.specs.Gcd.{gcd, gcd_within}
 use Rattle.fraction.specs.Rational.{ℚ, whole, frac, ◌+ℚ◌, ◌≤ℚ◌}
 use Rattle.fraction.specs.Lemmas.Rational.{ℚ_equal, zero-+ℚ}
 use Rattle.fraction.specs.Order.{◌<ℚ◌}
-use Rattle.problem_box.specs.declared.span.Span.{Span}
-use Rattle.problem_box.specs.Boxes.{IsInBox}
+use Rattle.problem_box.specs.Boxes.{is_in_box}
+use Rattle.problem_box.specs.Lemmas.Boxes.{Decides-int_le, Decides-in_box}
 use Rattle.problem.specs.declared.row.Sense.{Sense}
 use Rattle.problem.specs.declared.row.Sense.TheVariants.{G, L, E}
 use Rattle.problem.specs.declared.row.Row.{Row}
@@ -40,24 +40,12 @@ pub always : {P : Type 0} → P → Decides true P
 always p = (λ _. p, λ _. refl)
 
 -- ---- numbers
-abbrev z_le : ℤ → ℤ → Bool
-z_le (pos a) (pos b) = leb a b
-z_le (pos a) (negsuc b) = false
-z_le (negsuc a) (pos b) = true
-z_le (negsuc a) (negsuc b) = leb b a
-
-decides-z_le : (a b : ℤ) → Decides (z_le a b) (a ≤ℤ b)
-decides-z_le (pos a) (pos b) = (λ e. omega (arith, ints, leb-true a b e), λ h. le-leb a b (omega (arith, ints)))
-decides-z_le (pos a) (negsuc b) = (λ e. absurd (false≢true e), λ h. absurd (omega (arith, ints)))
-decides-z_le (negsuc a) (pos b) = (λ e. omega (arith, ints), λ h. refl)
-decides-z_le (negsuc a) (negsuc b) = (λ e. omega (arith, ints, leb-true b a e), λ h. le-leb b a (omega (arith, ints)))
-
 abbrev q_le : ℚ → ℚ → Bool
-q_le x y = z_le (x.num *ℤ pos y.den) (y.num *ℤ pos x.den)
+q_le x y = int_le (x.num *ℤ pos y.den) (y.num *ℤ pos x.den)
 
 decides-q_le : (x y : ℚ) → Decides (q_le x y) (x ≤ℚ y)
 unfolding ◌≤ℚ◌
-decides-q_le x y = decides-z_le _ _
+decides-q_le x y = Decides-int_le _ _
 
 abbrev q_lt : ℚ → ℚ → Bool
 q_lt x y = not (q_le y x)
@@ -350,25 +338,12 @@ decides-all_follow ls (d ∷ ds) =
     Decides-and (follows ls (row_of d.0) d.1) (all_follow (ls ++ derived_line_of ls d ∷ []) ds) (decides-follows ls (row_of d.0) d.1) (decides-all_follow (ls ++ derived_line_of ls d ∷ []) ds)
 
 -- ---- the certificate
-abbrev is_in_box : List Span → List ℤ → Bool
-is_in_box [] [] = true
-is_in_box [] (x ∷ xs) = false
-is_in_box (s ∷ ss) [] = false
-is_in_box (s ∷ ss) (x ∷ xs) = (z_le s.lo x && z_le x s.hi) && is_in_box ss xs
-
-decides-box : (ss : List Span) (xs : List ℤ) → Decides (is_in_box ss xs) (IsInBox ss xs)
-decides-box [] [] = always tt
-decides-box [] (x ∷ xs) = never (λ h. h)
-decides-box (s ∷ ss) [] = never (λ h. h)
-decides-box (s ∷ ss) (x ∷ xs) =
-    Decides-and (z_le s.lo x && z_le x s.hi) (is_in_box ss xs) (Decides-and (z_le s.lo x) (z_le x s.hi) (decides-z_le s.lo x) (decides-z_le x s.hi)) (decides-box ss xs)
-
 abbrev is_feasible : Problem → List ℤ → Bool
 is_feasible p x = is_in_box p.spans x && list_all (λ r. compares r.sense r.rhs (value r.terms x)) p.rows
 
 decides-feasible : (p : Problem) (x : List ℤ) → Decides (is_feasible p x) (IsFeasible p x)
 decides-feasible p x = Decides-like _ (λ h. record { in_box = h.0; rows = h.1 }) (λ h. (h.in_box, h.rows))
-    (Decides-and (is_in_box p.spans x) (list_all (λ r. compares r.sense r.rhs (value r.terms x)) p.rows) (decides-box p.spans x)
+    (Decides-and (is_in_box p.spans x) (list_all (λ r. compares r.sense r.rhs (value r.terms x)) p.rows) (Decides-in_box p.spans x)
     (decides-all (λ r. compares r.sense r.rhs (value r.terms x)) (Satisfies x) (λ r. decides-compares r.sense r.rhs (value r.terms x)) p.rows))
 
 abbrev shows_claim : Problem → Cert → Goal → Bool

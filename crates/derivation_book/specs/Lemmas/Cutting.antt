@@ -1,8 +1,7 @@
 -- Lemmas: rounded rows follow by rounding, cuts hold at feasible points, and legal proofs close boxes.
-use Rattle.std.specs.Prelude.{◌≡◌, ◌⊎◌, ◌<◌, ◌≤◌, ◌+◌, ℕ, zero, suc, ℤ, pos, ◌≤ℤ◌, ◌<ℤ◌, nat_abs, Bool, true, false, IsTrue, nat_le, nat_eq, List, [], ◌∷◌, ◌++◌, map, length, All, slice_get, slice_index_or, Option, Some, None, refl}
+use Rattle.std.specs.Prelude.{◌≡◌, ◌⊎◌, ◌<◌, ◌≤◌, ◌+◌, ℕ, zero, suc, ℤ, pos, nat_abs, Bool, true, false, IsTrue, nat_le, nat_eq, List, [], ◌∷◌, ◌++◌, map, length, All, slice_index_or, Option, Some, refl}
 use Rattle.std.specs.List.{list_all}
 use Rattle.std.proofs.Common.{sym, ap, ◌∙◌, subst, inl, inr, arith}
-use Rattle.std.proofs.lemmas.Int.{ints}
 use Rattle.std.proofs.lemmas.Bool.{eqb-true, and_parts}
 use Rattle.std.proofs.lemmas.List.Elements.{All-nil, All-cons, All-head, All-tail, All-append, All-push, All-map, All-weaker}
 use Rattle.fraction.specs.Rational.{ℚ, whole, ceil, ◌≤ℚ◌}
@@ -13,6 +12,7 @@ use Rattle.fraction.specs.Whole.{IsWhole}
 use Rattle.fraction.specs.Lemmas.Whole.{IsAnInteger, integer_from_whole, integer-+, integer-*}
 use Rattle.problem_box.specs.declared.span.Span.{Span}
 use Rattle.problem_box.specs.Boxes.{IsInBox}
+use Rattle.problem_box.specs.Lemmas.Boxes.{crossed-no_point}
 use Rattle.problem.specs.declared.row.Row.{Row}
 use Rattle.problem.specs.Linear.{value, coefficient, number_at}
 use Rattle.problem.specs.Lemmas.Linear.{beyond}
@@ -169,24 +169,9 @@ rounded_below_value true ts x v h l =
     let i = whole_value ts x (h refl) in
     subst (λ w. whole (ceil v) ≤ℚ w) (sym i.1) (whole-≤ℚ (ceil v) i.0 (ceil_least v i.0 (subst (λ w. v ≤ℚ w) i.1 l)))
 
-empty_box : (ss : List Span) (x : List ℤ) (j : ℕ) (s : Span) → slice_get ss j ≡ Some s → s.hi <ℤ s.lo → IsInBox ss x → ⊥
-empty_box [] x j s e h b = let k = e in impossible s k
-  where
-    impossible : (s : Span) → ◌≡◌ {A = Option Span} None (Some s) → ⊥
-    impossible s e = cc
-empty_box (r ∷ ss) [] j s e h b = absurd b
-empty_box (r ∷ ss) (x ∷ xs) zero s e h b = apart r.lo r.hi x (subst (λ (q : Span). q.hi <ℤ q.lo) (sym (same r s e)) h) b.0.0 b.0.1
-  where
-    same : (r s : Span) → Some r ≡ Some s → r ≡ s
-    same r s e = cc
-
-    apart : (a b z : ℤ) → b <ℤ a → a ≤ℤ z → z ≤ℤ b → ⊥
-    apart a b z h k l = omega (arith, ints)
-empty_box (r ∷ ss) (x ∷ xs) (suc j) s e h b = empty_box ss xs j s e h b.1
-
 pub legal_closes : (p : Problem) (cs : List Cut) → IsLimited p → AreCutsOf p cs → (box : List Span) (cutoff : Option ℚ) (proof : Proof) → length box ≡ length p.spans
     → IsLegalProof p cs box cutoff proof → (x : List ℤ) → IsFeasible p x → IsInBox box x → (z : ℚ) × (cutoff ≡ Some z) × (z ≤ℚ objective_at p x)
-legal_closes p cs l a box cutoff (Empty column) e h x f b = absurd (empty_box box x column h.span h.there h.crossed b)
+legal_closes p cs l a box cutoff (Empty column) e h x f b = absurd (crossed-no_point box column h.span x h.there h.crossed b)
 legal_closes p cs l a box cutoff (Refute mult) e h x f b =
     absurd (not_both h.value (whole (pos 0))
     (price_below p cs box [] mult h.value x e h.multipliers.combined.signs h.priced b (λ k d i. known_holds p cs x f (cuts_hold p cs l a x f) (slice_index_or mult k d).0)) h.above)

@@ -7,7 +7,7 @@ use Rattle.std.proofs.lemmas.Bool.{false≢true}
 use Rattle.std.proofs.lemmas.Bool.Decides.{Decides-int_eq}
 use Rattle.std.proofs.lemmas.Option.{cond_some}
 use Rattle.std.proofs.lemmas.List.Elements.{All-nil, All-cons}
-use Rattle.std.proofs.lemmas.List.{append_assoc}
+use Rattle.std.proofs.lemmas.List.{append-nil, append_assoc}
 use Rattle.fraction.specs.Rational.{ℚ, whole}
 use Rattle.fraction.specs.Lemmas.Bounds.{whole_parts, was_some}
 use Rattle.problem.specs.declared.row.Row.{Row}
@@ -85,9 +85,5 @@ rounded_rises p cs mult r e =
 
 -- ---- one cut more
 pub one_more : (p : Problem) (before cs : List Cut) (c : Cut) → AreCutsAfter p before cs → rounded_row p (before ++ cs) c.mult ≡ Some c.row → AreCutsAfter p before (cs ++ c ∷ [])
-one_more p before [] c h e = (ap (λ ds. rounded_row p ds c.mult) (sym (append_nil before)) ∙ e, tt)
-  where
-    append_nil : (ds : List Cut) → ds ++ [] ≡ ds
-    append_nil [] = refl
-    append_nil (d ∷ ds) = ap (λ es. d ∷ es) (append_nil ds)
+one_more p before [] c h e = (ap (λ ds. rounded_row p ds c.mult) (sym (append-nil before)) ∙ e, tt)
 one_more p before (d ∷ cs) c h e = (h.0, one_more p (before ++ d ∷ []) cs c h.1 (ap (λ ds. rounded_row p ds c.mult) (append_assoc before (d ∷ []) cs) ∙ e))

@@ -1,9 +1,9 @@
 -- Lemmas: an operation with 0 is never cramped, and what an operation gives has parts of 127 bits.
 use Rattle.std.specs.Prelude.{ℤ, pos, ◌*ℤ◌, int_div, nat_abs, nat_lt, neg_ℤ, ◌&&◌}
 use Rattle.std.specs.Ordering.{int_eq}
-use Rattle.std.proofs.Common.{◌≡◌, ℕ, zero, suc, ◌*◌, ◌/◌, ◌^◌, ◌<◌, arith, refl, ap, ◌∙◌, subst, Bool, true, false, Some}
+use Rattle.std.proofs.Common.{◌≡◌, ℕ, zero, suc, ◌*◌, ◌/◌, ◌^◌, ◌<◌, arith, refl, ap, ◌∙◌, subst, true, Some}
 use Rattle.std.proofs.lemmas.Int.{unsigned_abs-mul}
-use Rattle.std.proofs.lemmas.Bool.{ltb-true}
+use Rattle.std.proofs.lemmas.Bool.{and_parts, ltb-true}
 use Rattle.std.proofs.lemmas.Bool.Decides.{Decides-int_eq}
 use Rattle.std.proofs.lemmas.Option.{cond_some}
 use Rattle.std.proofs.lemmas.Nat.Gcd.{dvd_refl}
@@ -20,11 +20,6 @@ use Rattle.fraction.specs.Lemmas.Order.{zero_from_num}
 use Rattle.fraction.specs.Lemmas.Bounds.{mul_is, add_is, is_small_from, add_fits_within, whole_parts}
 
 -- ---- 127 bits
-both : (a b : Bool) → (a && b) ≡ true → (a ≡ true) × (b ≡ true)
-both true true e = (refl, refl)
-both true false e = cc
-both false b e = cc
-
 frac_fits : (z : ℤ) (d : ℕ) → nat_abs z < 2 ^ 127 → d < 2 ^ 127 → FitsFraction (frac z d)
 unfolding frac
 frac_fits z zero h k = (omega arith, omega arith)
@@ -36,15 +31,15 @@ pub sum_has_fraction : (x y z : ℚ) → add_checked x y ≡ Some z → FitsFrac
 unfolding add_checked add_fits
 sum_has_fraction x y z e =
     let s = cond_some _ _ _ e in
-    let b = both _ _ s.0 in
-    let c = both _ _ b.0 in
+    let b = and_parts _ _ s.0 in
+    let c = and_parts _ _ b.0 in
     subst FitsFraction (+ℚ_over x y ∙ s.1) (frac_fits _ _ (ltb-true _ _ c.1) (ltb-true _ _ b.1))
 
 pub product_has_fraction : (x y p : ℚ) → mul_checked x y ≡ Some p → FitsFraction p
 unfolding mul_checked mul_fits
 product_has_fraction x y p e =
     let s = cond_some _ _ _ e in
-    let b = both _ _ s.0 in
+    let b = and_parts _ _ s.0 in
     subst FitsFraction (*ℚ_over x y ∙ s.1) (frac_fits _ _ (ltb-true _ _ b.0) (ltb-true _ _ b.1))
 
 pub zero_has_fraction : FitsFraction (whole (pos 0))

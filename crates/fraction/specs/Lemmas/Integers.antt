@@ -1,6 +1,6 @@
 -- Lemmas: integers, their products and their order.
-use Rattle.std.proofs.Common.{◌≡◌, ℕ, ◌+◌, ◌*◌, ◌≤◌, ◌<◌, arith, ap, sym, ◌∙◌, subst}
-use Rattle.std.specs.Prelude.{ℤ, pos, ◌+ℤ◌, ◌-ℤ◌, ◌*ℤ◌, neg_ℤ, ◌≤ℤ◌}
+use Rattle.std.proofs.Common.{◌≡◌, ℕ, ◌+◌, ◌*◌, ◌≤◌, ◌<◌, Bool, true, false, arith, refl, ap, sym, ◌∙◌, subst}
+use Rattle.std.specs.Prelude.{ℤ, pos, ◌+ℤ◌, ◌-ℤ◌, ◌*ℤ◌, neg_ℤ, ◌≤ℤ◌, int_lt}
 use Rattle.std.proofs.lemmas.Int.{ints}
 use Rattle.std.proofs.Math.Nat.{mul-le-mul_right, le_of_mul-le-mul_right}
 use borrow.Author.Differences.{up, down, product_is}
@@ -107,3 +107,13 @@ read_le a b d e h =
 
 pub write_le : (a b : ℤ) (d e : ℕ) → up a * e + down b * d ≤ up b * d + down a * e → (a *ℤ pos e) ≤ℤ (b *ℤ pos d)
 write_le a b d e h = rw (is_diff a, is_diff b) (simp (diff-pos, diff-mul) (diff-le _ _ _ _ (omega arith)))
+
+-- two tests that fail alike
+pub same_less : (a c p q : ℤ) → (c ≤ℤ a → q ≤ℤ p) → (q ≤ℤ p → c ≤ℤ a) → int_lt p q ≡ int_lt a c
+same_less a c p q f g = step (int_lt a c) (int_lt p q) refl refl
+  where
+    step : (s t : Bool) → int_lt a c ≡ s → int_lt p q ≡ t → int_lt p q ≡ int_lt a c
+    step true true m n = n ∙ sym m
+    step true false m n = absurd (let k = g (grind (arith, ints)) in grind (arith, ints, k))
+    step false true m n = absurd (let k = f (grind (arith, ints)) in grind (arith, ints, k))
+    step false false m n = n ∙ sym m

@@ -1,5 +1,5 @@
 -- Lemmas: the order of fractions: what is less, comparisons, floors and ceilings, products.
-use Rattle.std.proofs.Common.{ap, sym, ◌∙◌, subst, arith, inl, inr}
+use Rattle.std.proofs.Common.{ℕ, ◌<◌, ap, sym, ◌∙◌, subst, arith, inl, inr}
 use Rattle.std.specs.Prelude.{◌≡◌, ℤ, pos, ◌*ℤ◌, ◌≤ℤ◌, ◌<ℤ◌, neg_ℤ, Bool, true, false, cond, int_lt, eqb, ◌&&◌, ◌⊎◌, refl}
 use Rattle.std.proofs.lemmas.Int.{ints}
 use Rattle.std.specs.declared.cmp.Ordering.TheVariants.{Less, Equal, Greater}
@@ -8,9 +8,9 @@ use Rattle.std.specs.Ordering.{int_cmp, int_eq, is_eq, is_lt}
 use Rattle.std.specs.Cmp.{IsTotalOrder}
 use Rattle.std.specs.Bool.{Decides, one_answer}
 use Rattle.std.proofs.lemmas.Cmp.{int_cmp_total, tied_itself}
-use Rattle.fraction.specs.Lemmas.Integers.{neg-mul_ℤ}
+use Rattle.fraction.specs.Lemmas.Integers.{mul-le_ℤ, le-mul_ℤ, neg-mul_ℤ, same_less}
 use Rattle.fraction.specs.Rational.{ℚ, whole, frac, floor, ceil, floor_div, ◌≤ℚ◌, ◌+ℚ◌, ◌*ℚ◌, neg_ℚ}
-use Rattle.fraction.specs.Lemmas.Rational.{lit_one, floor_least, floor_below, ℚ_is, ℚ_same, frac_same, ℚ_equal, ≤ℚ_frac, frac-≤ℚ, ≤ℚ_refl, ≤ℚ_trans, +ℚ_assoc, +ℚ_comm, zero-+ℚ, zero-*ℚ, neg-+ℚ, +ℚ-≤ℚ, *ℚ-≤ℚ}
+use Rattle.fraction.specs.Lemmas.Rational.{lit_one, floor_least, floor_below, ℚ_is, ℚ_same, frac_is, frac_same, ℚ_equal, ≤ℚ_frac, frac-≤ℚ, ≤ℚ_refl, ≤ℚ_trans, +ℚ_assoc, +ℚ_comm, zero-+ℚ, zero-*ℚ, neg-+ℚ, +ℚ-≤ℚ, *ℚ-≤ℚ}
 use Rattle.fraction.specs.Lemmas.Ring.{+ℚ-mul}
 use Rattle.fraction.specs.Checked.{compare}
 use Rattle.fraction.specs.Order.{◌<ℚ◌}
@@ -192,3 +192,18 @@ pub *ℚ-≥ℚ : (m x y : ℚ) → m ≤ℚ whole (pos 0) → x ≤ℚ y → (m
 *ℚ-≥ℚ m x y h k =
     along _ _ _ _ (gone m x y) (ap (λ v. neg_ℚ m *ℚ y +ℚ v) (+ℚ_comm (m *ℚ x) (m *ℚ y)) ∙ gone m y x)
     (+ℚ-≤ℚ _ _ (m *ℚ x +ℚ m *ℚ y) (*ℚ-≤ℚ (neg_ℚ m) x y (nonneg-neg m h) k))
+
+-- ---- signs of numerators
+pub above_zero : (a : ℤ) (d : ℕ) → 0 < d → int_lt (pos 0) (frac a d).num ≡ int_lt (pos 0) a
+above_zero a d o = same_less (pos 0) a (pos 0) (frac a d).num
+    (at_most (frac a d).num a d (frac a d).den o (frac_is a d o)) (at_most a (frac a d).num (frac a d).den d (frac a d).lowest.0 (sym (frac_is a d o)))
+  where
+    at_most : (n a : ℤ) (d e : ℕ) → 0 < d → n *ℤ pos d ≡ a *ℤ pos e → a ≤ℤ pos 0 → n ≤ℤ pos 0
+    at_most n a d e o h l = le-mul_ℤ n (pos 0) d o (omega (arith, ints, h, mul-le_ℤ a (pos 0) e l))
+
+pub below_zero : (a : ℤ) (d : ℕ) → 0 < d → int_lt (frac a d).num (pos 0) ≡ int_lt a (pos 0)
+below_zero a d o = same_less a (pos 0) (frac a d).num (pos 0)
+    (at_least (frac a d).num a d (frac a d).den o (frac_is a d o)) (at_least a (frac a d).num (frac a d).den d (frac a d).lowest.0 (sym (frac_is a d o)))
+  where
+    at_least : (n a : ℤ) (d e : ℕ) → 0 < d → n *ℤ pos d ≡ a *ℤ pos e → pos 0 ≤ℤ a → pos 0 ≤ℤ n
+    at_least n a d e o h l = le-mul_ℤ (pos 0) n d o (omega (arith, ints, h, mul-le_ℤ (pos 0) a e l))

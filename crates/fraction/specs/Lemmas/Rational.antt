@@ -349,7 +349,13 @@ mul-inv_ℚ x h =
     ap (λ y. y *ℚ frac (signed_as x.num x.den) (nat_abs x.num)) (ℚ_is x) ∙ frac-*ℚ x.num (signed_as x.num x.den) x.den (nat_abs x.num) p h
     ∙ at_scaled (pos 1) _ 1 _ (x.den * nat_abs x.num) lit_one (mul-pos p h) (turned_over x.num x.den) (omega arith)
 
-abs-signed : (z : ℤ) (n : ℕ) → nat_abs (signed_as z n) ≡ n
+pub divided : (p a b : ℚ) → 0 < nat_abs p.num → a *ℚ p ≡ b *ℚ p → a ≡ b
+divided p a b h e = sym (back a) ∙ ap (λ z. z *ℚ inv_ℚ p) e ∙ back b
+  where
+    back : (z : ℚ) → (z *ℚ p) *ℚ inv_ℚ p ≡ z
+    back z = *ℚ_assoc z p (inv_ℚ p) ∙ ap (λ w. z *ℚ w) (mul-inv_ℚ p h) ∙ *ℚ_comm z _ ∙ one-*ℚ z
+
+pub abs-signed : (z : ℤ) (n : ℕ) → nat_abs (signed_as z n) ≡ n
 abs-signed (pos z) n = refl
 abs-signed (negsuc z) n = abs_neg n
 

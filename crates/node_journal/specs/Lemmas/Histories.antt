@@ -10,7 +10,7 @@ use Rattle.node_journal.specs.Appends.{IsWithOrWithout}
 use Rattle.node_journal.specs.History.{first_of, count_of, BeginsWith, IsPrefixOf, Agree, Keeps, EachFrom, SomeFrom, Anything, MayLeave, RemainsFrom, ExtendsMoments, IsHistory, KeepsHistory}
 use Rattle.node_journal.specs.Records.{Records, Intact, payloads_held, records}
 
-side : (i l : ℕ) → (i ≤ l) ⊎ (l < i)
+pub side : (i l : ℕ) → (i ≤ l) ⊎ (l < i)
 side i l = grind arith
 
 -- places in two lists
@@ -24,7 +24,7 @@ get_right [] ys i le = ap (λ (k : ℕ). slice_get ys k) (omega arith)
 get_right (x ∷ xs) ys zero le = absurd (omega (arith, le))
 get_right (x ∷ xs) ys (suc i) le = get_right xs ys i (omega (arith, le)) ∙ ap (λ (k : ℕ). slice_get ys k) (omega arith)
 
-get_seam : (xs : List Moment) (y : Moment) (ys : List Moment) → slice_get (xs ++ y ∷ ys) (length xs) ≡ Some y
+pub get_seam : (xs : List Moment) (y : Moment) (ys : List Moment) → slice_get (xs ++ y ∷ ys) (length xs) ≡ Some y
 get_seam [] y ys = refl
 get_seam (x ∷ xs) y ys = get_seam xs y ys
 

@@ -1,12 +1,12 @@
 -- Lemmas: points of a box.
-use Rattle.std.specs.Prelude.{◌≡◌, ℤ, ◌≤ℤ◌, int_le, Bool, true, false, List, [], ◌∷◌, length, refl}
+use Rattle.std.specs.Prelude.{◌≡◌, ℕ, zero, suc, ℤ, ◌≤ℤ◌, ◌<ℤ◌, int_le, Bool, true, false, List, [], ◌∷◌, length, Some, slice_get, refl}
 use Rattle.std.specs.Bool.{Decides}
-use Rattle.std.proofs.Common.{arith}
+use Rattle.std.proofs.Common.{subst, arith}
 use Rattle.std.proofs.lemmas.Int.{ints}
 use Rattle.std.proofs.lemmas.Bool.{false≢true}
 use Rattle.std.proofs.lemmas.Bool.Decides.{Decides-and}
 use Rattle.problem_box.specs.declared.span.Span.{Span}
-use Rattle.problem_box.specs.Boxes.{IsInBox, is_within, is_in_box}
+use Rattle.problem_box.specs.Boxes.{IsInBox, IsWithin, is_within, is_in_box}
 
 pub Decides-int_le : (a b : ℤ) → Decides (int_le a b) (a ≤ℤ b)
 Decides-int_le a b = step (int_le a b) refl
@@ -28,3 +28,14 @@ IsInBox-length [] [] h = refl
 IsInBox-length [] (x ∷ xs) h = absurd h
 IsInBox-length (s ∷ ss) [] h = absurd h
 IsInBox-length (s ∷ ss) (x ∷ xs) h = omega (arith, IsInBox-length ss xs h.1)
+
+-- no point is in a box with a span whose ends are crossed
+pub crossed-no_point : (ss : List Span) (j : ℕ) (s : Span) (x : List ℤ) → slice_get ss j ≡ Some s → s.hi <ℤ s.lo → IsInBox ss x → ⊥
+crossed-no_point [] j s [] e h b = cc
+crossed-no_point [] j s (x ∷ xs) e h b = absurd b
+crossed-no_point (t ∷ ss) j s [] e h b = absurd b
+crossed-no_point (t ∷ ss) zero s (x ∷ xs) e h b = let same : t ≡ s = cc in crossed s x h (subst (λ v. IsWithin v x) same b.0)
+  where
+    crossed : (s : Span) (x : ℤ) → s.hi <ℤ s.lo → IsWithin s x → ⊥
+    crossed s x h w = omega (arith, ints, w.0, w.1)
+crossed-no_point (t ∷ ss) (suc j) s (x ∷ xs) e h b = crossed-no_point ss j s xs e h b.1

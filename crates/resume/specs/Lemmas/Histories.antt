@@ -1,5 +1,5 @@
 -- Lemmas: a history goes on from an earlier moment.
-use Rattle.std.specs.Prelude.{◌≡◌, ◌⊎◌, ℕ, ◌≤◌, ◌<◌, List, [], ◌∷◌, ◌++◌, length, take, Option, None, Some, slice_get, refl}
+use Rattle.std.specs.Prelude.{◌≡◌, ℕ, ◌≤◌, ◌<◌, List, [], ◌∷◌, ◌++◌, length, take, Option, None, Some, slice_get, refl}
 use Rattle.std.proofs.Common.{arith, sym, ◌∙◌, ap, inl, inr, length-append, length-take}
 use Rattle.std.proofs.lemmas.List.{take-take, take_all}
 use Rattle.std.proofs.lemmas.Option.{slice_get_cases, slice_get_within}
@@ -7,14 +7,11 @@ use Rattle.outside.specs.Images.{IsImage}
 use Rattle.outside.specs.declared.moment.Moment.{Moment}
 use Rattle.node_journal.specs.History.{first_of, count_of, BeginsWith, IsPrefixOf, Agree, Keeps, RemainsFrom, ExtendsMoments, IsHistory, KeepsHistory}
 use Rattle.node_journal.specs.Records.{Records, Intact, Foreign, BrokenAt, records}
-
-side : (i l : ℕ) → (i ≤ l) ⊎ (l < i)
-side i l = grind arith
+use Rattle.node_journal.specs.Lemmas.Histories.{side, get_seam}
 
 -- the last moment
 pub last_moment : (past : List Moment) (now : Moment) → slice_get (past ++ now ∷ []) (length past) ≡ Some now
-last_moment [] now = refl
-last_moment (x ∷ past) now = last_moment past now
+last_moment past now = get_seam past now []
 
 fewer : (n : ℕ) (s : Records) → count_of (first_of n s) ≤ count_of s
 fewer n (Intact ps) = omega (arith, length-take n ps)

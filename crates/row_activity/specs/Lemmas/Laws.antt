@@ -1,5 +1,5 @@
 -- Each verdict tells of the points of the box what it means.
-use Rattle.std.specs.Prelude.{◌≡◌, ◌+◌, ℕ, zero, suc, ℤ, pos, ◌≤ℤ◌, ◌<ℤ◌, int_lt, Bool, true, false, not, cond, List, [], ◌∷◌, All, take, Option, Some, None, slice_get, refl}
+use Rattle.std.specs.Prelude.{◌≡◌, ◌+◌, ℕ, zero, suc, ℤ, pos, ◌≤ℤ◌, int_lt, Bool, true, false, not, cond, List, [], ◌∷◌, All, take, Option, Some, None, slice_get, refl}
 use Rattle.std.specs.Option.{ForSome, option_map_or}
 use Rattle.std.specs.List.{position_from, list_all}
 use Rattle.std.specs.Ordering.{is_lt, int_eq}
@@ -19,6 +19,7 @@ use Rattle.fraction.specs.Lemmas.Order.{less, equal, greater, less_at_most, not_
 use Rattle.fraction.specs.Checked.{compare}
 use Rattle.problem_box.specs.declared.span.Span.{Span}
 use Rattle.problem_box.specs.Boxes.{IsWithin, IsInBox}
+use Rattle.problem_box.specs.Lemmas.Boxes.{crossed-no_point}
 use Rattle.problem_box.specs.Changes.{IsFirstEmpty, IsFixed}
 use Rattle.problem.specs.declared.row.Sense.{Sense}
 use Rattle.problem.specs.declared.row.Sense.TheVariants.{G, L, E}
@@ -48,18 +49,8 @@ not_less_tells x y e = step (compare x y) refl e
     step Greater p q = less_at_most y x (greater x y (sym p))
 
 -- ---- empty boxes
-no_point : (ss : List Span) (j : ℕ) (s : Span) (x : List ℤ) → slice_get ss j ≡ Some s → s.hi <ℤ s.lo → IsInBox ss x → ⊥
-no_point [] j s [] e h b = cc
-no_point [] j s (x ∷ xs) e h b = absurd b
-no_point (t ∷ ss) j s [] e h b = absurd b
-no_point (t ∷ ss) zero s (x ∷ xs) e h b = let same : t ≡ s = cc in crossed s x h (subst (λ v. IsWithin v x) same b.0)
-  where
-    crossed : (s : Span) (x : ℤ) → s.hi <ℤ s.lo → IsWithin s x → ⊥
-    crossed s x h w = omega (arith, ints, w.0, w.1)
-no_point (t ∷ ss) (suc j) s (x ∷ xs) e h b = no_point ss j s xs e h b.1
-
 pub HasNoPoint-empty : (ss : List Span) (j : ℕ) → IsFirstEmpty ss j → HasNoPoint ss
-HasNoPoint-empty ss j h x b = no_point ss j h.span x h.there h.empty b
+HasNoPoint-empty ss j h x b = crossed-no_point ss j h.span x h.there h.empty b
 
 -- what the first empty column is, from the list's start at column n
 abbrev FirstFrom : ℕ → List Span → Option ℕ → Type 0

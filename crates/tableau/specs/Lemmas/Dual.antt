@@ -6,7 +6,7 @@ use Rattle.std.proofs.lemmas.List.{get_or-set_same, get_or-set_other}
 use Rattle.fraction.specs.Checked.{abs_ℚ, div_checked}
 use Rattle.fraction.specs.Lemmas.Bounds.{value_from_mul}
 use Rattle.fraction.specs.Lemmas.Order.{along, either_order, less_at_most}
-use Rattle.fraction.specs.Lemmas.Rational.{*ℚ-≤ℚ, *ℚ_assoc, *ℚ_comm, +ℚ-≤ℚ, +ℚ_assoc, +ℚ_comm, mul-inv_ℚ, one-*ℚ, zero-*ℚ, zero-+ℚ, ≤ℚ_antisymm, ≤ℚ_refl, ≤ℚ_trans}
+use Rattle.fraction.specs.Lemmas.Rational.{*ℚ-≤ℚ, *ℚ_assoc, *ℚ_comm, +ℚ-≤ℚ, +ℚ_assoc, +ℚ_comm, mul-inv_ℚ, one-*ℚ, zero-*ℚ, zero-+ℚ, ≤ℚ_antisymm, ≤ℚ_refl, ≤ℚ_trans, divided}
 use Rattle.fraction.specs.Lemmas.Ring.{*ℚ-zero, +ℚ-zero, ring_ℚ}
 use Rattle.fraction.specs.Rational.{inv_ℚ, ℚ, ◌*ℚ◌, ◌+ℚ◌, ◌≤ℚ◌}
 use Rattle.tableau.specs.Elimination.{entry, zero_ℚ}
@@ -17,7 +17,7 @@ use Rattle.tableau.specs.Lemmas.PivotKeeps.{IsExchange, apart, length-solved_for
 use Rattle.tableau.specs.Lemmas.Pivoted.{IsPivoted}
 use Rattle.tableau.specs.Lemmas.Places.{basic_or, eligible_nonbasic, eligible_nonzero}
 use Rattle.tableau.specs.Lemmas.RatioTest.{IsCandidate, IsNotLess}
-use Rattle.tableau.specs.Lemmas.RowAlgebra.{cancelled, divided, less_one, minus_one}
+use Rattle.tableau.specs.Lemmas.RowAlgebra.{cancelled, less_one, minus_one}
 use Rattle.tableau.specs.Lemmas.Signs.{IsSign, abs_is, course, course_sign, eligible_above, minus_gone, minus_twice, nonzero_num, not_eligible, num_nonzero, one_ℚ, plain_nonneg, right_sign, right_sign_from, side, side_sign, sign_back, sign_twice, turned_ge}
 use Rattle.tableau.specs.Pivot.{status_after}
 use Rattle.tableau.specs.Tableau.{HasSize, Tableau, bounds_of, reduced_cost_of, row_of, status_of}

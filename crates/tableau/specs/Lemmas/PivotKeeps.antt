@@ -5,7 +5,7 @@ use Rattle.std.specs.Option.{option_map, unwrap_or}
 use Rattle.std.proofs.lemmas.Bool.{cases_eq}
 use Rattle.std.proofs.lemmas.List.{length-set, get_or-set_same, get_or-set_other}
 use Rattle.fraction.specs.Lemmas.Bounds.{dot_value, was_some}
-use Rattle.fraction.specs.Lemmas.Rational.{zero-*ℚ, zero-+ℚ}
+use Rattle.fraction.specs.Lemmas.Rational.{zero-*ℚ, zero-+ℚ, divided}
 use Rattle.fraction.specs.Lemmas.Ring.{*ℚ-zero, +ℚ-zero}
 use Rattle.fraction.specs.Rational.{ℚ, ◌*ℚ◌, ◌+ℚ◌}
 use Rattle.tableau.specs.Elimination.{add_multiple, add_multiple_of_row, entry, negative_quotient, negative_quotients, solved_for, substituted, zero_ℚ}
@@ -13,7 +13,7 @@ use Rattle.tableau.specs.Invariants.{AreAtBounds, HasSameObjective, HasSameSolut
 use Rattle.tableau.specs.Leaving.{is_above, is_below, unbounded, violated_bound, violation}
 use Rattle.tableau.specs.Lemmas.Pivoted.{IsPivoted, length-substituted}
 use Rattle.tableau.specs.Lemmas.Places.{not_both_statuses}
-use Rattle.tableau.specs.Lemmas.RowAlgebra.{add_multiple_is, divided, length-negative_quotients, minus_one, negative_quotient_is, row_says, solved_for_parts, solved_for_says, some_map, substituted_keeps}
+use Rattle.tableau.specs.Lemmas.RowAlgebra.{add_multiple_is, length-negative_quotients, minus_one, negative_quotient_is, row_says, solved_for_parts, solved_for_says, some_map, substituted_keeps}
 use Rattle.tableau.specs.LinearProgram.{LinearProgram}
 use Rattle.tableau.specs.Pivot.{status_after}
 use Rattle.tableau.specs.Tableau.{Tableau, bounds_of, nonbasic_value_of, row_of, status_of, value_of}

@@ -1,9 +1,10 @@
--- Lemmas: linear programs with one row more, and the numbers of their rows.
-use Rattle.std.proofs.Common.{◌≡◌, ℕ, zero, suc, ◌+◌, ◌*◌, ◌≤◌, arith, refl, ap, sym, ◌∙◌, Bool, true, false, List, [], ◌∷◌, ◌++◌, length, map, drop, append_assoc}
-use Rattle.std.specs.Prelude.{ℤ, pos, if◌then◌else◌}
+-- Lemmas: lists with one element more, linear programs with one row more, and the numbers of their rows.
+use Rattle.std.proofs.Common.{◌≡◌, ℕ, zero, suc, ◌+◌, ◌*◌, ◌≤◌, arith, refl, ap, sym, ◌∙◌, Bool, true, false, List, [], ◌∷◌, ◌++◌, length, map, take, drop, Some, append_assoc}
+use Rattle.std.specs.Prelude.{ℤ, pos, slice_get, if◌then◌else◌}
 use Rattle.std.specs.Ordering.{int_eq}
 use Rattle.std.proofs.lemmas.Bool.Decides.{Decides-int_eq}
-use Rattle.std.proofs.lemmas.List.{map-append, length-append, length-map}
+use Rattle.std.proofs.lemmas.List.{take_more, map-append, length-append, length-map}
+use Rattle.std.proofs.lemmas.Option.{slice_get_within, get_or_from_slice_get}
 use Rattle.std.proofs.Math.Seq.{drop-append_seam}
 use Rattle.std.proofs.lemmas.List.Elements.{All-nil, All-cons}
 use Rattle.fraction.specs.Rational.{ℚ, whole}
@@ -17,6 +18,14 @@ use Rattle.problem.specs.Problem.{Problem}
 use Rattle.tableau.specs.Lemmas.Started.{length-coefficients}
 use Rattle.tableau.specs.LinearProgram.{coefficients_from, span_bounds, row_bounds, program_of, numbers_from, row_numbers, relaxation, over, with_row, with_cut}
 use Rattle.tableau.specs.Multipliers.{numbered}
+
+-- ---- one element more
+pub next_taken : {A : Type 0} (xs : List A) (i : ℕ) (x : A) → slice_get xs i ≡ Some x → take (i + 1) xs ≡ take i xs ++ (x ∷ [])
+next_taken xs i x e =
+    take_more xs i x (slice_get_within xs i x e) ∙ ap (λ y. take i xs ++ (y ∷ [])) (get_or_from_slice_get xs i x x e)
+
+pub next_mapped : {A B : Type 0} (f : A → B) (xs : List A) (i : ℕ) (x : A) → slice_get xs i ≡ Some x → map f (take (i + 1) xs) ≡ map f (take i xs) ++ (f x ∷ [])
+next_mapped f xs i x e = ap (map f) (next_taken xs i x e) ∙ map-append f (take i xs) (x ∷ [])
 
 -- ---- over another box
 pub program-over : (objective : Terms) (rows : Rows) (numbers : List ℕ) (spans area : List Span) → length area ≡ length spans

@@ -7,7 +7,7 @@ use Rattle.std.proofs.lemmas.List.{length-set, get_or-set_other}
 use Rattle.std.specs.Ordering.{int_eq}
 use Rattle.fraction.specs.Checked.{add_checked, mul_checked}
 use Rattle.fraction.specs.Lemmas.Bounds.{dot_value, value_from_add, value_from_mul, was_some}
-use Rattle.fraction.specs.Lemmas.Rational.{*ℚ_assoc, *ℚ_comm, +ℚ_assoc, +ℚ_comm, lit_one, mul-inv_ℚ, neg-+ℚ, neg_ℚ-frac, one-*ℚ, zero-*ℚ, zero-+ℚ}
+use Rattle.fraction.specs.Lemmas.Rational.{*ℚ_assoc, *ℚ_comm, +ℚ_assoc, +ℚ_comm, lit_one, mul-inv_ℚ, neg-+ℚ, neg_ℚ-frac, one-*ℚ, zero-*ℚ, zero-+ℚ, divided}
 use Rattle.fraction.specs.Lemmas.Ring.{+ℚ-mul, ring_ℚ, +ℚ-zero, *ℚ-zero}
 use Rattle.fraction.specs.Rational.{inv_ℚ, neg_ℚ, whole, ℚ, ◌*ℚ◌, ◌+ℚ◌}
 use Rattle.tableau.specs.Elimination.{add_multiple, add_multiple_of_row, negative_quotient, negative_quotients, solved_for, substituted, zero_ℚ}
@@ -19,12 +19,6 @@ minus_one = whole (negsuc 0)
 -- ---- algebra
 pub cancelled : (a b d : ℚ) → a +ℚ d ≡ zero_ℚ → d +ℚ b ≡ zero_ℚ → a ≡ b
 cancelled a b d e f = sym (+ℚ-zero a) ∙ ap (λ z. a +ℚ z) (sym f) ∙ sym (+ℚ_assoc a d b) ∙ ap (λ z. z +ℚ b) e ∙ zero-+ℚ b
-
-pub divided : (p a b : ℚ) → 0 < nat_abs p.num → a *ℚ p ≡ b *ℚ p → a ≡ b
-divided p a b h e = sym (back a) ∙ ap (λ z. z *ℚ inv_ℚ p) e ∙ back b
-  where
-    back : (z : ℚ) → (z *ℚ p) *ℚ inv_ℚ p ≡ z
-    back z = *ℚ_assoc z p (inv_ℚ p) ∙ ap (λ w. z *ℚ w) (mul-inv_ℚ p h) ∙ *ℚ_comm z _ ∙ one-*ℚ z
 
 -- ---- operations that aren't cramped are exact
 pub some_map : {A B : Type 0} (f : A → B) (o : Option A) (t : B) → option_map f o ≡ Some t → (v : A) × (o ≡ Some v) × (f v ≡ t)

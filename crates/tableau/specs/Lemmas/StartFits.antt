@@ -5,7 +5,7 @@ use Rattle.std.specs.Option.{option_and_then, option_map}
 use Rattle.std.proofs.Math.Nat.{one-dvd}
 use Rattle.std.proofs.lemmas.Int.{ints}
 use Rattle.std.proofs.lemmas.Bool.{eqb-true, cases_lt}
-use Rattle.std.proofs.lemmas.List.{length-map, length-append, length-replicate, get_or-map}
+use Rattle.std.proofs.lemmas.List.{length-map, length-append, length-replicate, get_or-map, get_or-append_right}
 use Rattle.std.proofs.lemmas.List.Elements.{All-nil, All-cons, All-head, All-tail, All-append, All-replicate, All-weaker, All-get_or}
 use Rattle.fraction.specs.Bounds.{Within}
 use Rattle.fraction.specs.Checked.{add_checked, dot_checked, dot_from}
@@ -25,7 +25,7 @@ use Rattle.problem.specs.Limits.{most_columns, most_rows, most_cuts, largest_bou
 use Rattle.problem_box.specs.declared.span.Span.{Span}
 use Rattle.tableau.specs.Elimination.{zero_ℚ}
 use Rattle.tableau.specs.Invariants.{IsNonbasic}
-use Rattle.tableau.specs.Lemmas.Started.{basics_read, left_read, length-coefficients, no_row, right_read, start_nonbasic}
+use Rattle.tableau.specs.Lemmas.Started.{basics_read, left_read, length-coefficients, no_row, start_nonbasic}
 use Rattle.tableau.specs.LinearProgram.{LinearProgram, coefficients_from, program_of, relaxation, row_bounds, row_numbers, span_bounds}
 use Rattle.tableau.specs.WellFormed.{IsCutRow}
 use Rattle.tableau.specs.Pivot.{computed_value, computed_values}
@@ -175,9 +175,9 @@ module _ (objective : Terms) (rows : Rows) (numbers : List ℕ) (spans : List Sp
     | inr k ↦
         let q : i - length program.costs < length rows = omega (arith, l, k, row_count, length-append (map start_status program.costs) (replicate (length program.rows) Basic), length-map program.costs start_status, length-replicate (length program.rows) Basic) in
         let m : i - length program.costs < length program.rows = omega (arith, q, row_count) in
-        let b : get_or (slack_basis program).statuses i Basic ≡ Basic = right_read (map start_status program.costs) (replicate (length program.rows) Basic) (length program.costs) i Basic (length-map program.costs start_status) k ∙ basics_read (length program.rows) (i - length program.costs) in
+        let b : get_or (slack_basis program).statuses i Basic ≡ Basic = get_or-append_right (map start_status program.costs) (replicate (length program.rows) Basic) (length program.costs) i Basic (length-map program.costs start_status) k ∙ basics_read (length program.rows) (i - length program.costs) in
         let e : get_or (slack_basis program).rows i [] ≡ padded (length program.rows) (dense (get_or rows (i - length program.costs) no_row)) =
-        right_read (replicate (length program.costs) []) (map (padded (length program.rows)) program.rows) (length program.costs) i [] (length-replicate (length program.costs) []) k
+        get_or-append_right (replicate (length program.costs) []) (map (padded (length program.rows)) program.rows) (length program.costs) i [] (length-replicate (length program.costs) []) k
         ∙ get_or-map (padded (length program.rows)) program.rows (i - length program.costs) [] [] m ∙ ap (padded (length program.rows)) (get_or-map dense rows (i - length program.costs) no_row [] q) in
         subst (λ s. IsThere (computed_value (slack_basis program).nonbasic_values s (get_or (slack_basis program).nonbasic_values i zero_ℚ) (get_or (slack_basis program).rows i []))) (sym b)
         (subst (λ row. IsThere (dot_checked row (slack_basis program).nonbasic_values)) (sym e)

@@ -32,9 +32,6 @@ use Rattle.tableau.specs.declared.status.BasisStatus.TheVariants.{AtLower, AtUpp
 pub left_read : {A : Type 0} (xs ys : List A) (n i : ℕ) (d : A) → length xs ≡ n → i < n → get_or (xs ++ ys) i d ≡ get_or xs i d
 left_read xs ys n i d e l = get_or_append_left xs ys d i (omega arith)
 
-pub right_read : {A : Type 0} (xs ys : List A) (n i : ℕ) (d : A) → length xs ≡ n → n ≤ i → get_or (xs ++ ys) i d ≡ get_or ys (i - n) d
-right_read xs ys n i d e l = get_or-append_right xs ys n i d e l
-
 length_both : {A : Type 0} (xs ys : List A) (n m : ℕ) → length xs ≡ n → length ys ≡ m → length (xs ++ ys) ≡ n + m
 length_both xs ys n m e f = let k = length-append xs ys in omega arith
 
@@ -135,11 +132,11 @@ started_is p t h e =
         let rows : length (slack_basis p).rows ≡ variables p = length_both (replicate (length p.costs) []) (map (padded (length p.rows)) p.rows) _ _ le (length-map p.rows (padded (length p.rows))) in
         record {
           column_status = λ i l. left_read (map start_status p.costs) (replicate (length p.rows) Basic) n i Basic ls l ∙ get_or-map start_status p.costs i zero_ℚ Basic l;
-          row_status = λ i l. right_read (map start_status p.costs) (replicate (length p.rows) Basic) n i Basic ls l ∙ basics_read (length p.rows) (i - n);
+          row_status = λ i l. get_or-append_right (map start_status p.costs) (replicate (length p.rows) Basic) n i Basic ls l ∙ basics_read (length p.rows) (i - n);
           column_value = λ i l. left_read (start_values p.costs p.bounds) (replicate (length p.rows) zero_ℚ) n i zero_ℚ lr l ∙ start_value_at p.costs p.bounds i few l;
-          row_value = λ i l. right_read (start_values p.costs p.bounds) (replicate (length p.rows) zero_ℚ) n i zero_ℚ lr l ∙ zeros_read (length p.rows) (i - n);
+          row_value = λ i l. get_or-append_right (start_values p.costs p.bounds) (replicate (length p.rows) zero_ℚ) n i zero_ℚ lr l ∙ zeros_read (length p.rows) (i - n);
           column_row = λ i l. left_read (replicate (length p.costs) []) (map (padded (length p.rows)) p.rows) n i [] le l ∙ empties_read (length p.costs) i;
-          row_row = λ i l k. right_read (replicate (length p.costs) []) (map (padded (length p.rows)) p.rows) n i [] le l ∙ get_or-map (padded (length p.rows)) p.rows (i - n) [] [] (omega arith);
+          row_row = λ i l k. get_or-append_right (replicate (length p.costs) []) (map (padded (length p.rows)) p.rows) n i [] le l ∙ get_or-map (padded (length p.rows)) p.rows (i - n) [] [] (omega arith);
           size = record {
             bounds = h.bounds;
             statuses = statuses;
@@ -165,7 +162,7 @@ basic_row p t h i b = elim (cases_lt i (length p.costs)) [
 padded_clear : (p : LinearProgram) (t : Tableau) → IsSlackBasis p t → (row : List ℚ) → length row ≡ length p.costs → IsCanonicalRow (variables p) t (padded (length p.rows) row)
 padded_clear p t h row l = record {
   full = length_both row (replicate (length p.rows) zero_ℚ) _ _ l (length-replicate (length p.rows) zero_ℚ);
-  clear = λ j k b. right_read row (replicate (length p.rows) zero_ℚ) (length p.costs) j zero_ℚ l (basic_row p t h j b) ∙ zeros_read (length p.rows) (j - length p.costs);
+  clear = λ j k b. get_or-append_right row (replicate (length p.rows) zero_ℚ) (length p.costs) j zero_ℚ l (basic_row p t h j b) ∙ zeros_read (length p.rows) (j - length p.costs);
 }
 
 pub slack_basis_is_tableau : (p : LinearProgram) (t : Tableau) → IsWellFormed p → IsSlackBasis p t → IsTableauOf (variables p) p t

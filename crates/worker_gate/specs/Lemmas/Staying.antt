@@ -1,7 +1,6 @@
 -- Lemmas: what a worker has to know before it asks, while others make entries.
-use Rattle.std.specs.Prelude.{◌≡◌, ◌<◌, ◌≤◌, ℕ, true, false, List, [], ◌∷◌, ◌++◌, length, Contains, refl}
+use Rattle.std.specs.Prelude.{◌≡◌, ◌<◌, ◌≤◌, ℕ, true, false, List, [], ◌∷◌, ◌++◌, length, Contains}
 use Rattle.std.proofs.Common.{sym, subst, arith}
-use Rattle.std.proofs.lemmas.List.Elements.{Contains-append_right}
 use Rattle.event_core.specs.declared.entry.Entry.{Entry}
 use Rattle.event_core.specs.States.{State}
 use Rattle.event_core.specs.Holds.{is_holding, holds_node}
@@ -13,6 +12,7 @@ use Rattle.event_core.specs.Lemmas.Running.{legal_prefix, legal_back}
 use Rattle.event_core.specs.Lemmas.Ended.{left_within, leaves-length}
 use Rattle.event_core.specs.Lemmas.Sounding.{IsKept, kept_after, kept_from, kept_sound, legal_kept}
 use Rattle.turn_lock.specs.Lists.{NoneOf}
+use Rattle.turn_lock.specs.Lemmas.Names.{head_in, tail_in}
 use Rattle.expand.specs.declared.finding.Finding.{Finding}
 use Rattle.worker_gate.specs.declared.entry.PoolEntry.{PoolEntry}
 use Rattle.worker_gate.specs.declared.entry.PoolEntry.TheVariants.{Opened, Happened, Halted}
@@ -28,12 +28,6 @@ use Rattle.event_core.specs.Lemmas.Frames.{cut_count_from}
 abbrev pub AreOthers : ℕ → List Entry → Type 0
 AreOthers w [] = Unit {0}
 AreOthers w (e ∷ es) = IsOther w e.worker × AreOthers w es
-
-pub head_in : {X : Type 0} (x : X) (xs : List X) → Contains (x ∷ xs) x
-head_in x xs = (0, omega arith, refl)
-
-pub tail_in : {X : Type 0} (x : X) (xs : List X) (y : X) → Contains xs y → Contains (x ∷ xs) y
-tail_in x xs y c = Contains-append_right (x ∷ []) xs y c
 
 none_behind : (w : ℕ) (x : PoolEntry) (xs : List PoolEntry) → NoneOf name_of (w ∷ []) (x ∷ xs) → NoneOf name_of (w ∷ []) xs
 none_behind w x xs h y n c = h y n (tail_in x xs y c)

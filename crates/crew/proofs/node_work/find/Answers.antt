@@ -1,5 +1,5 @@
 use Rattle.std.proofs.Common.{◌≤◌, length, sym, subst}
-use Rattle.crew.proofs.Viewing.{sound_in}
+use Rattle.worker_gate.specs.Lemmas.Staying.{sound_in}
 use Rattle.crew.proofs.node_work.find.Goals as goal
 use Rattle.problem.specs.Limits.{most_cuts}
 

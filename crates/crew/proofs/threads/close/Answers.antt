@@ -1,7 +1,7 @@
 use Rattle.std.proofs.Common.{◌∙◌, ap, sym, length, subst}
 use Rattle.worker_gate.specs.Conditions.{HoldsNone}
 use Rattle.crew.specs.Lists.{IsOver}
-use Rattle.crew.proofs.Names.{length_below}
+use Rattle.turn_lock.specs.Lemmas.Names.{length_below}
 use Rattle.crew.proofs.threads.close.Goals as goal
 
 pub close-kin-requires-clause-whole : goal.close-kin-requires-clause-whole

@@ -4,7 +4,7 @@ use Rattle.std.specs.List.{list_any}
 use Rattle.event_core.specs.declared.entry.Holder.{Holder}
 use Rattle.worker_gate.specs.Conditions.{HoldsNone}
 use Rattle.turn_lock.specs.Passes.{seen_by}
-use Rattle.crew.proofs.Names.{length_below}
+use Rattle.turn_lock.specs.Lemmas.Names.{length_below}
 use Rattle.crew.proofs.threads.close_unworked.Goals as goal
 
 pub close-kin-requires-clause-whole : goal.close-kin-requires-clause-whole

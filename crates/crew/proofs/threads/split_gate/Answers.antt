@@ -1,6 +1,7 @@
 use Rattle.std.proofs.Common.{◌+◌, ◌∷◌, [], length, ap, ◌∙◌, arith}
 use Rattle.turn_lock.specs.Names.{names_below, greatest, without_first}
-use Rattle.crew.proofs.Names.{length_below, greatest_more, without_more}
+use Rattle.turn_lock.specs.Lemmas.Names.{length_below}
+use Rattle.crew.proofs.Names.{greatest_more, without_more}
 use Rattle.crew.proofs.threads.split_gate.Goals as goal
 
 pub split-one-requires-clause-several : goal.split-one-requires-clause-several

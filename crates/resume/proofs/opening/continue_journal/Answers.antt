@@ -1,5 +1,6 @@
 use Rattle.std.specs.List.{AllByRecursion}
 use Rattle.std.proofs.Common.{sym, subst, refl, ◌≡◌, ◌∙◌, false, length, List, ℕ, None}
+use Rattle.std.proofs.lemmas.Result.{IfErr-weaker}
 use Rattle.outside.specs.Images.{AtRest}
 use Rattle.event_core.specs.declared.entry.Entry.{Entry}
 use Rattle.node_journal.specs.History.{KeepsHistory}
@@ -10,7 +11,7 @@ use Rattle.node_pool.specs.Stored.{IsStored}
 use Rattle.resume.specs.Crashes.{LeavesHistory}
 use Rattle.resume.specs.Refusals.{is_disk}
 use Rattle.resume.proofs.KeptHistories.{unchanged, leaves, leaves_failed, rests_at}
-use Rattle.resume.proofs.Recovering.{all_journaled, counted, is_journal, if_err, ok_part}
+use Rattle.resume.proofs.Recovering.{all_journaled, counted, is_journal, ok_part}
 use Rattle.resume.proofs.opening.continue_journal.Goals as goal
 
 pub make_pool-requires-clause-counted : goal.make_pool-requires-clause-counted
@@ -36,14 +37,14 @@ pub returns-in-Ok-clause-history_err : goal.returns-in-Ok-clause-history_err
 returns-in-Ok-clause-history_err g c told rests ps holds =
     let past = g.D.Disk.past in
     let now = g.D.Disk.now in
-    if_err c.make_pool.result (λ e. e.1 ≡ c.in-Ok.journal.disk) (λ e. LeavesHistory (length (past c.args.disk)) (past e.1) (now e.1) (is_disk e.0)) c.make_pool.ensures.back
+    IfErr-weaker c.make_pool.result (λ e. e.1 ≡ c.in-Ok.journal.disk) (λ e. LeavesHistory (length (past c.args.disk)) (past e.1) (now e.1) (is_disk e.0))
     (λ e same. subst (λ d. LeavesHistory (length (past c.args.disk)) (past d) (now d) (is_disk e.0)) (sym same)
-    (leaves _ _ _ _ _ refl (unchanged _ _ _ _ (payloads_of c.args.scanned) _ (c.in-Ok.ensures.read told) (c.in-Ok.ensures.holds told) (c.in-Ok.ensures.any_moment told rests) (c.in-Ok.ensures.offers told) (g.met.D.Disk.seen_is_image c.in-Ok.journal.disk told))))
+    (leaves _ _ _ _ _ refl (unchanged _ _ _ _ (payloads_of c.args.scanned) _ (c.in-Ok.ensures.read told) (c.in-Ok.ensures.holds told) (c.in-Ok.ensures.any_moment told rests) (c.in-Ok.ensures.offers told) (g.met.D.Disk.seen_is_image c.in-Ok.journal.disk told)))) c.make_pool.ensures.back
 
 pub returns-in-Ok-clause-rests_err : goal.returns-in-Ok-clause-rests_err
 returns-in-Ok-clause-rests_err g c told rests =
-    if_err c.make_pool.result (λ e. e.1 ≡ c.in-Ok.journal.disk) (λ e. is_disk e.0 ≡ false → AtRest (g.D.Disk.now e.1)) c.make_pool.ensures.back
-    (λ e same other. subst (λ d. AtRest (g.D.Disk.now d)) (sym same) (rests_at _ _ (c.in-Ok.ensures.rests told)))
+    IfErr-weaker c.make_pool.result (λ e. e.1 ≡ c.in-Ok.journal.disk) (λ e. is_disk e.0 ≡ false → AtRest (g.D.Disk.now e.1))
+    (λ e same other. subst (λ d. AtRest (g.D.Disk.now d)) (sym same) (rests_at _ _ (c.in-Ok.ensures.rests told))) c.make_pool.ensures.back
 
 pub returns-in-Err-clause-history_err : goal.returns-in-Err-clause-history_err
 returns-in-Err-clause-history_err g c told rests ps holds = leaves_failed _ _ _ (unchanged _ _ _ _ ps ps holds refl (c.in-Err.ensures.any_moment_err told rests) (c.in-Err.ensures.offers_err told) (g.met.D.Disk.seen_is_image c.in-Err.disk told)).history

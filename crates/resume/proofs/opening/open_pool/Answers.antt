@@ -1,5 +1,7 @@
 use Rattle.std.specs.Prelude.{◌⊎◌}
 use Rattle.std.proofs.Common.{sym, subst, refl, inl, inr, ap, ◌∙◌, ◌≡◌, ◌<◌, ◌^◌, List, [], ◌∷◌, ℕ, length}
+use Rattle.std.proofs.lemmas.List.{nil_from_length}
+use Rattle.std.proofs.lemmas.Result.{IfOk-weaker, IfErr-weaker}
 use Rattle.problem.specs.Problem.{Problem}
 use Rattle.outside.specs.Images.{LeavesOnly, NoMomentPasses}
 use Rattle.event_codec.specs.Models.{model_code}
@@ -13,7 +15,7 @@ use Rattle.resume.specs.Journals.{StandsFor, IsFreshOrOf, IsReadFrom}
 use Rattle.resume.specs.Crashes.{IsAsBefore, IsAsBeforeOrBegun}
 use Rattle.resume.proofs.Models.{own_model, small_model}
 use Rattle.resume.proofs.KeptHistories.{untouched_history}
-use Rattle.resume.proofs.Recovering.{untouched, behind_scan, still_rests, stands_alone, if_both, if_then, if_err, if_err_all, none_held}
+use Rattle.resume.proofs.Recovering.{untouched, behind_scan, still_rests, stands_alone, if_both, if_err_all}
 use Rattle.resume.proofs.opening.open_pool.Goals as goal
 
 pub returns-in-Err-clause-any_moment_err : goal.returns-in-Err-clause-any_moment_err
@@ -53,21 +55,21 @@ pub returns-in-Ok-read_search_of-clause-any_moment : goal.returns-in-Ok-read_sea
 returns-in-Ok-read_search_of-clause-any_moment g c told rests =
     let past = g.D.Disk.past in
     let now = g.D.Disk.now in
-    if_then c.continue_journal.result
+    IfOk-weaker c.continue_journal.result
     (λ p. LeavesOnly (past c.scan.new.disk) (now c.scan.new.disk) (past p.journal.disk) (now p.journal.disk) (IsAsBefore (records (now c.scan.new.disk).seen)))
     (λ p. LeavesOnly (past c.args.disk) (now c.args.disk) (past p.journal.disk) (now p.journal.disk) (IsAsBeforeOrBegun (records (now c.args.disk).seen) (model_code c.args.text.now c.args.upper)))
-    (c.continue_journal.ensures.any_moment told (still_rests _ _ _ _ c.scan.ensures.stands rests))
     (λ p run. behind_scan _ _ _ _ _ _ _ c.scan.ensures.stands run)
+    (c.continue_journal.ensures.any_moment told (still_rests _ _ _ _ c.scan.ensures.stands rests))
 
 pub returns-in-Ok-read_search_of-clause-any_moment_err : goal.returns-in-Ok-read_search_of-clause-any_moment_err
 returns-in-Ok-read_search_of-clause-any_moment_err g c told rests =
     let past = g.D.Disk.past in
     let now = g.D.Disk.now in
-    if_err c.continue_journal.result
+    IfErr-weaker c.continue_journal.result
     (λ e. LeavesOnly (past c.scan.new.disk) (now c.scan.new.disk) (past e.1) (now e.1) (IsAsBefore (records (now c.scan.new.disk).seen)))
     (λ e. LeavesOnly (past c.args.disk) (now c.args.disk) (past e.1) (now e.1) (IsAsBeforeOrBegun (records (now c.args.disk).seen) (model_code c.args.text.now c.args.upper)))
-    (c.continue_journal.ensures.any_moment_err told (still_rests _ _ _ _ c.scan.ensures.stands rests))
     (λ e run. behind_scan _ _ _ _ _ _ _ c.scan.ensures.stands run)
+    (c.continue_journal.ensures.any_moment_err told (still_rests _ _ _ _ c.scan.ensures.stands rests))
 
 pub returns-in-Err-clause-history_err : goal.returns-in-Err-clause-history_err
 returns-in-Err-clause-history_err g c told rests ps holds = untouched_history _ _ _ _ ps _ rests holds c.scan.ensures.stands
@@ -103,7 +105,7 @@ returns-then-count-eq0-clause-spared g c told =
     let past = g.D.Disk.past in
     let now = g.D.Disk.now in
     if_err_all c.begin_search.result (λ e. NoMomentPasses (past c.args.disk) (now c.args.disk) (past e.1) (now e.1) ⊎ IsFreshOrOf (model_code c.args.text.now c.args.upper) c.args.problem (now c.args.disk).seen)
-    (λ e. inr (inl (c.in-Ok.ensures.records told ∙ ap Intact (none_held (payloads_of c.in-Ok.scanned) (sym c.count.ensures ∙ c.if-count-eq0.true)))))
+    (λ e. inr (inl (c.in-Ok.ensures.records told ∙ ap Intact (nil_from_length (payloads_of c.in-Ok.scanned) (sym c.count.ensures ∙ c.if-count-eq0.true)))))
 
 pub returns-in-Ok-read_search_of-clause-spared : goal.returns-in-Ok-read_search_of-clause-spared
 returns-in-Ok-read_search_of-clause-spared g c told =

@@ -1,6 +1,6 @@
 use Rattle.std.proofs.Common.{sym, ◌∙◌, ◌++◌, ◌∷◌, []}
 use Rattle.tableau.specs.LinearProgram.{span_bounds}
-use Rattle.tableau.proofs.Programming.{next_mapped}
+use Rattle.tableau.specs.Lemmas.Programs.{next_mapped}
 use Rattle.tableau.proofs.program.column_bounds.Goals as goal
 
 pub loop-column-preserved : goal.loop-column-preserved

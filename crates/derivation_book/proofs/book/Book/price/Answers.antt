@@ -1,10 +1,11 @@
 use Rattle.std.proofs.Common.{◌≡◌, ◌∙◌, sym, length, Some}
+use Rattle.std.specs.Bool.{⊤}
 use Rattle.std.proofs.lemmas.List.{length-map}
+use Rattle.std.proofs.lemmas.Option.{MatchOption-at_some}
 use Rattle.derivation_book.specs.Known.{known_lines}
 use Rattle.derivation_book.specs.Sums.{combined}
 use Rattle.derivation_book.specs.OverOne.{over, sums_over}
 use Rattle.derivation_book.specs.Lemmas.Combining.{combined_length}
-use Rattle.derivation_book.proofs.WholeSums.{some_of}
 use Rattle.derivation_book.proofs.book.Book.price.Goals as goal
 
 pub price_over-requires-clause-columns : goal.price_over-requires-clause-columns
@@ -15,7 +16,7 @@ price_over-requires-clause-columns c =
     let d = c.in-Some.denominator in
     let sums = c.in-Some.sums in
     let is : combined ls ms n ≡ Some (sums_over d sums) =
-    some_of c.in_ok-denominator.field-0 (d, sums) (λ s. combined ls ms n ≡ Some (sums_over s.0 s.1)) c.in_ok-denominator.ensures.sums c.in-Some.is in
+    MatchOption-at_some ⊤ (λ s. combined ls ms n ≡ Some (sums_over s.0 s.1)) (d, sums) c.in-Some.is c.in_ok-denominator.ensures.sums in
     c.requires.columns ∙ sym (sym (length-map sums.coefficients (over d)) ∙ combined_length ls ms n (sums_over d sums) is)
 
 pub price-requires-clause-columns : goal.price-requires-clause-columns

@@ -1,7 +1,9 @@
 use Rattle.std.proofs.Common.{sym, ◌∙◌, subst, arith, length}
+use Rattle.std.specs.Bool.{⊤}
+use Rattle.std.proofs.lemmas.Option.{MatchOption-at_some}
 use Rattle.derivation_book.specs.Known.{known_lines}
 use Rattle.derivation_book.specs.OverOne.{AreScaled}
-use Rattle.derivation_book.proofs.WholeSums.{scaled_below, some_of, combined_over}
+use Rattle.derivation_book.proofs.WholeSums.{scaled_below, combined_over}
 use Rattle.derivation_book.proofs.book.Book.scaled_sums.Goals as goal
 use Rattle.derivation_book.proofs.book.Book.scaled_sums.Goals.{After-as_slice}
 
@@ -9,7 +11,7 @@ use Rattle.derivation_book.proofs.book.Book.scaled_sums.Goals.{After-as_slice}
 scaled : (c : After-as_slice) → AreScaled c.in-Some.denominator c.args.mult.now c.as_slice.result.now
 scaled c =
     subst (AreScaled c.in-Some.denominator c.args.mult.now) (sym c.as_slice.ensures)
-    (some_of c.in_ok-scaled.field-0 c.in-Some-2.scaled (λ t. AreScaled c.in-Some.denominator c.args.mult.now t) c.in_ok-scaled.ensures c.in-Some-2.is)
+    (MatchOption-at_some ⊤ (λ t. AreScaled c.in-Some.denominator c.args.mult.now t) c.in-Some-2.scaled c.in-Some-2.is c.in_ok-scaled.ensures)
 
 pub combine_by_fractions-requires : goal.combine_by_fractions-requires
 combine_by_fractions-requires c =
