@@ -15,7 +15,7 @@ loop-i-preserved c =
     let P = λ (j : ℕ). length (get_or (old ++ row ∷ []) j []) ≡ length c.args.program.now.costs in
     record {
       value = ap (map (map whole)) c.in_ok-push-in-Some.ensures.items ∙ map_push (map whole) c.loop-i.rows.items c.in-Some.row ∙ ap (λ (q : List ℚ). map (map whole) c.loop-i.rows.items ++ q ∷ []) made
-    ∙ ap (λ (qs : List (List ℚ)). qs ++ get_or xs i [] ∷ []) c.loop-i.invariant.value ∙ sym (take_more xs i [] there);
+          ∙ ap (λ (qs : List (List ℚ)). qs ++ get_or xs i [] ∷ []) c.loop-i.invariant.value ∙ sym (take_more xs i [] there);
       width = subst (λ (rows : List (List ℤ)). (j : ℕ) → j < length rows → length (get_or rows j []) ≡ length c.args.program.now.costs) (sym c.in_ok-push-in-Some.ensures.items)
           (λ j l. below_more P (length old) (λ k m. ap length (get_or_append_left old (row ∷ []) [] k m) ∙ c.loop-i.invariant.width k m) (ap length (get_or_push old row [] (length old) refl) ∙ wide) j
           (omega (arith, l, length_push old row)));
