@@ -1,4 +1,4 @@
-use Rattle.std.proofs.Common.{◌≡◌, ◌+◌, ◌*◌, ◌^◌, ◌≤◌, ◌<◌, ◌+ℤ◌, ◌*ℤ◌, nat_abs, pos, get_or, length, drop, arith, rules, ap, sym, subst, ◌∙◌, w64, to_z, of_z}
+use Rattle.std.proofs.Common.{◌≡◌, ◌+◌, ◌*◌, ◌^◌, ◌≤◌, ◌<◌, ◌+ℤ◌, ◌*ℤ◌, nat_abs, pos, get_or, length, drop, arith, rules, ap, sym, subst, ◌∙◌, w64, to_z, of_z, ℤ}
 use Rattle.std.specs.Int.{w128}
 use Rattle.std.specs.Int.Signed.{nat_abs-le}
 use mir.Val.{SFits}
@@ -9,6 +9,7 @@ use Rattle.integer_tableau.specs.Numbers.{number_at, total_size}
 use Rattle.integer_tableau.specs.declared.position.Position.TheVariants.{InBasis}
 use Rattle.integer_tableau.proofs.CombinedLoops.{IsNext, at_next_place, first_size, first_sum, next_value}
 use Rattle.integer_tableau.proofs.Loops.{back128}
+use Rattle.integer_tableau.proofs.Products.{last_sum}
 use Rattle.integer_tableau.proofs.combination.combined_value.Goals as goal
 
 pub loop-place-init : goal.loop-place-init
@@ -88,3 +89,12 @@ loop-place-preserved c =
       sum = ap (λ z. z +ℤ combined_value d (drop q cs) (drop q c.args.positions.now) (drop q c.args.nonbasic_values.now) (drop q c.args.values.now)) back ∙ n.sum;
       size = subst (λ z. nat_abs z + 2 ^ 63 * total_size (drop q cs) ≤ 2 ^ 63 * total_size cs) (sym back) n.size;
     }
+
+pub returns : goal.returns
+returns c =
+    let cs = c.args.coefficients.now in
+    let ss = c.args.positions.now in
+    let xs = c.args.nonbasic_values.now in
+    let vs = c.args.values.now in
+    last_sum (to_z w64 (of_z w64 c.args.denominator)) cs ss xs vs c.places-places.result.now c.loop-place.place-index _ _ c.loop-place-test.false c.loop-place.invariant.sum
+    ∙ ap (λ (d : ℤ). combined_value d cs ss xs vs) (to_z-of_z w64 c.args.denominator c.ranges.denominator)

@@ -1,4 +1,4 @@
-use Rattle.std.proofs.Common.{◌≡◌, ◌∙◌, ◌-◌, ◌^◌, ◌<◌, ◌≤◌, ◌*ℤ◌, ℕ, ℤ, pos, nat_abs, to_z, of_z, arith, ap, sym, w64}
+use Rattle.std.proofs.Common.{◌≡◌, ◌∙◌, ◌-◌, ◌^◌, ◌<◌, ◌≤◌, ◌*ℤ◌, ℕ, ℤ, pos, nat_abs, to_z, of_z, subst, arith, ap, sym, w64}
 use borrow.Author.Tests.{eqb-true}
 use mir.Val.{SFits}
 use Rattle.std.specs.Int.{w128}
@@ -30,3 +30,11 @@ returns c = λ a.
   where
     wide : (z : ℤ) → SFits w64 z → SFits w128 z
     wide z f = omega (arith, ints)
+
+pub overflow_mul-result : goal.overflow_mul-result
+overflow_mul-result c =
+    let fa : SFits w128 c.from.result = record { sfits = c.from.type_inv } in
+    let fb : SFits w128 c.from-2.result = record { sfits = c.from-2.type_inv } in
+    let odd_is = to_z-of_z w128 c.from.result fa ∙ c.from.ensures ∙ to_z-of_z w64 c.args.odd c.ranges.odd in
+    let power_is = to_z-of_z w128 c.from-2.result fb ∙ c.from-2.ensures ∙ ap pos (one_shl c.args.zeros 64 c.requires) in
+    subst (SFits w128) (sym (λ i. odd_is i *ℤ power_is i)) (product_back c.args.odd (pos (2 ^ c.args.zeros)) (omega (arith, ints)) (small_power c.args.zeros c.requires))

@@ -1,4 +1,4 @@
-use Rattle.std.proofs.Common.{◌+◌, ◌-ℤ◌, ◌*ℤ◌, [], refl, rules, false, length, get_or, set, nat_abs, pos, ap, sym, subst, ◌∙◌, w64, to_z, of_z}
+use Rattle.std.proofs.Common.{◌<ℤ◌, ℤ, arith, ◌+◌, ◌-ℤ◌, ◌*ℤ◌, [], refl, rules, false, length, get_or, set, nat_abs, pos, ap, sym, subst, ◌∙◌, w64, to_z, of_z}
 use Rattle.std.specs.Int.{w128}
 use mir.Val.{SFits}
 use Rattle.std.proofs.lemmas.Int.{to_z-of_z}
@@ -13,6 +13,15 @@ use Rattle.integer_tableau.proofs.pivot.pivot_parts.Goals as goal
 
 pub leave-requires-clause-near : goal.leave-requires-clause-near
 leave-requires-clause-near c = near_from_code _ _ _ _ c.requires.compact c.args.nonbasic_values.now c.args.values.now _ refl refl (ap nat_abs (to_z-of_z w64 c.args.denominator c.ranges.denominator))
+
+pub leave-requires-clause-full : goal.leave-requires-clause-full
+leave-requires-clause-full c = c.requires.compact.full
+
+pub leave-requires-clause-light : goal.leave-requires-clause-light
+leave-requires-clause-light c = λ i l. omega (arith, c.requires.compact.weights i l, c.requires.compact.light)
+
+pub leave-requires-clause-positive : goal.leave-requires-clause-positive
+leave-requires-clause-positive c = subst (λ (z : ℤ). pos 0 <ℤ z) (sym (to_z-of_z w64 c.args.denominator c.ranges.denominator)) c.requires.positive
 
 pub leave-requires-clause-small : goal.leave-requires-clause-small
 leave-requires-clause-small c =
