@@ -6,10 +6,11 @@ use Rattle.tableau.specs.LinearProgram.{LinearProgram}
 use Rattle.dual_simplex.specs.Answers.{linear_program}
 use Rattle.dual_simplex.specs.Sizes.{IsIntegerRelaxation, most_numbered_cuts}
 
--- how many cuts it has, and its linear program over the problem's own box, where that has the form of small whole numbers
+-- how many cuts it has, and its linear program over the problem's own box, where that has the form of small whole numbers, or that of scaled ones
 pub record Prepared : Type 0 where
   pub cuts : ℕ
   pub program : Option LinearProgram
+  pub scaled : Option LinearProgram
 
 -- the linear program of a problem and these cuts, whose numbers are whole and small
 pub record IsIntegerProgramOf (p : Problem) (cs : List Cut) (lp : LinearProgram) : Type 0 where
@@ -20,6 +21,7 @@ pub record IsIntegerProgramOf (p : Problem) (cs : List Cut) (lp : LinearProgram)
 pub record IsRelaxationOf (p : Problem) (cs : List Cut) (r : Prepared) : Type 0 where
   pub numbered : r.cuts < most_numbered_cuts
   pub program : IfSome r.program (IsIntegerProgramOf p cs)
+  pub scaled : IfSome r.scaled (λ lp. lp ≡ linear_program p cs p.spans)
 
 -- prepared for a problem and the first of these cuts
 pub record IsPreparedOf (p : Problem) (cs : List Cut) (r : Prepared) : Type 0 where

@@ -6,6 +6,7 @@ ghost use Rattle.tableau.specs.Multipliers.{point_of, mult_of_cost, mult_of_row}
 use fraction::Frac;
 use integer_tableau::IntegerTableau;
 use problem::Terms;
+use scaled_program::ScaledTableau;
 use std::alloc::{AllocError, Global};
 use std::marker::Model;
 use tableau::Tableau;
@@ -21,6 +22,8 @@ pub struct FinalTableau {
 pub(crate) enum Form {
     /// Whole numbers over one denominator.
     Integers(IntegerTableau),
+    /// Whole numbers that are so many times the tableau's own, over one denominator.
+    Scaled(ScaledTableau),
     /// A fraction each.
     Fractions(Tableau),
 }
@@ -44,6 +47,15 @@ impl FinalTableau {
         }
     }
 
+    /// A tableau of scaled whole numbers.
+    pub(crate) fn of_scaled(tableau: ScaledTableau) -> FinalTableau
+        ensures { result ≡ tableau }
+    {
+        FinalTableau {
+            form: Form::Scaled(tableau),
+        }
+    }
+
     /// A tableau of fractions.
     pub(crate) fn of_fractions(tableau: Tableau) -> FinalTableau
         ensures { result ≡ tableau }
@@ -59,6 +71,7 @@ impl FinalTableau {
     {
         match &self.form {
             Form::Integers(tableau) => tableau.pivots(),
+            Form::Scaled(tableau) => tableau.pivots(),
             Form::Fractions(tableau) => tableau.pivots(),
         }
     }
@@ -69,6 +82,7 @@ impl FinalTableau {
     {
         match &self.form {
             Form::Integers(tableau) => tableau.point(alloc),
+            Form::Scaled(tableau) => tableau.point(alloc),
             Form::Fractions(tableau) => tableau.point(alloc),
         }
     }
@@ -79,6 +93,7 @@ impl FinalTableau {
     {
         match &self.form {
             Form::Integers(tableau) => tableau.mult_of_cost(alloc),
+            Form::Scaled(tableau) => tableau.mult_of_cost(alloc),
             Form::Fractions(tableau) => tableau.mult_of_cost(alloc),
         }
     }
@@ -91,6 +106,7 @@ impl FinalTableau {
     {
         match &self.form {
             Form::Integers(tableau) => tableau.mult_of_row(alloc, row),
+            Form::Scaled(tableau) => tableau.mult_of_row(alloc, row),
             Form::Fractions(tableau) => tableau.mult_of_row(alloc, row),
         }
     }

@@ -16,6 +16,7 @@ mod program;
 mod reading;
 mod relaxation;
 mod scaled_point;
+mod scaled_run;
 mod sizes;
 mod solution;
 mod sums;

@@ -16,6 +16,7 @@ impl FinalTableau {
     {
         match &self.form {
             Form::Integers(tableau) => tableau.status(variable),
+            Form::Scaled(tableau) => tableau.status(variable),
             Form::Fractions(tableau) => tableau.status(variable),
         }
     }
@@ -27,6 +28,7 @@ impl FinalTableau {
     {
         match &self.form {
             Form::Integers(tableau) => tableau.coefficients(alloc, variable),
+            Form::Scaled(tableau) => tableau.coefficients(alloc, variable),
             Form::Fractions(tableau) => tableau.coefficients(alloc, variable),
         }
     }

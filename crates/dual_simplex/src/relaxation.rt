@@ -10,12 +10,14 @@ use crate::cramped_run::{is_cramped_by_fractions, is_cramped_by_integers};
 use crate::fraction_run::solve_by_fractions;
 use crate::integer_run::solve_by_integers;
 use crate::program::linear_program;
+use crate::scaled_run::solve_by_scales;
 use crate::sizes::is_integer_relaxation;
 use crate::solution::Solution;
 use derivation_book::Book;
 use integer_tableau::IntegerProgram;
 use problem::Problem;
 use problem_box::IntBox;
+use scaled_program::ScaledProgram;
 use std::alloc::{AllocError, Global};
 use std::marker::Model;
 
@@ -26,6 +28,8 @@ use std::marker::Model;
 pub struct Relaxation {
     cuts: usize,
     program: Option<IntegerProgram>,
+    /// Where there is no program of small whole numbers.
+    scaled: Option<ScaledProgram>,
 }
 
 impl Model for Relaxation {
@@ -33,7 +37,7 @@ impl Model for Relaxation {
 
     ghost Value = { Prepared };
 
-    ghost view = { λ r. record { cuts = r.cuts; program = r.program } };
+    ghost view = { λ r. record { cuts = r.cuts; program = r.program; scaled = r.scaled } };
 }
 
 /// The linear program of a problem's rows and the first cuts over the problem's own box, in the form of whole numbers; none where a number isn't whole,
@@ -55,6 +59,21 @@ fn integer_program(
     IntegerProgram::of(alloc, &program)
 }
 
+/// The same linear program, scaled to whole numbers; none where a scale or a number is too large. The one error is want of memory.
+fn scaled_program(
+    alloc: Global,
+    problem: &Problem,
+    book: &Book,
+    cuts: usize,
+) -> Result<Option<ScaledProgram>, AllocError>
+    requires few { cuts ≤ length book.now.cuts }
+    requires numbered { cuts < most_numbered_cuts }
+    ensures { IfOk result (λ o. IfSome o (λ lp. lp ≡ linear_program problem.now (take cuts book.now.cuts) problem.now.spans)) }
+{
+    let program = linear_program(alloc, problem, book, cuts, problem.root())?;
+    ScaledProgram::of(alloc, &program)
+}
+
 impl Relaxation {
     /// The relaxation of the problem's rows and the first cuts. The one error is want of memory.
     pub fn new(
@@ -69,11 +88,42 @@ impl Relaxation {
         ensures prepared { IfOk result (λ r. IsRelaxationOf problem.now (take cuts book.now.cuts) r) }
     {
         let program = integer_program(alloc, problem, book, cuts)?;
-        Ok(Relaxation { cuts, program })
+        let scaled = match &program {
+            Some(_) => None,
+            None => scaled_program(alloc, problem, book, cuts)?,
+        };
+        Ok(Relaxation {
+            cuts,
+            program,
+            scaled,
+        })
     }
 
-    /// What the run answers over a box that starts on whole numbers; none where there is no such start. The one error is want of memory.
-    fn solution_by_integers(
+    /// What the run answers over a box on the whole numbers of the scaled program; none where there is none, or it is given up. The one error is
+    /// want of memory.
+    fn solution_by_scales(
+        &self,
+        alloc: Global,
+        problem: &Problem,
+        book: &Book,
+        area: &IntBox,
+    ) -> Result<Option<Solution>, AllocError>
+        requires few { self.now.cuts ≤ length book.now.cuts }
+        requires prepared { IsRelaxationOf problem.now (take self.now.cuts book.now.cuts) self.now }
+        requires columns { length area.now ≡ length problem.now.spans }
+        ensures answer { IfOk result (λ o. IfSome o (λ s. s.answer ≡ answer problem.now (take self.now.cuts book.now.cuts) area.now)) }
+        ensures tableau { IfOk result (λ o. IfSome o (λ s. IfSome (run (linear_program problem.now (take self.now.cuts book.now.cuts) area.now)).tableau (λ t. s.tableau ≡ Some t))) }
+        ensures pivots { IfOk result (λ o. IfSome o (λ s. HasPivots (linear_program problem.now (take self.now.cuts book.now.cuts) area.now) s.tableau)) }
+    {
+        match &self.scaled {
+            Some(program) => solve_by_scales(alloc, problem, book, self.cuts, area, program),
+            None => Ok(None),
+        }
+    }
+
+    /// What the run answers over a box that starts on whole numbers; none where there is no such start, or scaled ones are given up. The one
+    /// error is want of memory.
+    fn solution_on_whole_numbers(
         &self,
         alloc: Global,
         problem: &Problem,
@@ -89,7 +139,7 @@ impl Relaxation {
     {
         match &self.program {
             Some(program) => solve_by_integers(alloc, problem, book, self.cuts, area, program),
-            None => Ok(None),
+            None => self.solution_by_scales(alloc, problem, book, area),
         }
     }
 
@@ -97,7 +147,8 @@ impl Relaxation {
     /// handed out too.
     ///
     /// The run goes on whole numbers first. Where that is given up, exact fractions go on from the last whole pivot, or where there is no start on
-    /// whole numbers, from the start. The answer is the same. The one error is want of memory.
+    /// whole numbers, from the start. Where a number isn't whole, the run goes on scaled numbers first, and where these are given up, fractions begin
+    /// at the start. The answer is the same. The one error is want of memory.
     pub fn solve(
         &self,
         alloc: Global,
@@ -112,7 +163,7 @@ impl Relaxation {
         ensures tableau { IfOk result (λ s. IfSome (run (linear_program problem.now (take self.now.cuts book.now.cuts) area.now)).tableau (λ t. s.tableau ≡ Some t)) }
         ensures pivots { IfOk result (λ s. HasPivots (linear_program problem.now (take self.now.cuts book.now.cuts) area.now) s.tableau) }
     {
-        match self.solution_by_integers(alloc, problem, book, area)? {
+        match self.solution_on_whole_numbers(alloc, problem, book, area)? {
             Some(solution) => Ok(solution),
             None => solve_by_fractions(alloc, problem, book, self.cuts, area),
         }

@@ -16,7 +16,7 @@ use Rattle.integer_tableau.specs.declared.integer_bounds.IntegerBounds.{IntegerB
 use Rattle.integer_tableau.specs.declared.position.Position.{Position}
 use Rattle.integer_tableau.specs.declared.position.Position.TheVariants.{InBasis, InColumn}
 use Rattle.tableau.specs.Leaving.{is_below, unbounded}
-use Rattle.tableau.specs.Multipliers.{direction_of, mult_of_cost, mult_of_row, numbered, point_of, row_multipliers}
+use Rattle.tableau.specs.Multipliers.{direction_of, point_of, row_multipliers}
 use Rattle.tableau.specs.Tableau.{Tableau, bounds_of, row_of, value_of}
 use Rattle.tableau.specs.declared.bounds.Direction.{Direction}
 use Rattle.tableau.specs.declared.bounds.Direction.TheVariants.{Rise, Fall}
@@ -105,11 +105,11 @@ module _ (columns : ℕ) (numbers : List ℕ) (ps : List (List ℤ)) (weight rea
       ∙ take_values w.denominator w.positions w.nonbasic_values w.values _ (omega (arith, compact.values, compact.variables)) (omega (arith, compact.values, compact.variables, cons.nonbasic_values)))
       ∙ ap point_of view
 
-  pub costs_are : numbered numbers (drop 0 (coefficients w.denominator (drop (length w.rows) w.positions) w.reduced_costs)) ≡ mult_of_cost t
+  pub costs_are : coefficients w.denominator (drop (length w.rows) w.positions) w.reduced_costs ≡ drop t.columns t.reduced_costs
   costs_are =
-      ap (numbered numbers) (sym (drop-map (coefficient w.denominator w.reduced_costs) (length w.rows) w.positions)
-      ∙ ap (λ n. drop n (coefficients w.denominator w.positions w.reduced_costs)) (sym columns_are))
-      ∙ ap mult_of_cost view
+      sym (drop-map (coefficient w.denominator w.reduced_costs) (length w.rows) w.positions)
+      ∙ ap (λ n. drop n (coefficients w.denominator w.positions w.reduced_costs)) (sym columns_are)
+      ∙ ap (λ (t : Tableau). drop t.columns t.reduced_costs) view
 
   module _ (r : ℕ) (there : r < length w.positions) where
     row_is : row_of_position w.denominator w.positions (get_or w.positions r InBasis) (get_or (expanded_rows w.denominator ps w.positions w.rows) r []) ≡ row_of t r
@@ -165,13 +165,12 @@ module _ (columns : ℕ) (numbers : List ℕ) (ps : List (List ℤ)) (weight rea
     -- their multipliers
     pub multipliers_are : (direction : Direction) (place : ℕ) (xs : List ℚ) → direction ≡ direction_of t r → xs ≡ drop (length w.rows) (row_of t r)
         → (r < length w.rows → length ps ≤ place) → (length w.rows ≤ r → r ≡ length w.rows + place)
-        → numbered numbers (drop 0 (row_multipliers direction place xs)) ≡ mult_of_row t r
+        → row_multipliers direction place xs ≡ drop t.columns (row_multipliers (direction_of t r) r (row_of t r))
     multipliers_are direction place xs e f' before behind =
-        ap (numbered numbers) ((λ i. row_multipliers (e i) place (f i)) ∙ sym (elim (cases_lt r (length w.rows)) [
+        (λ i. row_multipliers (e i) place (f i)) ∙ sym (elim (cases_lt r (length w.rows)) [
           | inl h ↦ drop_multipliers_before t.columns place r (direction_of t r) (row_of t r) (omega (arith, h, here)) (omega (arith, l, before h, ap length f))
           | inr h ↦ ap (λ r'. drop t.columns (row_multipliers (direction_of t r) r' (row_of t r))) (behind h ∙ ap (λ n. n + place) (sym here)) ∙ drop_multipliers t.columns place (direction_of t r) (row_of t r)
-        ]))
-        ∙ ap (λ ns. numbered ns (drop t.columns (row_multipliers (direction_of t r) r (row_of t r)))) (ap (λ (t : Tableau). t.numbers) view)
+        ])
       where
         here : t.columns ≡ length w.rows
         here = sym (ap (λ (t : Tableau). t.columns) view) ∙ columns_are

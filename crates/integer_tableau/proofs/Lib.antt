@@ -29,3 +29,6 @@ mod Statuses
 mod ToFractions
 mod Products
 mod LowSums
+mod SmallTimes
+mod ScaledNumbers
+mod ScaledPrograms

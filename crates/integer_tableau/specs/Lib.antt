@@ -6,6 +6,8 @@ pub mod IntegerTableau
 pub mod Consistent
 pub mod Combined
 pub mod Denominator
+pub mod Small
+pub mod Scales
 pub mod Leaving
 pub mod Entering
 pub mod Place
@@ -14,3 +16,4 @@ pub mod Run
 pub mod IntegerProgram
 pub mod Start
 pub mod Laws
+pub mod Lemmas

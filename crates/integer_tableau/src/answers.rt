@@ -2,7 +2,7 @@
 
 ghost use Rattle.std.specs.Prelude.{◌≡◌, ℕ, ◌+◌, ◌*◌, ◌-◌, ◌<◌, ◌≤◌, [], pos, nat_abs, ◌<ℤ◌, length, drop, IfOk, slice_index_or, if◌then◌else◌};
 ghost use Rattle.tableau.specs.Leaving.{is_below};
-ghost use Rattle.tableau.specs.Multipliers.{point_of, mult_of_cost, direction_of, mult_of_row};
+ghost use Rattle.tableau.specs.Multipliers.{point_of, mult_of_cost, direction_of, row_multipliers, mult_of_row};
 ghost use Rattle.tableau.specs.Tableau.{row_of};
 ghost use Rattle.tableau.specs.declared.bounds.Direction.TheVariants.{Rise, Fall};
 ghost use Rattle.integer_tableau.specs.Numbers.{number_at, IsWithin, total_size};
@@ -194,18 +194,39 @@ impl IntegerTableau {
         )
     }
 
-    /// For each row, by its number, the reduced cost of its variable, but those that are 0. The one error is want of memory.
-    pub fn mult_of_cost(&self, alloc: Global) -> Result<Terms, AllocError>
-        ensures { IfOk result (λ m. m ≡ mult_of_cost self.now) }
+    /// How many columns there are.
+    pub fn columns(&self) -> usize
+        ensures { result ≡ self.now.columns }
+    {
+        self.rows.len()
+    }
+
+    /// The numbers by which multipliers name the rows.
+    pub fn numbers(&self) -> &[u32]
+        ensures { result.now ≡ self.now.numbers }
+    {
+        &self.fixed.numbers
+    }
+
+    /// For each row the reduced cost of its variable. The one error is want of memory.
+    pub fn cost_multipliers(&self, alloc: Global) -> Result<Vec<Frac>, AllocError>
+        ensures { IfOk result (λ v. v.items ≡ drop self.now.columns self.now.reduced_costs) }
     {
         let columns = self.rows.len();
-        let reduced_costs = coefficients(
+        coefficients(
             alloc,
             &self.positions[columns..],
             &self.reduced_costs,
             self.denominator,
-        )?;
-        named_multipliers(alloc, &self.fixed.numbers, 0, &reduced_costs)
+        )
+    }
+
+    /// For each row, by its number, the reduced cost of its variable, but those that are 0. The one error is want of memory.
+    pub fn mult_of_cost(&self, alloc: Global) -> Result<Terms, AllocError>
+        ensures { IfOk result (λ m. m ≡ mult_of_cost self.now) }
+    {
+        let multipliers = self.cost_multipliers(alloc)?;
+        named_multipliers(alloc, self.numbers(), 0, &multipliers)
     }
 
     /// The direction back to its bounds of a variable that is outside of them.
@@ -264,11 +285,11 @@ impl IntegerTableau {
         }
     }
 
-    /// For each row, by its number, its multiplier in what the row of variable `row`, which is outside its bounds, says of the box, but those
-    /// that are 0. The one error is want of memory.
-    pub fn mult_of_row(&self, alloc: Global, row: usize) -> Result<Terms, AllocError>
+    /// For each row its multiplier in what the row of variable `row`, which is outside its bounds, says of the box. The one error is want of
+    /// memory.
+    pub fn row_multipliers(&self, alloc: Global, row: usize) -> Result<Vec<Frac>, AllocError>
         requires { row < length self.now.statuses }
-        ensures { IfOk result (λ m. m ≡ mult_of_row self.now row) }
+        ensures { IfOk result (λ v. v.items ≡ drop self.now.columns (row_multipliers (direction_of self.now row) row (row_of self.now row))) }
     {
         let direction = self.direction_of(row);
         let columns = self.rows.len();
@@ -279,6 +300,16 @@ impl IntegerTableau {
             row - columns
         };
         turn_into_multipliers(direction, place, &mut multipliers);
-        named_multipliers(alloc, &self.fixed.numbers, 0, &multipliers)
+        Ok(multipliers)
+    }
+
+    /// For each row, by its number, its multiplier in what the row of variable `row`, which is outside its bounds, says of the box, but those
+    /// that are 0. The one error is want of memory.
+    pub fn mult_of_row(&self, alloc: Global, row: usize) -> Result<Terms, AllocError>
+        requires { row < length self.now.statuses }
+        ensures { IfOk result (λ m. m ≡ mult_of_row self.now row) }
+    {
+        let multipliers = self.row_multipliers(alloc, row)?;
+        named_multipliers(alloc, self.numbers(), 0, &multipliers)
     }
 }

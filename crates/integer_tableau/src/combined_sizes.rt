@@ -11,7 +11,7 @@ use crate::program_row::ProgramRow;
 use crate::range::SIZE_LIMIT;
 
 /// A bound on the sizes in all rows.
-fn common_bound(rows: &[IntegerRow]) -> u64
+pub(crate) fn common_bound(rows: &[IntegerRow]) -> u64
     ensures { (v : ℕ) → v < length rows.now → IsWithin result (slice_index_or rows.now v []) }
 {
     let mut bound = 0;
@@ -22,7 +22,7 @@ fn common_bound(rows: &[IntegerRow]) -> u64
 }
 
 /// Makes the bound on the sizes of each row the greatest of them.
-fn look_at_all(rows: &mut [IntegerRow])
+pub(crate) fn look_at_all(rows: &mut [IntegerRow])
     ensures { rows.new ≡ rows.old }
 {
     for row in rows.iter_mut() {
@@ -59,7 +59,7 @@ fn with_product(total: u64, size: u64, bound: u64) -> Option<u64>
 }
 
 /// A bound on the sizes in a combination of the columns, if it has 64 bits.
-fn combination_bound(
+pub(crate) fn combination_bound(
     coefficients: &[i64],
     positions: &[Position],
     rows: &[IntegerRow],

@@ -43,7 +43,7 @@ impl Model for IntegerProgram {
 }
 
 /// The whole number of a fraction; none where it isn't whole, or has more than 64 bits.
-fn integer(fraction: Frac) -> Option<i64>
+pub(crate) fn integer(fraction: Frac) -> Option<i64>
     ensures { IfSome result (λ z. whole z ≡ fraction) }
 {
     if !fraction.is_whole() {
@@ -152,7 +152,7 @@ fn integer_rows(
 }
 
 /// Whether the numbers of each row are below `SIZE_LIMIT` in size.
-fn are_within(rows: &[ProgramRow]) -> bool
+pub(crate) fn are_within(rows: &[ProgramRow]) -> bool
     ensures { IsTrue result → (v : ℕ) → v < length rows.now → IsWithin (size_limit - 1) (slice_index_or rows.now v []) }
 {
     for row in rows {
@@ -175,7 +175,7 @@ fn total_size(numbers: &[i64]) -> Option<u64>
 }
 
 /// The greatest sum of the sizes in a row, if each has 64 bits.
-fn greatest_weight(rows: &[ProgramRow]) -> Option<u64>
+pub(crate) fn greatest_weight(rows: &[ProgramRow]) -> Option<u64>
     ensures { IfSome result (λ w. (v : ℕ) → v < length rows.now → total_size (slice_index_or rows.now v []) ≤ w) }
 {
     let mut weight = 0u64;

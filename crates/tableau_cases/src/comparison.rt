@@ -1,6 +1,6 @@
-// Random linear programs by both forms of the tableau.
+// Random linear programs by each form of the tableau.
 
-use crate::ends::{End, fraction_end, integer_end};
+use crate::ends::{End, fraction_end, integer_end, scaled_end};
 use crate::programs::random_program;
 use anyhow::{Result, bail};
 use problem::Problem;
@@ -43,24 +43,25 @@ impl Tally {
     }
 }
 
-/// How often each end came in both forms, and how often they differed.
+/// How often each end came in each form, and how often another form's differed from that on fractions.
 #[derive(Clone, Copy)]
 struct Counts {
     integers: Tally,
+    scaled: Tally,
     fractions: Tally,
     differ: u32,
 }
 
-/// Whether a run on whole numbers that came to an end has another one than that on fractions.
-fn differ(integers: &Option<End>, fractions: &Option<End>) -> bool {
-    match (integers, fractions) {
-        (Some(integers), Some(fractions)) => !integers.is_same(fractions),
+/// Whether a run in another form that came to an end has another one than that on fractions.
+fn differ(other: &Option<End>, fractions: &Option<End>) -> bool {
+    match (other, fractions) {
+        (Some(other), Some(fractions)) => !other.is_same(fractions),
         (Some(_), None) => true,
         (None, _) => false,
     }
 }
 
-/// Solves a problem's linear program over its box in both forms, and counts how that ends.
+/// Solves a problem's linear program over its box in each form, and counts how that ends.
 fn compare(alloc: Global, counts: &mut Counts, problem: &Problem) -> Result<()> {
     let area = problem.root();
     let program = LinearProgram::of(alloc, problem, area)?;
@@ -68,10 +69,12 @@ fn compare(alloc: Global, counts: &mut Counts, problem: &Problem) -> Result<()> 
         bail!("a linear program of other columns");
     }
     let integers = integer_end(alloc, &program, area, PIVOTS)?;
+    let scaled = scaled_end(alloc, &program, area, PIVOTS)?;
     let fractions = fraction_end(alloc, program, PIVOTS)?;
     counts.integers.count(&integers);
+    counts.scaled.count(&scaled);
     counts.fractions.count(&fractions);
-    if differ(&integers, &fractions) {
+    if differ(&integers, &fractions) || differ(&scaled, &fractions) {
         counts.differ = counts.differ.saturating_add(1);
     }
     Ok(())
@@ -89,10 +92,11 @@ fn show_tally<R: Print>(rt: &R, form: &str, tally: Tally, neither: &str) -> io::
     )
 }
 
-/// Solves so many random programs in both forms, and prints how often each end came, and how often the two forms differed.
+/// Solves so many random programs in each form, and prints how often each end came, and how often the forms differed.
 pub(crate) fn show<R: Print + Alloc<A = Global>>(rt: &R, programs: u32) -> Result<()> {
     let mut counts = Counts {
         integers: Tally::none(),
+        scaled: Tally::none(),
         fractions: Tally::none(),
         differ: 0,
     };
@@ -101,6 +105,7 @@ pub(crate) fn show<R: Print + Alloc<A = Global>>(rt: &R, programs: u32) -> Resul
         compare(rt.alloc(), &mut counts, &problem)?;
     }
     show_tally(rt, "whole numbers", counts.integers, "given up")?;
+    show_tally(rt, "scaled numbers", counts.scaled, "given up")?;
     show_tally(rt, "fractions", counts.fractions, "cramped")?;
     let differ = counts.differ;
     println!(rt; "random programs whose runs differ: {differ}")?;

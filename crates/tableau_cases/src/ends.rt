@@ -1,4 +1,4 @@
-// How runs of the dual simplex end, in both forms of the tableau.
+// How runs of the dual simplex end, in each form of the tableau.
 
 ghost use Rattle.std.specs.Prelude.{◌≡◌, IfSome, length};
 ghost use Rattle.tableau.specs.Place.{PlaceIsWithin};
@@ -8,6 +8,7 @@ use fraction::{Frac, same};
 use integer_tableau::{IntegerProgram, IntegerRunEnd, IntegerTableau};
 use problem::{Term, Terms};
 use problem_box::IntBox;
+use scaled_program::{ScaledProgram, ScaledRunEnd, ScaledTableau};
 use std::alloc::{AllocError, Global};
 use tableau::{LinearProgram, Place, Tableau};
 
@@ -76,6 +77,43 @@ pub(crate) fn integer_end(
     };
     match IntegerTableau::start(alloc, &program, area)? {
         Some(start) => end_of(alloc, start.run(u64::from(pivots)).ok()),
+        None => Ok(None),
+    }
+}
+
+/// The end on scaled numbers, where the run came to one. The one error is want of memory.
+fn end_of_scaled(alloc: Global, run: Option<ScaledRunEnd>) -> Result<Option<End>, AllocError>
+    requires { IfSome run (λ e. PlaceIsWithin (length e.tableau.statuses) e.place) }
+{
+    let Some(ScaledRunEnd { place, tableau }) = run else {
+        return Ok(None);
+    };
+    let multipliers = match place {
+        Place::NoColumn { row } => tableau.mult_of_row(alloc, row)?,
+        _ => tableau.mult_of_cost(alloc)?,
+    };
+    Ok(Some(End {
+        place,
+        pivots: tableau.pivots(),
+        point: tableau.point(alloc)?,
+        multipliers,
+    }))
+}
+
+/// The end of a run of at most so many pivots on scaled numbers; none where it is given up.
+pub(crate) fn scaled_end(
+    alloc: Global,
+    program: &LinearProgram,
+    area: &IntBox,
+    pivots: u32,
+) -> Result<Option<End>, AllocError>
+    requires { length area.now ≡ length program.now.costs }
+{
+    let Some(program) = ScaledProgram::of(alloc, program)? else {
+        return Ok(None);
+    };
+    match ScaledTableau::start(alloc, &program, area)? {
+        Some(start) => end_of_scaled(alloc, start.run(u64::from(pivots)).ok()),
         None => Ok(None),
     }
 }

@@ -1,5 +1,5 @@
-//! Linear programs by both forms of the tableau, on whole numbers and on exact fractions: some that were worked out by hand, and 1,000 random ones,
-//! of which it counts those where the two forms differ. The gate compares what it prints with `stdout`.
+//! Linear programs by each form of the tableau, on whole numbers, on scaled ones and on exact fractions: some that were worked out by hand, and
+//! 1,000 random ones, of which it counts those where the forms differ. The gate compares what it prints with `stdout`.
 #![tactic(auto)]
 
 mod comparison;

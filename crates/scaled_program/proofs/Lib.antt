@@ -1,0 +1,14 @@
+mod Fractions
+mod Comparing
+mod Numbers
+mod Rows
+mod NotCramped
+mod Places
+mod Values
+mod Pivots
+mod Runs
+mod Starts
+mod AnswersRead
+mod NumbersRead
+mod FromCode
+mod Boxes
