@@ -1,6 +1,7 @@
 //! Events with the answers that they get: on `2x >= 3`, and in a search of `2x + 2y = 3` that was worked out by hand.
 
-use crate::events::{show_event, single};
+use crate::events::single;
+use crate::printing::show_event;
 use anyhow::Result;
 use case_tools::{NumberOrNone, problem_of};
 use event_core::{Admit, State};
@@ -8,6 +9,7 @@ use fraction::Frac;
 use node_events::{Event, Proof, RationalPoint, Reason};
 use problem::Point;
 use std::alloc::{AllocError, Global};
+use std::io;
 
 /// 2x >= 3, x from 0 to 5, no objective.
 const ONE_COLUMN: &[u8] =
@@ -84,19 +86,22 @@ fn halves(count: i8) -> Frac {
     Frac::make(i128::from(count), 2)
 }
 
-/// A split by this reason.
-fn split(node: u32, column: u32, bound: i8, reason: Reason) -> Event {
-    Event::Split {
-        node,
-        column,
-        bound: i64::from(bound),
-        reason,
+/// A split by a reason that was made.
+fn split(node: u32, column: u32, bound: i8, reason: Result<Reason>) -> Result<Event> {
+    match reason {
+        Ok(reason) => Ok(Event::Split {
+            node,
+            column,
+            bound: i64::from(bound),
+            reason,
+        }),
+        Err(fault) => Err(fault),
     }
 }
 
 /// A reason by a point.
-fn fractional(numbers: Vec<Frac>) -> Result<Reason, AllocError> {
-    let point = RationalPoint::make(*numbers.allocator(), numbers)?;
+fn fractional(alloc: Global, numbers: Vec<Frac>) -> Result<Reason> {
+    let point = RationalPoint::make(alloc, numbers)?;
     Ok(Reason::Fractional { cuts: 0, point })
 }
 
@@ -109,21 +114,20 @@ fn cut(alloc: Global, row: u32, count: i8) -> Result<Event> {
 /// The offer of a point with one number.
 fn offer(alloc: Global, number: i8) -> Result<Event> {
     let numbers = vec![in alloc; i64::from(number)]?;
-    Ok(Event::Offer {
-        point: Point::make(numbers),
-    })
+    let point = Point::make(numbers);
+    Ok(Event::Offer { point })
 }
 
 /// The reason of a split by a point of one number of halves.
 fn by_one(alloc: Global, x: i8) -> Result<Reason> {
     let numbers = vec![in alloc; halves(x)]?;
-    Ok(fractional(numbers)?)
+    fractional(alloc, numbers)
 }
 
 /// The reason of a split by a point of two numbers of halves.
 fn by_two(alloc: Global, x: i8, y: i8) -> Result<Reason> {
     let numbers = vec![in alloc; halves(x), halves(y)]?;
-    Ok(fractional(numbers)?)
+    fractional(alloc, numbers)
 }
 
 /// The closing of a node by row 0 with this factor.
@@ -133,6 +137,11 @@ fn refute(alloc: Global, node: u32, factor: i8) -> Result<Event> {
     Ok(Event::Close { node, proof })
 }
 
+/// A split of node 0 in column 0 at 0.
+fn split_of_root(reason: Reason) -> Result<Event> {
+    split(0, 0, 0, Ok(reason))
+}
+
 /// The event of a plan.
 fn event_of(alloc: Global, plan: Plan) -> Result<Event> {
     match plan {
@@ -140,12 +149,10 @@ fn event_of(alloc: Global, plan: Plan) -> Result<Event> {
         Plan::Release(node) => Ok(Event::Release { node }),
         Plan::Cut(row, count) => cut(alloc, row, count),
         Plan::Offer(number) => offer(alloc, number),
-        Plan::Split1(node, column, bound, x) => Ok(split(node, column, bound, by_one(alloc, x)?)),
-        Plan::Split2(node, column, bound, x, y) => {
-            Ok(split(node, column, bound, by_two(alloc, x, y)?))
-        }
-        Plan::Cramped => Ok(split(0, 0, 0, Reason::Cramped { cuts: 0, pivots: 0 })),
-        Plan::Stalled => Ok(split(0, 0, 0, Reason::Stalled { cuts: 0 })),
+        Plan::Split1(node, column, bound, x) => split(node, column, bound, by_one(alloc, x)),
+        Plan::Split2(node, column, bound, x, y) => split(node, column, bound, by_two(alloc, x, y)),
+        Plan::Cramped => split_of_root(Reason::Cramped { cuts: 0, pivots: 0 }),
+        Plan::Stalled => split_of_root(Reason::Stalled { cuts: 0 }),
         Plan::Refute(node, factor) => refute(alloc, node, factor),
     }
 }
@@ -160,61 +167,118 @@ fn answer(alloc: Global, state: &mut State, event: Event) -> Result<Admit, Alloc
     Ok(answer)
 }
 
-/// Prints the answer to an event without a worker, which isn't applied.
-fn show_asked<R: Print + Alloc<A = Global>>(rt: &R, state: &State, plan: Plan) -> Result<()> {
+/// The answer to a plan of worker 0, which is applied where it is admitted.
+fn answered(alloc: Global, state: &mut State, plan: Plan) -> Result<Admit> {
+    let event = event_of(alloc, plan)?;
+    Ok(answer(alloc, state, event)?)
+}
+
+/// Prints the event of a plan.
+fn show_plan<R: Print + Alloc<A = Global>>(rt: &R, plan: Plan) -> Result<()> {
     let event = event_of(rt.alloc(), plan)?;
-    let answer = state.admits(rt.alloc(), None, &event)?;
+    Ok(show_event(rt, &event)?)
+}
+
+/// The answer to a plan without a worker, which isn't applied.
+fn asked(alloc: Global, state: &State, plan: Plan) -> Result<Admit> {
+    let event = event_of(alloc, plan)?;
+    Ok(state.admits(alloc, None, &event)?)
+}
+
+/// Prints the answer to a plan without a worker.
+fn show_asked<R: Print + Alloc<A = Global>>(rt: &R, state: &State, plan: Plan) -> Result<()> {
+    let answer = asked(rt.alloc(), state, plan)?;
     print!(rt; "answer {answer:?} to ")?;
-    show_event(rt, &event)?;
+    show_plan(rt, plan)
+}
+
+/// Prints the answers to plans without a worker.
+fn show_all_asked<R: Print + Alloc<A = Global>>(
+    rt: &R,
+    state: &State,
+    plans: &[Plan],
+) -> Result<()> {
+    for plan in plans {
+        show_asked(rt, state, *plan)?;
+    }
     Ok(())
 }
 
-/// Prints the answer to an event of worker 0, which is applied where it is admitted.
+/// Prints the answer to a plan of worker 0, which is applied where it is admitted.
 fn show_applied<R: Print + Alloc<A = Global>>(rt: &R, state: &mut State, plan: Plan) -> Result<()> {
-    let answer = answer(rt.alloc(), state, event_of(rt.alloc(), plan)?)?;
+    let answer = answered(rt.alloc(), state, plan)?;
     print!(rt; "answer {answer:?} to worker 0's ")?;
-    show_event(rt, &event_of(rt.alloc(), plan)?)?;
+    show_plan(rt, plan)
+}
+
+/// Prints the answers to plans of worker 0.
+fn show_all_applied<R: Print + Alloc<A = Global>>(
+    rt: &R,
+    state: &mut State,
+    plans: &[Plan],
+) -> Result<()> {
+    for plan in plans {
+        show_applied(rt, state, *plan)?;
+    }
+    Ok(())
+}
+
+/// Makes the cut of row 0 so many times.
+fn cut_often(alloc: Global, state: &mut State, times: u16) -> Result<()> {
+    for _ in 0..times {
+        answered(alloc, state, Plan::Cut(0, 1))?;
+    }
     Ok(())
 }
 
 /// Makes as many cuts as there may be, and prints the answer to one more.
 fn show_many_cuts<R: Print + Alloc<A = Global>>(rt: &R, state: &mut State) -> Result<()> {
-    for _ in 0..256 {
-        answer(rt.alloc(), state, event_of(rt.alloc(), Plan::Cut(0, 1))?)?;
-    }
-    let answer = answer(rt.alloc(), state, event_of(rt.alloc(), Plan::Cut(0, 1))?)?;
+    cut_often(rt.alloc(), state, 256)?;
+    let answer = answered(rt.alloc(), state, Plan::Cut(0, 1))?;
     let count = state.book().len();
     println!(rt; "answer {answer:?} to one cut more than {count}")?;
     Ok(())
 }
 
 /// Prints the answers on the first model, with its offers and cuts.
-fn show_one_column<R: Print + Alloc<A = Global>>(rt: &R) -> Result<()> {
-    let mut state = State::new(rt.alloc(), problem_of(rt.alloc(), ONE_COLUMN)?)?;
-    for plan in &FIRST {
-        show_asked(rt, &state, *plan)?;
-    }
-    for plan in &OFFERS {
-        show_applied(rt, &mut state, *plan)?;
-    }
+fn show_cuts_and_offers<R: Print + Alloc<A = Global>>(rt: &R, state: &mut State) -> Result<()> {
+    show_all_asked(rt, state, &FIRST)?;
+    show_all_applied(rt, state, &OFFERS)?;
     let cutoff = NumberOrNone(state.incumbent().cutoff());
     println!(rt; "answer: the cutoff is {cutoff}")?;
-    show_many_cuts(rt, &mut state)
+    show_many_cuts(rt, state)
+}
+
+/// Prints the size of a state.
+fn show_sizes<R: Print>(rt: &R, state: &State) -> io::Result<()> {
+    let (nodes, open) = (state.tree().len(), state.open_count());
+    let (entries, columns) = (state.history().len(), state.problem().columns());
+    println!(rt; "answer: {nodes} nodes, {open} open, {entries} entries, {columns} columns")
 }
 
 /// Prints the answers on the second model, and how its search ends.
+fn show_search<R: Print + Alloc<A = Global>>(rt: &R, state: &mut State) -> Result<()> {
+    show_all_asked(rt, state, &SPLITS)?;
+    show_all_applied(rt, state, &SEARCH)?;
+    Ok(show_sizes(rt, state)?)
+}
+
+/// The first state of a model's search.
+fn state_of(alloc: Global, text: &[u8]) -> Result<State> {
+    let problem = problem_of(alloc, text)?;
+    Ok(State::new(alloc, problem)?)
+}
+
+/// Prints the answers on the first model.
+fn show_one_column<R: Print + Alloc<A = Global>>(rt: &R) -> Result<()> {
+    let mut state = state_of(rt.alloc(), ONE_COLUMN)?;
+    show_cuts_and_offers(rt, &mut state)
+}
+
+/// Prints the answers on the second model.
 fn show_two_columns<R: Print + Alloc<A = Global>>(rt: &R) -> Result<()> {
-    let mut state = State::new(rt.alloc(), problem_of(rt.alloc(), TWO_COLUMNS)?)?;
-    for plan in &SPLITS {
-        show_asked(rt, &state, *plan)?;
-    }
-    for plan in &SEARCH {
-        show_applied(rt, &mut state, *plan)?;
-    }
-    let (nodes, open) = (state.tree().len(), state.open_count());
-    let (entries, columns) = (state.history().len(), state.problem().columns());
-    println!(rt; "answer: {nodes} nodes, {open} open, {entries} entries, {columns} columns")?;
-    Ok(())
+    let mut state = state_of(rt.alloc(), TWO_COLUMNS)?;
+    show_search(rt, &mut state)
 }
 
 /// Prints the answers on both models.

@@ -1,9 +1,14 @@
 //! Payloads of a journal: events and models that bytes spell, and the first fault of those that spell none.
 
-use crate::events::show_event;
+ghost use Rattle.std.specs.Option.{ForSome};
+ghost use Rattle.event_codec.specs.Codes.{IsCodable};
+ghost use Rattle.event_codec.specs.Models.{IsUpper};
+
+use crate::printing::show_event;
 use anyhow::{Result, bail};
 use event_codec::{CodecError, decode, decode_model, encode, encode_model};
-use std::alloc::Global;
+use node_events::Event;
+use std::alloc::{AllocError, Global};
 
 /// Payloads in hexadecimal digits, a blank before each field.
 const EVENTS: [&str; 21] = [
@@ -42,43 +47,109 @@ const MODELS: [&str; 8] = [
     "01 01 00 00000000000000",
 ];
 
-/// The bytes of a text in hexadecimal digits.
-fn bytes_of(alloc: Global, text: &str) -> Result<Vec<u8>> {
-    let mut digits = String::new(alloc);
+/// Puts the digits of a text's fields together.
+fn push_fields(digits: &mut String, text: &str) -> Result<(), AllocError> {
     for field in text.split(' ') {
         digits.push_str(field)?;
     }
+    Ok(())
+}
+
+/// The digits of a text without its blanks.
+fn digits_of(alloc: Global, text: &str) -> Result<String, AllocError> {
+    let mut digits = String::new(alloc);
+    push_fields(&mut digits, text)?;
+    Ok(digits)
+}
+
+/// The bytes of a text in hexadecimal digits.
+fn bytes_of(alloc: Global, text: &str) -> Result<Vec<u8>> {
+    let digits = digits_of(alloc, text)?;
     Ok(hex::decode(alloc, digits.as_bytes())?)
 }
 
-/// Prints the event that these bytes spell and whether it is spelled so, or their first fault.
+/// Whether an event is spelled by these bytes.
+fn is_spelled(alloc: Global, event: &Event, bytes: &[u8]) -> Result<bool, AllocError>
+    requires { IsCodable event.now }
+{
+    let spelled = encode(alloc, event)?;
+    Ok(spelled.as_slice() == bytes)
+}
+
+/// Prints an event and whether it is spelled by these bytes.
+fn show_spelled<R: Print + Alloc<A = Global>>(rt: &R, event: &Event, bytes: &[u8]) -> Result<()>
+    requires { IsCodable event.now }
+{
+    show_event(rt, event)?;
+    let is_same = is_spelled(rt.alloc(), event, bytes)?;
+    println!(rt; "  spelled so: {is_same}")?;
+    Ok(())
+}
+
+/// Prints why a payload spells no event.
+fn show_fault<R: Print>(rt: &R, text: &str, fault: CodecError) -> Result<()> {
+    match fault {
+        CodecError::Fault(fault) => println!(rt; "payload {text}: {fault:?}")?,
+        CodecError::Memory => bail!("no memory"),
+    }
+    Ok(())
+}
+
+/// Prints the event that bytes spell and whether it is spelled so, or their first fault.
+fn show_event_of<R: Print + Alloc<A = Global>>(rt: &R, text: &str, bytes: &[u8]) -> Result<()> {
+    match decode(rt.alloc(), bytes) {
+        Ok(event) => show_spelled(rt, &event, bytes),
+        Err(fault) => show_fault(rt, text, fault),
+    }
+}
+
+/// Prints what a payload spells.
 fn show_payload<R: Print + Alloc<A = Global>>(rt: &R, text: &str) -> Result<()> {
     let bytes = bytes_of(rt.alloc(), text)?;
-    match decode(rt.alloc(), &bytes) {
-        Ok(event) => {
-            show_event(rt, &event)?;
-            let is_same = encode(rt.alloc(), &event)?.as_slice() == bytes.as_slice();
-            println!(rt; "  spelled so: {is_same}")?;
-        }
-        Err(CodecError::Fault(fault)) => println!(rt; "payload {text}: {fault:?}")?,
-        Err(CodecError::Memory) => bail!("no memory"),
-    }
+    show_event_of(rt, text, &bytes)
+}
+
+/// Whether a model's record is these bytes.
+fn is_record(
+    alloc: Global,
+    text: &[u8],
+    upper: Option<i64>,
+    bytes: &[u8],
+) -> Result<bool, AllocError>
+    requires { ForSome upper IsUpper }
+{
+    let spelled = encode_model(alloc, text, upper)?;
+    Ok(spelled.as_slice() == bytes)
+}
+
+/// Prints a model and whether its record is these bytes.
+fn show_record<R: Print + Alloc<A = Global>>(
+    rt: &R,
+    text: &[u8],
+    upper: Option<i64>,
+    bytes: &[u8],
+) -> Result<()>
+    requires { ForSome upper IsUpper }
+{
+    let is_same = is_record(rt.alloc(), text, upper, bytes)?;
+    let size = text.len();
+    println!(rt; "model of {size} bytes, upper {upper:?}, spelled so: {is_same}")?;
     Ok(())
 }
 
 /// Prints the model whose record these bytes are and whether it is spelled so, or their first fault.
-fn show_model<R: Print + Alloc<A = Global>>(rt: &R, text: &str) -> Result<()> {
-    let bytes = bytes_of(rt.alloc(), text)?;
-    match decode_model(&bytes) {
-        Ok(model) => {
-            let (size, upper) = (model.text.len(), model.upper);
-            let is_same = encode_model(rt.alloc(), model.text, upper)?.as_slice()
-                == bytes.as_slice();
-            println!(rt; "model of {size} bytes, upper {upper:?}, spelled so: {is_same}")?;
-        }
+fn show_model_of<R: Print + Alloc<A = Global>>(rt: &R, text: &str, bytes: &[u8]) -> Result<()> {
+    match decode_model(bytes) {
+        Ok(model) => show_record(rt, model.text, model.upper, bytes)?,
         Err(fault) => println!(rt; "model {text}: {fault:?}")?,
     }
     Ok(())
+}
+
+/// Prints what the record of a model spells.
+fn show_model<R: Print + Alloc<A = Global>>(rt: &R, text: &str) -> Result<()> {
+    let bytes = bytes_of(rt.alloc(), text)?;
+    show_model_of(rt, text, &bytes)
 }
 
 /// Prints what payloads spell.

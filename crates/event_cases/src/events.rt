@@ -1,75 +1,11 @@
 //! Copies of events.
 
+use crate::printing::show_event;
 use anyhow::{Result, bail};
-use case_tools::Sum;
 use fraction::Frac;
 use node_events::{Event, Mult, Proof, RationalPoint, Reason};
 use problem::Point;
 use std::alloc::{AllocError, Global};
-use std::io;
-
-/// Prints a proof and ends the line.
-fn show_proof<R: Print>(rt: &R, proof: &Proof) -> io::Result<()> {
-    match proof {
-        Proof::Empty { column } => println!(rt; "empty at {column}"),
-        Proof::Refute { mult } => {
-            let (count, sum) = (mult.len(), Sum(mult.as_slice()));
-            println!(rt; "refuted by {count}: {sum}")
-        }
-        Proof::Bound { mult, rounded } => {
-            let is_empty = mult.is_empty();
-            println!(rt; "bound, rounded {rounded}, by no row {is_empty}")
-        }
-    }
-}
-
-/// Prints a reason and ends the line.
-fn show_reason<R: Print>(rt: &R, reason: &Reason) -> io::Result<()> {
-    match reason {
-        Reason::Fractional { cuts, point } => {
-            print!(rt; "fractional with {cuts} cuts at")?;
-            for column in 0..point.len() {
-                let number = point.get(column);
-                print!(rt; " {number}")?;
-            }
-            let (count, is_empty) = (point.len(), point.is_empty());
-            println!(rt; ", of {count} columns, of none {is_empty}")
-        }
-        Reason::Cramped { cuts, pivots } => {
-            println!(rt; "cramped with {cuts} cuts after {pivots} pivots")
-        }
-        Reason::Stalled { cuts } => println!(rt; "stalled with {cuts} cuts"),
-    }
-}
-
-/// Prints an event.
-pub(crate) fn show_event<R: Print>(rt: &R, event: &Event) -> io::Result<()> {
-    match event {
-        Event::Claim { node } => println!(rt; "event claim {node}"),
-        Event::Release { node } => println!(rt; "event release {node}"),
-        Event::Cut { mult } => {
-            let sum = Sum(mult.terms().as_slice());
-            println!(rt; "event cut: {sum}")
-        }
-        Event::Offer { point } => {
-            let numbers = point.as_slice();
-            println!(rt; "event offer {numbers:?}")
-        }
-        Event::Split {
-            node,
-            column,
-            bound,
-            reason,
-        } => {
-            print!(rt; "event split {node} in {column} at {bound}: ")?;
-            show_reason(rt, reason)
-        }
-        Event::Close { node, proof } => {
-            print!(rt; "event close {node}: ")?;
-            show_proof(rt, proof)
-        }
-    }
-}
 
 /// The multiplier of one row. A factor of 0 is an error.
 pub(crate) fn single(alloc: Global, row: u32, factor: Frac) -> Result<Mult> {
@@ -86,33 +22,40 @@ fn remade(alloc: Global, mult: &Mult) -> Result<Mult, AllocError> {
     Ok(Mult::make(terms))
 }
 
-/// The proofs that nodes are closed by, of each kind.
-fn proofs(alloc: Global) -> Result<Vec<Proof>> {
-    let refuting = remade(alloc, &single(alloc, 1, Frac::make(-1, 2))?)?;
-    let proofs = vec![in alloc;
-        Proof::Empty { column: 3 },
-        Proof::Refute { mult: refuting },
-        Proof::Bound {
-            mult: Mult::none(alloc),
-            rounded: true,
-        },
-    ]?;
-    Ok(proofs)
+/// Prints a copy of an event.
+fn show_copy<R: Print + Alloc<A = Global>>(rt: &R, event: &Event) -> Result<()> {
+    let copy = event.copy(rt.alloc())?;
+    Ok(show_event(rt, &copy)?)
 }
 
-/// The events that close no node, of each kind.
-fn steps(alloc: Global) -> Result<Vec<Event>> {
-    let steps = vec![in alloc;
-        Event::Claim { node: 5 },
-        Event::Release { node: 5 },
-        Event::Cut {
-            mult: single(alloc, 0, Frac::of(2))?,
-        },
-        Event::Offer {
-            point: Point::make(vec![in alloc; 3, -4]?),
-        },
-    ]?;
-    Ok(steps)
+/// A split by a copy of this reason.
+fn split(alloc: Global, reason: &Reason) -> Result<Event, AllocError> {
+    let reason = reason.copy(alloc)?;
+    Ok(Event::Split {
+        node: 4,
+        column: 1,
+        bound: -7,
+        reason,
+    })
+}
+
+/// A closing by a copy of this proof.
+fn close(alloc: Global, proof: &Proof) -> Result<Event, AllocError> {
+    let proof = proof.copy(alloc)?;
+    Ok(Event::Close { node: 6, proof })
+}
+
+/// The cut of twice row 0.
+fn cut(alloc: Global) -> Result<Event> {
+    let mult = single(alloc, 0, Frac::of(2))?;
+    Ok(Event::Cut { mult })
+}
+
+/// The offer of a point of two columns.
+fn offer(alloc: Global) -> Result<Event> {
+    let numbers = vec![in alloc; 3, -4]?;
+    let point = Point::make(numbers);
+    Ok(Event::Offer { point })
 }
 
 /// A reason by a point of two columns.
@@ -122,46 +65,85 @@ fn fractional(alloc: Global, cuts: u32, x: Frac, y: Frac) -> Result<Reason> {
     Ok(Reason::Fractional { cuts, point })
 }
 
-/// The reasons of splits, of each kind: the numbers of the first point fit into 64 bits, those of the second don't.
-fn reasons(alloc: Global) -> Result<Vec<Reason>> {
-    let mut reasons = Vec::new(alloc);
-    let half = Frac::make(-13, 2);
-    reasons.push(fractional(alloc, 1, Frac::of(3), half)?)?;
-    let wide = Frac::of(1_180_591_620_717_411_303_424);
-    reasons.push(fractional(alloc, 0, half, wide)?)?;
-    reasons.push(Reason::Cramped { cuts: 2, pivots: 9 })?;
-    reasons.push(Reason::Stalled { cuts: 3 })?;
-    Ok(reasons)
+/// The proof by minus a half of row 1.
+fn refuting(alloc: Global) -> Result<Proof> {
+    let single = single(alloc, 1, Frac::make(-1, 2))?;
+    let mult = remade(alloc, &single)?;
+    Ok(Proof::Refute { mult })
+}
+
+/// The proof by a bound and no row.
+fn bounding(alloc: Global) -> Proof {
+    Proof::Bound {
+        mult: Mult::none(alloc),
+        rounded: true,
+    }
+}
+
+/// Prints a copy of an event that was made.
+fn show_step<R: Print + Alloc<A = Global>>(rt: &R, event: Result<Event>) -> Result<()> {
+    match event {
+        Ok(event) => show_copy(rt, &event),
+        Err(fault) => Err(fault),
+    }
 }
 
 /// Prints a copy of a split by this reason.
 fn show_split<R: Print + Alloc<A = Global>>(rt: &R, reason: &Reason) -> Result<()> {
-    let alloc = rt.alloc();
-    let split = Event::Split {
-        node: 4,
-        column: 1,
-        bound: -7,
-        reason: reason.copy(alloc)?,
-    };
-    show_event(rt, &split.copy(alloc)?)?;
-    Ok(())
+    let event = split(rt.alloc(), reason)?;
+    show_copy(rt, &event)
+}
+
+/// Prints a copy of a split by a reason that was made.
+fn show_reason<R: Print + Alloc<A = Global>>(rt: &R, reason: Result<Reason>) -> Result<()> {
+    match reason {
+        Ok(reason) => show_split(rt, &reason),
+        Err(fault) => Err(fault),
+    }
+}
+
+/// Prints a copy of a closing by this proof.
+fn show_close<R: Print + Alloc<A = Global>>(rt: &R, proof: &Proof) -> Result<()> {
+    let event = close(rt.alloc(), proof)?;
+    show_copy(rt, &event)
+}
+
+/// Prints a copy of a closing by a proof that was made.
+fn show_proof<R: Print + Alloc<A = Global>>(rt: &R, proof: Result<Proof>) -> Result<()> {
+    match proof {
+        Ok(proof) => show_close(rt, &proof),
+        Err(fault) => Err(fault),
+    }
+}
+
+/// Prints a copy of each kind of event that neither splits nor closes.
+fn show_steps<R: Print + Alloc<A = Global>>(rt: &R) -> Result<()> {
+    show_step(rt, Ok(Event::Claim { node: 5 }))?;
+    show_step(rt, Ok(Event::Release { node: 5 }))?;
+    show_step(rt, cut(rt.alloc()))?;
+    show_step(rt, offer(rt.alloc()))
+}
+
+/// Prints a copy of a split by each kind of reason: the numbers of the first point fit into 64 bits, those of the second don't.
+fn show_reasons<R: Print + Alloc<A = Global>>(rt: &R) -> Result<()> {
+    let half = Frac::make(-13, 2);
+    let wide = Frac::of(1_180_591_620_717_411_303_424);
+    show_reason(rt, fractional(rt.alloc(), 1, Frac::of(3), half))?;
+    show_reason(rt, fractional(rt.alloc(), 0, half, wide))?;
+    show_reason(rt, Ok(Reason::Cramped { cuts: 2, pivots: 9 }))?;
+    show_reason(rt, Ok(Reason::Stalled { cuts: 3 }))
+}
+
+/// Prints a copy of a closing by each kind of proof.
+fn show_proofs<R: Print + Alloc<A = Global>>(rt: &R) -> Result<()> {
+    show_proof(rt, Ok(Proof::Empty { column: 3 }))?;
+    show_proof(rt, refuting(rt.alloc()))?;
+    show_proof(rt, Ok(bounding(rt.alloc())))
 }
 
 /// Prints a copy of each kind of event, of reason and of proof.
 pub(crate) fn show<R: Print + Alloc<A = Global>>(rt: &R) -> Result<()> {
-    let alloc = rt.alloc();
-    for event in &steps(alloc)? {
-        show_event(rt, &event.copy(alloc)?)?;
-    }
-    for reason in &reasons(alloc)? {
-        show_split(rt, reason)?;
-    }
-    for proof in &proofs(alloc)? {
-        let close = Event::Close {
-            node: 6,
-            proof: proof.copy(alloc)?,
-        };
-        show_event(rt, &close.copy(alloc)?)?;
-    }
-    Ok(())
+    show_steps(rt)?;
+    show_reasons(rt)?;
+    show_proofs(rt)
 }

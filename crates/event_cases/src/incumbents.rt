@@ -8,10 +8,22 @@ use fraction::Frac;
 use incumbent::Incumbent;
 use problem::{Point, Problem};
 use std::alloc::Global;
+use std::io;
 
 /// x from 0 to 5, no rows and no objective.
 const MODEL: &[u8] =
     b"ROWS\n N o\nCOLUMNS\n m 'MARKER' 'INTORG'\n x o 0\nBOUNDS\n UP x 5\nENDATA\n";
+
+/// Prints the point of an incumbent, and ends the line.
+fn show_point<R: Print>(rt: &R, incumbent: &Incumbent) -> io::Result<()> {
+    match incumbent.point() {
+        Some(point) => {
+            let numbers = point.as_slice();
+            println!(rt; ", point {numbers:?}")
+        }
+        None => println!(rt; ", no point"),
+    }
+}
 
 /// Offers a point of one number, and prints whether it is taken, and the incumbent.
 fn show_offer<R: Print + Alloc<A = Global>>(
@@ -27,26 +39,33 @@ fn show_offer<R: Print + Alloc<A = Global>>(
     let taken = incumbent.offer(problem, point);
     let cutoff = NumberOrNone(incumbent.cutoff());
     print!(rt; "incumbent offer {number}: taken {taken}, cutoff {cutoff}")?;
-    match incumbent.point() {
-        Some(point) => {
-            let numbers = point.as_slice();
-            println!(rt; ", point {numbers:?}")?;
-        }
-        None => println!(rt; ", no point")?,
-    }
-    Ok(())
+    Ok(show_point(rt, incumbent)?)
+}
+
+/// Prints whether an objective is better than that of an incumbent.
+fn show_bettered<R: Print>(rt: &R, incumbent: &Incumbent, value: Frac) -> io::Result<()> {
+    let is_bettered = incumbent.is_bettered_by(value);
+    println!(rt; "incumbent bettered by {value}: {is_bettered}")
 }
 
 /// Prints the offers of a point outside, one inside, and one that is no better.
+fn show_offers<R: Print + Alloc<A = Global>>(
+    rt: &R,
+    problem: &Problem,
+    incumbent: &mut Incumbent,
+) -> Result<()>
+    requires { IsIncumbentOf problem.now incumbent.old }
+{
+    show_offer(rt, problem, incumbent, 6)?;
+    show_offer(rt, problem, incumbent, 5)?;
+    show_offer(rt, problem, incumbent, 4)?;
+    show_bettered(rt, incumbent, Frac::make(-1, 2))?;
+    Ok(show_bettered(rt, incumbent, Frac::of(0))?)
+}
+
+/// Prints the offers to an incumbent of the model.
 pub(crate) fn show<R: Print + Alloc<A = Global>>(rt: &R) -> Result<()> {
     let problem = problem_of(rt.alloc(), MODEL)?;
     let mut incumbent = Incumbent::none();
-    show_offer(rt, &problem, &mut incumbent, 6)?;
-    show_offer(rt, &problem, &mut incumbent, 5)?;
-    show_offer(rt, &problem, &mut incumbent, 4)?;
-    for value in [Frac::make(-1, 2), Frac::of(0)] {
-        let is_bettered = incumbent.is_bettered_by(value);
-        println!(rt; "incumbent bettered by {value}: {is_bettered}")?;
-    }
-    Ok(())
+    show_offers(rt, &problem, &mut incumbent)
 }

@@ -6,6 +6,7 @@ mod codes;
 mod cuts;
 mod events;
 mod incumbents;
+mod printing;
 
 use anyhow::Result;
 use event_core::Entry;

@@ -1,10 +1,25 @@
 //! A disk in memory: calls that fail where they are listed, one that stops, and what a crash may leave.
 
+ghost use Rattle.std.specs.Prelude.{◌≡◌, ◌≤◌, length};
+ghost use Rattle.outside.specs.OnDisk.{disk_now};
+
 use crate::texts::text_of;
 use anyhow::{Result, bail};
 use outside::{Disk, MemDisk};
 use std::alloc::Global;
 use std::io;
+
+/// Wishes for what a crash leaves of the changed disk: the old bytes, the new ones, mixtures, and each length from the least to the greatest.
+const WISHES: [&str; 8] = [
+    "abcdef",
+    "aXYZe",
+    "abYde",
+    "a???e",
+    "aXYZe???",
+    "aXYZefgh",
+    "?????????",
+    "",
+];
 
 /// Prints what a read gives.
 fn show_bytes<R: Print>(rt: &R, disk: &MemDisk) -> io::Result<()> {
@@ -12,84 +27,133 @@ fn show_bytes<R: Print>(rt: &R, disk: &MemDisk) -> io::Result<()> {
     println!(rt; "disk holds {held:?}")
 }
 
+/// Prints what a sync answers, and the counts behind it.
+fn show_counts<R: Print>(rt: &R, disk: &mut MemDisk) -> io::Result<()> {
+    let sync = disk.sync();
+    let (faults, clock, calls) = (disk.faults(), disk.clock(), disk.calls());
+    println!(rt; "disk sync {sync:?}: faults {faults}, calls {calls}, clock {clock}")
+}
+
 /// Prints the calls of a disk whose second call fails.
-fn show_failing<R: Print + Alloc<A = Global>>(rt: &R) -> Result<()> {
-    let mut disk = MemDisk::failing(rt.alloc(), b"abc", &[1])?;
+fn show_failing_calls<R: Print>(rt: &R, disk: &mut MemDisk) -> Result<()>
+    requires { 3 ≤ length (disk_now disk.old).seen }
+{
     let size = disk.size();
     let write = disk.write_at(3, b"de");
     println!(rt; "disk failing at call 1: size {size:?}, write {write:?}")?;
-    show_bytes(rt, &disk)?;
-    let sync = disk.sync();
-    let (faults, clock, calls) = (disk.faults(), disk.clock(), disk.calls());
-    println!(rt; "disk sync {sync:?}: faults {faults}, calls {calls}, clock {clock}")?;
-    Ok(())
+    show_bytes(rt, disk)?;
+    Ok(show_counts(rt, disk)?)
+}
+
+/// Prints the calls of a disk whose second call fails.
+fn show_failing<R: Print + Alloc<A = Global>>(rt: &R) -> Result<()> {
+    let mut disk = MemDisk::failing(rt.alloc(), b"abc", &[1])?;
+    show_failing_calls(rt, &mut disk)
+}
+
+/// Prints the calls of a disk that stops at its second call.
+fn show_stopping_calls<R: Print>(rt: &R, disk: &mut MemDisk) -> Result<()>
+    requires { 2 ≤ length (disk_now disk.old).seen }
+{
+    let cut = disk.cut(2);
+    let (sync, size) = (disk.sync(), disk.size());
+    println!(rt; "disk stopping at call 1: cut {cut:?}, sync {sync:?}, size {size:?}")?;
+    Ok(show_bytes(rt, disk)?)
 }
 
 /// Prints the calls of a disk that stops at its second call.
 fn show_stopping<R: Print + Alloc<A = Global>>(rt: &R) -> Result<()> {
     let mut disk = MemDisk::stopping_at(rt.alloc(), b"abc", 1)?;
-    let cut = disk.cut(2);
-    let (sync, size) = (disk.sync(), disk.size());
-    println!(rt; "disk stopping at call 1: cut {cut:?}, sync {sync:?}, size {size:?}")?;
-    show_bytes(rt, &disk)?;
+    show_stopping_calls(rt, &mut disk)
+}
+
+/// Prints what a crash leaves.
+fn show_left<R: Print>(rt: &R, wish: &str, image: &[u8]) -> Result<()> {
+    let left = text_of(image);
+    println!(rt; "disk image for {wish:?}: {left:?}")?;
     Ok(())
 }
 
 /// Prints what a crash may leave that is closest to a wish.
 fn show_image<R: Print + Alloc<A = Global>>(rt: &R, disk: &MemDisk, wish: &str) -> Result<()> {
     let image = disk.image(rt.alloc(), wish.as_bytes())?;
-    let left = text_of(&image);
-    println!(rt; "disk image for {wish:?}: {left:?}")?;
+    show_left(rt, wish, &image)
+}
+
+/// Writes one piece over, puts another one behind the end, and cuts the end, with no sync; and says whether no call failed.
+fn change(disk: &mut MemDisk) -> bool
+    requires { length (disk_now disk.old).seen ≡ 6 }
+{
+    let Ok(()) = disk.write_at(1, b"XYZ") else {
+        return false;
+    };
+    let Ok(()) = disk.write_at(6, b"gh") else {
+        return false;
+    };
+    disk.cut(5) == Ok(())
+}
+
+/// The disk of `abcdef` that is so changed.
+fn changed(alloc: Global) -> Result<MemDisk> {
+    let mut disk = MemDisk::from_bytes(alloc, b"abcdef")?;
+    if change(&mut disk) {
+        Ok(disk)
+    } else {
+        bail!("a call fails")
+    }
+}
+
+/// Prints the bytes that a disk keeps.
+fn show_text_kept<R: Print>(rt: &R, kept: &[u8]) -> Result<()> {
+    let kept = text_of(kept);
+    println!(rt; "disk keeps {kept:?}")?;
     Ok(())
 }
 
-/// The disk of `abcdef` on which one piece was written over, another one behind the end, and the end cut, with no sync.
-fn changed(alloc: Global) -> Result<MemDisk> {
-    let mut disk = MemDisk::from_bytes(alloc, b"abcdef")?;
-    let Ok(()) = disk.write_at(1, b"XYZ") else {
-        bail!("a write inside fails");
-    };
-    let Ok(()) = disk.write_at(6, b"gh") else {
-        bail!("a write at the end fails");
-    };
-    let Ok(()) = disk.cut(5) else {
-        bail!("a cut fails");
-    };
-    Ok(disk)
+/// Prints what a disk keeps.
+fn show_kept<R: Print + Alloc<A = Global>>(rt: &R, disk: &MemDisk) -> Result<()> {
+    let kept = disk.kept(rt.alloc())?;
+    show_text_kept(rt, &kept)
 }
 
-/// Prints images of each kind: the old bytes, the new ones, mixtures, and each length from the least to the greatest.
+/// Prints what a sync answers.
+fn show_sync<R: Print>(rt: &R, disk: &mut MemDisk) -> io::Result<()> {
+    let sync = disk.sync();
+    println!(rt; "disk sync {sync:?}")
+}
+
+/// Prints images of a disk before and behind a sync.
+fn show_images_of<R: Print + Alloc<A = Global>>(rt: &R, disk: &mut MemDisk) -> Result<()> {
+    show_bytes(rt, disk)?;
+    show_kept(rt, disk)?;
+    for wish in &WISHES {
+        show_image(rt, disk, wish)?;
+    }
+    show_sync(rt, disk)?;
+    show_image(rt, disk, "?????????")
+}
+
+/// Prints images of each kind.
 fn show_images<R: Print + Alloc<A = Global>>(rt: &R) -> Result<()> {
     let mut disk = changed(rt.alloc())?;
-    show_bytes(rt, &disk)?;
-    let kept = disk.kept(rt.alloc())?;
-    let kept = text_of(&kept);
-    println!(rt; "disk keeps {kept:?}")?;
-    for wish in [
-        "abcdef",
-        "aXYZe",
-        "abYde",
-        "a???e",
-        "aXYZe???",
-        "aXYZefgh",
-        "?????????",
-        "",
-    ] {
-        show_image(rt, &disk, wish)?;
-    }
-    let sync = disk.sync();
-    println!(rt; "disk sync {sync:?}")?;
-    show_image(rt, &disk, "?????????")
+    show_images_of(rt, &mut disk)
 }
 
 /// Prints the last two bytes of a disk of five.
-fn show_read<R: Print + Alloc<A = Global>>(rt: &R) -> Result<()> {
-    let mut disk = MemDisk::from_bytes(rt.alloc(), b"aXYZe")?;
+fn show_last<R: Print>(rt: &R, disk: &mut MemDisk) -> Result<()>
+    requires { 5 ≤ length (disk_now disk.old).seen }
+{
     let mut buf = [0; 2];
     let read = disk.read_at(3, &mut buf);
     let given = text_of(&buf);
     println!(rt; "disk read at 3: {read:?} {given:?}")?;
     Ok(())
+}
+
+/// Prints a read.
+fn show_read<R: Print + Alloc<A = Global>>(rt: &R) -> Result<()> {
+    let mut disk = MemDisk::from_bytes(rt.alloc(), b"aXYZe")?;
+    show_last(rt, &mut disk)
 }
 
 /// Prints the calls of disks.

@@ -2,8 +2,8 @@
 
 use crate::texts::text_of;
 use anyhow::Result;
-use outside::{Hold, MemSink, NoHold, Sink, write_all};
-use std::alloc::Global;
+use outside::{Hold, MemSink, NoHold, Put, Sink, write_all};
+use std::alloc::{AllocError, Global};
 use std::io;
 
 /// Prints how a text is written, and what the sink then holds.
@@ -20,19 +20,45 @@ fn show_finish<R: Print>(rt: &R, sink: &mut MemSink) -> io::Result<()> {
     println!(rt; "sink finish: {answer:?}, keeps {kept:?}, faults {faults}")
 }
 
+/// Prints what a sink keeps.
+fn show_kept<R: Print>(rt: &R, sink: &MemSink) -> io::Result<()> {
+    let kept = text_of(sink.kept());
+    println!(rt; "sink keeps {kept:?}")
+}
+
+/// Prints writes before the end, two ends, and a write behind them.
+fn show_calls<R: Print>(rt: &R, sink: &mut MemSink) -> Result<()> {
+    for text in &["abc", "de", "fg"] {
+        show_write(rt, sink, text)?;
+    }
+    show_finish(rt, sink)?;
+    show_finish(rt, sink)?;
+    show_write(rt, sink, "h")?;
+    Ok(show_kept(rt, sink)?)
+}
+
+/// A sink in pieces of two bytes, two of whose calls fail.
+fn failing(alloc: Global) -> Result<MemSink, AllocError> {
+    let sink = MemSink::failing(alloc, &[2, 4])?;
+    Ok(sink.in_pieces(2))
+}
+
+/// Prints the calls of a sink that fails.
+fn show_failing<R: Print + Alloc<A = Global>>(rt: &R) -> Result<()> {
+    let mut sink = failing(rt.alloc())?;
+    show_calls(rt, &mut sink)
+}
+
+/// What a sink without pieces takes at once.
+fn put_at_once(alloc: Global) -> Put {
+    let mut whole = MemSink::new(alloc);
+    whole.write(b"abc")
+}
+
 /// Prints the writes of sinks.
 pub(crate) fn show<R: Print + Alloc<A = Global>>(rt: &R) -> Result<()> {
-    let mut sink = MemSink::failing(rt.alloc(), &[2, 4])?.in_pieces(2);
-    for text in ["abc", "de", "fg"] {
-        show_write(rt, &mut sink, text)?;
-    }
-    show_finish(rt, &mut sink)?;
-    show_finish(rt, &mut sink)?;
-    show_write(rt, &mut sink, "h")?;
-    let kept = text_of(sink.kept());
-    println!(rt; "sink keeps {kept:?}")?;
-    let mut whole = MemSink::new(rt.alloc());
-    let put = whole.write(b"abc");
+    show_failing(rt)?;
+    let put = put_at_once(rt.alloc());
     println!(rt; "sink write at once: {put:?}")?;
     NoHold.asks(0);
     println!(rt; "hold: worker 0 goes on")?;

@@ -1,53 +1,97 @@
 //! A source in memory that gives pieces, and fails where it is listed.
 
+ghost use Rattle.std.specs.Prelude.{◌<◌};
+
 use crate::texts::text_of;
 use anyhow::Result;
-use outside::{Got, MemSource, Source, read_all};
-use std::alloc::Global;
+use outside::{Got, MemSource, ReadFault, Source, read_all};
+use std::alloc::{AllocError, Global};
 use std::io;
 
-/// Prints what one read gives, and what is left.
-fn show_read<R: Print>(rt: &R, source: &mut MemSource) -> io::Result<()> {
+/// Prints what one read gives.
+fn show_got<R: Print>(rt: &R, source: &mut MemSource) -> io::Result<()> {
     let mut buf = [0; 4];
     match source.read(&mut buf) {
         Got::Gave(count) => {
             let given = text_of(&buf[..count]);
-            print!(rt; "source gave {given:?}")?;
+            print!(rt; "source gave {given:?}")
         }
-        Got::End => print!(rt; "source ended")?,
-        Got::Failed => print!(rt; "source failed")?,
+        Got::End => print!(rt; "source ended"),
+        Got::Failed => print!(rt; "source failed"),
     }
+}
+
+/// Prints what one read gives, and what is left.
+fn show_read<R: Print>(rt: &R, source: &mut MemSource) -> io::Result<()> {
+    show_got(rt, source)?;
     let (left, faults) = (text_of(source.left()), source.faults());
     println!(rt; ", left {left:?}, faults {faults}")
+}
+
+/// Prints what so many reads give.
+fn show_reads<R: Print>(rt: &R, source: &mut MemSource, reads: u8) -> Result<()> {
+    for _ in 0..reads {
+        show_read(rt, source)?;
+    }
+    Ok(())
+}
+
+/// Prints the bytes that a reading to a limit gives.
+fn show_given<R: Print>(rt: &R, limit: u8, bytes: &[u8]) -> Result<()> {
+    let given = text_of(bytes);
+    println!(rt; "source to {limit} gave {given:?}")?;
+    Ok(())
+}
+
+/// Prints how a reading to a limit fails.
+fn show_fault<R: Print>(rt: &R, limit: u8, fault: ReadFault) -> Result<()> {
+    println!(rt; "source to {limit}: {fault:?}")?;
+    Ok(())
 }
 
 /// Prints what all reads to a limit give.
 fn show_read_all<R: Print + Alloc<A = Global>>(
     rt: &R,
-    mut source: MemSource,
+    source: &mut MemSource,
     limit: u8,
-) -> io::Result<()> {
-    match read_all(rt.alloc(), &mut source, usize::from(limit)) {
-        Ok(bytes) => {
-            let given = text_of(&bytes);
-            println!(rt; "source to {limit} gave {given:?}")
-        }
-        Err(fault) => println!(rt; "source to {limit}: {fault:?}"),
+) -> Result<()> {
+    match read_all(rt.alloc(), source, usize::from(limit)) {
+        Ok(bytes) => show_given(rt, limit, &bytes),
+        Err(fault) => show_fault(rt, limit, fault),
     }
+}
+
+/// A source of five bytes in pieces of so many, of which these calls fail.
+fn five(alloc: Global, failing: &[u64], most: u8) -> Result<MemSource, AllocError>
+    requires { 0 < most }
+{
+    let source = MemSource::failing(alloc, b"abcde", failing)?;
+    Ok(source.in_pieces(usize::from(most)))
+}
+
+/// Prints reads of which two fail.
+fn show_failing<R: Print + Alloc<A = Global>>(rt: &R) -> Result<()> {
+    let mut source = five(rt.alloc(), &[1, 3], 2)?;
+    show_reads(rt, &mut source, 6)
+}
+
+/// Prints what all reads of a source to a limit give.
+fn show_limit<R: Print + Alloc<A = Global>>(rt: &R, limit: u8) -> Result<()> {
+    let source = MemSource::new(rt.alloc(), b"abcde")?;
+    show_read_all(rt, &mut source.in_pieces(3), limit)
+}
+
+/// Prints a reading that fails.
+fn show_failing_limit<R: Print + Alloc<A = Global>>(rt: &R) -> Result<()> {
+    let mut source = five(rt.alloc(), &[2], 2)?;
+    show_read_all(rt, &mut source, 9)
 }
 
 /// Prints the reads of sources.
 pub(crate) fn show<R: Print + Alloc<A = Global>>(rt: &R) -> Result<()> {
-    let alloc = rt.alloc();
-    let mut source = MemSource::failing(alloc, b"abcde", &[1, 3])?.in_pieces(2);
-    for _ in 0..6 {
-        show_read(rt, &mut source)?;
+    show_failing(rt)?;
+    for limit in &[0, 3, 4, 5, 9] {
+        show_limit(rt, *limit)?;
     }
-    for limit in [0, 3, 4, 5, 9] {
-        let source = MemSource::new(alloc, b"abcde")?.in_pieces(3);
-        show_read_all(rt, source, limit)?;
-    }
-    let source = MemSource::failing(alloc, b"abcde", &[2])?.in_pieces(2);
-    show_read_all(rt, source, 9)?;
-    Ok(())
+    show_failing_limit(rt)
 }

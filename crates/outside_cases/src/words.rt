@@ -1,16 +1,44 @@
 //! The paths of a command.
 
 use anyhow::Result;
-use command_words::{Paths, Words, paths_of};
+use command_words::{Paths, Words, WordsFault, paths_of};
 use std::alloc::{AllocError, Global};
-use std::io;
+
+/// Lines that are commands, and lines that are none.
+const LINES: [&str; 19] = [
+    "solve m --nodes 3 j c",
+    "solve -- -m --nodes c",
+    "solve m j",
+    "solve m j m",
+    "resume j --cuts 0 c",
+    "resume a a",
+    "resume a b --upper 3",
+    "show j",
+    "show a b",
+    "show --nodes 3 a",
+    "drill 1000000000 --nodes 3 c",
+    "drill +07 -",
+    "drill 7 7",
+    "drill x c",
+    "drill 1000000001 c",
+    "drill -1 c",
+    "drill -- -1 c",
+    "drill c",
+    "help",
+];
+
+/// Puts the words of a line behind others.
+fn push_words(alloc: Global, words: &mut Words, line: &str) -> Result<(), AllocError> {
+    for word in line.split_whitespace() {
+        words.push(alloc, word)?;
+    }
+    Ok(())
+}
 
 /// The words of a line.
 fn words_of(alloc: Global, line: &str) -> Result<Words, AllocError> {
     let mut words = Words::new(alloc);
-    for word in line.split_whitespace() {
-        words.push(alloc, word)?;
-    }
+    push_words(alloc, &mut words, line)?;
     Ok(words)
 }
 
@@ -20,43 +48,40 @@ fn shown(path: &Option<String>) -> &str {
 }
 
 /// Prints paths.
-fn show_paths<R: Print>(rt: &R, line: &str, paths: &Paths) -> io::Result<()> {
+fn show_paths<R: Print>(rt: &R, line: &str, paths: &Paths) -> Result<()> {
     let (model, journal, cert) = (
         shown(&paths.model),
         shown(&paths.journal),
         shown(&paths.cert),
     );
-    println!(rt; "words {line}: model {model}, journal {journal}, certificate {cert}")
+    println!(rt; "words {line}: model {model}, journal {journal}, certificate {cert}")?;
+    Ok(())
 }
 
-/// Prints the paths of lines that are commands, and of lines that are none.
+/// Prints why a line is no command.
+fn show_fault<R: Print>(rt: &R, line: &str, fault: WordsFault) -> Result<()> {
+    println!(rt; "words {line}: {fault:?}")?;
+    Ok(())
+}
+
+/// Prints the paths of the words of a line.
+fn show_words<R: Print + Alloc<A = Global>>(rt: &R, line: &str, words: &Words) -> Result<()> {
+    match paths_of(rt.alloc(), words) {
+        Ok(paths) => show_paths(rt, line, &paths),
+        Err(fault) => show_fault(rt, line, fault),
+    }
+}
+
+/// Prints the paths of a line.
+fn show_line<R: Print + Alloc<A = Global>>(rt: &R, line: &str) -> Result<()> {
+    let words = words_of(rt.alloc(), line)?;
+    show_words(rt, line, &words)
+}
+
+/// Prints the paths of each line.
 pub(crate) fn show<R: Print + Alloc<A = Global>>(rt: &R) -> Result<()> {
-    for line in [
-        "solve m --nodes 3 j c",
-        "solve -- -m --nodes c",
-        "solve m j",
-        "solve m j m",
-        "resume j --cuts 0 c",
-        "resume a a",
-        "resume a b --upper 3",
-        "show j",
-        "show a b",
-        "show --nodes 3 a",
-        "drill 1000000000 --nodes 3 c",
-        "drill +07 -",
-        "drill 7 7",
-        "drill x c",
-        "drill 1000000001 c",
-        "drill -1 c",
-        "drill -- -1 c",
-        "drill c",
-        "help",
-    ] {
-        let words = words_of(rt.alloc(), line)?;
-        match paths_of(rt.alloc(), &words) {
-            Ok(paths) => show_paths(rt, line, &paths)?,
-            Err(fault) => println!(rt; "words {line}: {fault:?}")?,
-        }
+    for line in &LINES {
+        show_line(rt, line)?;
     }
     Ok(())
 }

@@ -3,18 +3,14 @@
 use anyhow::Result;
 use case_tools::{Sum, problem_of};
 use drill_instance::generate;
-use problem::Problem;
+use problem::{Problem, Row};
 use std::alloc::Global;
 use std::io;
 
-/// Prints each row.
-fn show_rows<R: Print>(rt: &R, problem: &Problem) -> io::Result<()> {
-    for index in 0..problem.rows() {
-        let row = problem.row(index);
-        let (sense, rhs, terms) = (row.sense, row.rhs, Sum(row.terms.as_slice()));
-        println!(rt; "drill 1 row {sense:?} {rhs}: {terms}")?;
-    }
-    Ok(())
+/// Prints a row.
+fn show_row<R: Print>(rt: &R, row: &Row) -> io::Result<()> {
+    let (sense, rhs, terms) = (row.sense, row.rhs, Sum(row.terms.as_slice()));
+    println!(rt; "drill 1 row {sense:?} {rhs}: {terms}")
 }
 
 /// Prints how many columns there are, and the objective where each is 1.
@@ -27,10 +23,22 @@ fn show_columns<R: Print>(rt: &R, problem: &Problem) -> io::Result<()> {
     println!(rt; "drill 1 columns {columns}: objective {value} where each is 1")
 }
 
+/// Prints the rows and columns of a problem.
+fn show_problem<R: Print>(rt: &R, problem: &Problem) -> Result<()> {
+    for index in 0..problem.rows() {
+        show_row(rt, problem.row(index))?;
+    }
+    Ok(show_columns(rt, problem)?)
+}
+
+/// The problem of seed 1.
+fn drill(alloc: Global) -> Result<Problem> {
+    let text = generate(alloc, 1)?;
+    problem_of(alloc, &text)
+}
+
 /// Prints the problem of seed 1.
 pub(crate) fn show<R: Print + Alloc<A = Global>>(rt: &R) -> Result<()> {
-    let text = generate(rt.alloc(), 1)?;
-    let problem = problem_of(rt.alloc(), &text)?;
-    show_rows(rt, &problem)?;
-    Ok(show_columns(rt, &problem)?)
+    let problem = drill(rt.alloc())?;
+    show_problem(rt, &problem)
 }

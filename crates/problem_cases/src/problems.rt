@@ -4,63 +4,88 @@ use anyhow::Result;
 use case_tools::{Spans, Sum, problem_of};
 use fraction::Frac;
 use problem::{Names, Point, Problem, Row, Sense, Terms};
-use std::alloc::Global;
+use std::alloc::{AllocError, Global};
 use std::io;
 
 /// Minimise x + y/2 where x - 2y >= 1, x from 0 to 9 and y from 0 to 3.
 const MODEL: &[u8] =
     b"ROWS\n N o\n G r\nCOLUMNS\n m 'MARKER' 'INTORG'\n x o 1 r 1\n y o 0.5 r -2\nRHS\n r 1\nBOUNDS\n UP x 9\n UP y 3\nENDATA\n";
 
+/// Prints a name.
+fn show_name<R: Print>(rt: &R, index: usize, name: &[u8]) -> io::Result<()> {
+    let name = str::from_utf8(name).unwrap_or("(no text)");
+    println!(rt; "problem name {index}: {name}")
+}
+
 /// Prints each name.
-fn show_names<R: Print>(rt: &R, names: &Names) -> io::Result<()> {
+fn show_names<R: Print>(rt: &R, names: &Names) -> Result<()> {
     for index in 0..names.len() {
-        let name = str::from_utf8(names.name(index)).unwrap_or("(no text)");
-        println!(rt; "problem name {index}: {name}")?;
+        show_name(rt, index, names.name(index))?;
     }
     Ok(())
 }
 
 /// Prints a row.
-fn show_row<R: Print>(rt: &R, row: &Row) -> io::Result<()> {
+fn show_row<R: Print>(rt: &R, row: &Row) -> Result<()> {
     let (sense, rhs, terms) = (row.sense, row.rhs, Sum(row.terms.as_slice()));
     let (count, are_whole) = (row.terms.len(), row.terms.are_whole());
-    println!(rt; "problem row {sense:?} {rhs}: {terms}; terms {count}, whole {are_whole}")
+    println!(rt; "problem row {sense:?} {rhs}: {terms}; terms {count}, whole {are_whole}")?;
+    Ok(())
+}
+
+/// Names of one column.
+fn names(alloc: Global) -> Result<Names, AllocError> {
+    let name = String::from_str(alloc, "x")?;
+    let names = vec![in alloc; name]?;
+    Ok(Names::make(names))
 }
 
 /// Prints a copy of names.
-fn show_names_copy<R: Print + Alloc<A = Global>>(rt: &R) -> Result<()> {
-    let alloc = rt.alloc();
-    let names = Names::make(vec![in alloc; String::from_str(alloc, "x")?]?);
-    let copy = names.copy(alloc)?;
-    Ok(show_names(rt, &copy)?)
+fn show_names_copy<R: Print + Alloc<A = Global>>(rt: &R, names: &Names) -> Result<()> {
+    let copy = names.copy(rt.alloc())?;
+    show_names(rt, &copy)
 }
 
-/// Prints a copy of a point.
-fn show_point_copy<R: Print + Alloc<A = Global>>(rt: &R) -> Result<()> {
-    let alloc = rt.alloc();
-    let point = Point::make(vec![in alloc; 3, -4]?);
-    let copy = point.copy(alloc)?;
-    let numbers = copy.as_slice();
+/// Prints a point.
+fn show_numbers<R: Print>(rt: &R, point: &Point) -> Result<()> {
+    let numbers = point.as_slice();
     println!(rt; "problem point {numbers:?}")?;
     Ok(())
 }
 
+/// A point of two columns.
+fn point(alloc: Global) -> Result<Point, AllocError> {
+    let numbers = vec![in alloc; 3, -4]?;
+    Ok(Point::make(numbers))
+}
+
+/// Prints a copy of a point.
+fn show_point_copy<R: Print + Alloc<A = Global>>(rt: &R, point: &Point) -> Result<()> {
+    let copy = point.copy(rt.alloc())?;
+    show_numbers(rt, &copy)
+}
+
 /// Terms of which one has a coefficient of more than 64 bits.
-fn wide_terms(alloc: Global) -> Result<Terms> {
+fn wide_terms(alloc: Global) -> Result<Terms, AllocError> {
     let mut terms = Terms::make(alloc, &[(0, Frac::of(2)), (1, Frac::make(1, 2))])?;
     terms.push(2, Frac::of(1 << 70))?;
     Ok(terms)
 }
 
-/// Prints a copy of a row.
-fn show_row_copy<R: Print + Alloc<A = Global>>(rt: &R) -> Result<()> {
-    let row = Row {
+/// A row of these terms.
+fn wide_row(alloc: Global) -> Result<Row, AllocError> {
+    let terms = wide_terms(alloc)?;
+    Ok(Row {
         sense: Sense::L,
         rhs: Frac::of(4),
-        terms: wide_terms(rt.alloc())?,
-    };
+        terms,
+    })
+}
+
+/// Prints a copy of a row.
+fn show_row_copy<R: Print + Alloc<A = Global>>(rt: &R, row: &Row) -> Result<()> {
     let copy = row.copy(rt.alloc())?;
-    Ok(show_row(rt, &copy)?)
+    show_row(rt, &copy)
 }
 
 /// Prints what a problem says of a point.
@@ -72,35 +97,79 @@ fn show_point<R: Print>(rt: &R, problem: &Problem, point: &[i64]) -> io::Result<
     println!(rt; "problem point {point:?}: objective {value}, feasible {is_feasible}")
 }
 
-/// Prints the parts of a problem.
-fn show_parts<R: Print>(rt: &R, problem: &Problem) -> io::Result<()> {
-    show_names(rt, problem.names())?;
+/// Prints each row.
+fn show_rows<R: Print>(rt: &R, problem: &Problem) -> Result<()> {
     for index in 0..problem.rows() {
         show_row(rt, problem.row(index))?;
     }
+    Ok(())
+}
+
+/// Prints the objective.
+fn show_objective<R: Print>(rt: &R, problem: &Problem) -> io::Result<()> {
     let (objective, whole) = (
         Sum(problem.objective().as_slice()),
         problem.whole_objective(),
     );
-    println!(rt; "problem objective {objective}; whole {whole}")?;
+    println!(rt; "problem objective {objective}; whole {whole}")
+}
+
+/// Prints the box.
+fn show_root<R: Print>(rt: &R, problem: &Problem) -> io::Result<()> {
     let (columns, root) = (problem.columns(), Spans(problem.root()));
     println!(rt; "problem box {root}, columns {columns}")
 }
 
-/// Prints the parts of a problem, and what it says of points.
-fn show_problem<R: Print>(rt: &R, problem: &Problem) -> io::Result<()> {
-    show_parts(rt, problem)?;
+/// Prints what a problem says of three points.
+fn show_points<R: Print>(rt: &R, problem: &Problem) -> io::Result<()> {
     show_point(rt, problem, &[3, 1])?;
     show_point(rt, problem, &[2, 1])?;
     show_point(rt, problem, &[3, 4])
 }
 
+/// Prints the parts of a problem, and what it says of points.
+fn show_problem<R: Print>(rt: &R, problem: &Problem) -> Result<()> {
+    show_names(rt, problem.names())?;
+    show_rows(rt, problem)?;
+    show_objective(rt, problem)?;
+    show_root(rt, problem)?;
+    Ok(show_points(rt, problem)?)
+}
+
+/// Prints a copy of a problem.
+fn show_problem_copy<R: Print + Alloc<A = Global>>(rt: &R, problem: &Problem) -> Result<()> {
+    let copy = problem.copy(rt.alloc())?;
+    show_problem(rt, &copy)
+}
+
+/// Prints a copy of names that were made.
+fn show_some_names<R: Print + Alloc<A = Global>>(rt: &R) -> Result<()> {
+    let names = names(rt.alloc())?;
+    show_names_copy(rt, &names)
+}
+
+/// Prints a copy of a point that was made.
+fn show_some_point<R: Print + Alloc<A = Global>>(rt: &R) -> Result<()> {
+    let point = point(rt.alloc())?;
+    show_point_copy(rt, &point)
+}
+
+/// Prints a copy of a row that was made.
+fn show_some_row<R: Print + Alloc<A = Global>>(rt: &R) -> Result<()> {
+    let row = wide_row(rt.alloc())?;
+    show_row_copy(rt, &row)
+}
+
+/// Prints a copy of the problem that was read.
+fn show_model<R: Print + Alloc<A = Global>>(rt: &R) -> Result<()> {
+    let problem = problem_of(rt.alloc(), MODEL)?;
+    show_problem_copy(rt, &problem)
+}
+
 /// Prints the calls on problems and their parts.
 pub(crate) fn show<R: Print + Alloc<A = Global>>(rt: &R) -> Result<()> {
-    show_names_copy(rt)?;
-    show_point_copy(rt)?;
-    show_row_copy(rt)?;
-    let problem = problem_of(rt.alloc(), MODEL)?;
-    let copy = problem.copy(rt.alloc())?;
-    Ok(show_problem(rt, &copy)?)
+    show_some_names(rt)?;
+    show_some_point(rt)?;
+    show_some_row(rt)?;
+    show_model(rt)
 }

@@ -6,6 +6,7 @@ mod command;
 mod journals;
 mod models;
 mod runs;
+mod stops;
 mod workers;
 
 use anyhow::Result;

@@ -1,19 +1,20 @@
 //! Commands with several workers.
 
-use crate::command::{Answered, text_on, words_of};
+use crate::command::{Answered, Plan, Streams, answer_to, disk_of, streams_of, text_on};
 use crate::models::ODD;
 use anyhow::Result;
 use case_tools::Meeting;
 use node_events::Event;
 use outside::{Hold, MemDisk, MemSink, MemSource, NoHold};
-use solve_top::{Ran, State, run};
+use solve_top::{Ran, State, Words, run};
 use std::alloc::Global;
 use std::hash::{BuildHasherDefault, DefaultHasher};
+use std::io;
 use std::sync::Wait;
 use std::thread::Threads;
 
 /// How many entries of each kind a history has, and whether each node was split or closed by the worker that claimed it.
-#[derive(Drop)]
+#[derive(Clone, Copy)]
 struct Kinds {
     claims: u64,
     splits: u64,
@@ -86,79 +87,154 @@ fn kinds_of(state: &State) -> Kinds {
 /// What a command with workers answered, and what it left.
 #[derive(Drop)]
 struct Worked {
-    ran: Ran<MemDisk>,
+    status: u8,
+    disk: MemDisk,
     out: MemSink,
     cert: MemSink,
+    /// What its search did, if it had one.
+    kinds: Option<Kinds>,
 }
 
-/// Runs the command of these words, with its workers in threads.
-fn work<R: Threads + Wait + Sync, H: Hold + Sync>(
+/// What a search did that was handed back.
+fn kinds_in(last: &Option<State>) -> Option<Kinds> {
+    match last {
+        Some(state) => Some(kinds_of(state)),
+        None => None,
+    }
+}
+
+/// Runs a command with its workers in threads: its status, its disk, and what its search did.
+fn run_together<R: Threads + Wait + Sync, H: Hold + Sync>(
     rt: &R,
     alloc: Global,
-    line: &str,
-    model: &str,
+    words: &Words,
+    model: &mut MemSource,
+    disk: MemDisk,
+    cert: &mut MemSink,
+    out: &mut MemSink,
+    hold: &H,
+) -> (u8, MemDisk, Option<Kinds>) {
+    let keys: BuildHasherDefault<DefaultHasher> = BuildHasherDefault::new();
+    let Ran { status, disk, last } = run(rt, alloc, keys, words, model, disk, cert, out, hold);
+    (status, disk, kinds_in(&last))
+}
+
+/// What a command answers over these streams and this disk.
+fn answer<R: Threads + Wait + Sync, H: Hold + Sync>(
+    rt: &R,
+    alloc: Global,
+    streams: Streams,
     disk: MemDisk,
     hold: &H,
-) -> Result<Worked> {
-    let words = words_of(alloc, line)?;
-    let keys: BuildHasherDefault<DefaultHasher> = BuildHasherDefault::new();
-    let mut model = MemSource::new(alloc, model.as_bytes())?;
-    let (mut cert, mut out) = (MemSink::new(alloc), MemSink::new(alloc));
-    let ran = run(
-        rt, alloc, keys, &words, &mut model, disk, &mut cert, &mut out, hold,
+) -> Worked {
+    let Streams {
+        words,
+        mut model,
+        mut cert,
+        mut out,
+    } = streams;
+    let (status, disk, kinds) = run_together(
+        rt, alloc, &words, &mut model, disk, &mut cert, &mut out, hold,
     );
-    Ok(Worked { ran, out, cert })
+    Worked {
+        status,
+        disk,
+        out,
+        cert,
+        kinds,
+    }
+}
+
+/// What a command answers, with its workers in threads.
+fn work_on<R: Threads + Wait + Sync, H: Hold + Sync>(
+    rt: &R,
+    alloc: Global,
+    plan: &Plan<'_>,
+    hold: &H,
+) -> Result<Worked> {
+    let streams = streams_of(alloc, plan)?;
+    let disk = disk_of(alloc, plan)?;
+    Ok(answer(rt, alloc, streams, disk, hold))
 }
 
 /// Prints the status and the lines of a command.
 fn show_lines<R: Print>(rt: &R, line: &str, worked: &Worked) -> Result<()> {
-    let (status, lines) = (worked.ran.status, text_on(&worked.out));
+    let (status, lines) = (worked.status, text_on(&worked.out));
     println!(rt; "{line}: status {status}, lines {lines:?}")?;
     Ok(())
 }
 
 /// Prints the status and the first line of a command. How many nodes are open when a search is stopped depends on the order of its workers.
-fn show_answer<R: Print>(rt: &R, line: &str, worked: &Worked) -> Result<()> {
-    let status = worked.ran.status;
+fn show_first_line<R: Print>(rt: &R, line: &str, worked: &Worked) -> Result<()> {
+    let status = worked.status;
     let answer = text_on(&worked.out).lines().next().unwrap_or("");
     println!(rt; "{line}: status {status}, {answer}")?;
     Ok(())
 }
 
+/// Prints what a search did.
+fn show_some_kinds<R: Print>(rt: &R, kinds: &Kinds) -> io::Result<()> {
+    let (claims, splits, closes, others) = (kinds.claims, kinds.splits, kinds.closes, kinds.others);
+    print!(rt; "claims {claims}, splits {splits}, closes {closes}, others {others}, ")?;
+    let by_claimer = kinds.by_claimer;
+    println!(rt; "each node settled by the worker that claimed it {by_claimer}")
+}
+
 /// Prints what the search of a command did.
 fn show_kinds<R: Print>(rt: &R, worked: &Worked) -> Result<()> {
-    let Some(state) = &worked.ran.last else {
-        println!(rt; "no search")?;
-        return Ok(());
-    };
-    let Kinds {
-        claims,
-        splits,
-        closes,
-        others,
-        by_claimer,
-    } = kinds_of(state);
-    println!(rt;
-        "claims {claims}, splits {splits}, closes {closes}, others {others}, each node settled by the worker that claimed it {by_claimer}"
-    )?;
+    match &worked.kinds {
+        Some(kinds) => show_some_kinds(rt, kinds)?,
+        None => println!(rt; "no search")?,
+    }
+    Ok(())
+}
+
+/// The command of two workers that have to meet.
+const TOGETHER: &str = "solve m j c --cuts 0 --workers 2";
+
+/// Prints what two workers did, whether they met, and whether their certificate is that of one worker.
+fn show_met<R: Print>(rt: &R, worked: &Worked, met: bool, alone: &Answered) -> Result<()> {
+    show_lines(rt, TOGETHER, worked)?;
+    show_kinds(rt, worked)?;
+    let same = worked.cert.bytes() == alone.cert.bytes();
+    println!(rt; "the workers met {met}, the certificate is that of one worker {same}")?;
     Ok(())
 }
 
 /// Two workers that have to meet, and the certificate that one worker writes.
-fn show_two<R: Threads + Wait + Sync + Print + Alloc<A = Global>>(rt: &R) -> Result<()> {
-    let alloc = rt.alloc();
-    let alone = Answered::usual(alloc, "solve m j c --cuts 0", ODD, MemDisk::new(alloc))?;
+fn show_two<R: Threads + Wait + Sync + Print + Alloc<A = Global>>(
+    rt: &R,
+    alone: &Answered,
+) -> Result<()> {
     let meeting = Meeting::new();
-    let line = "solve m j c --cuts 0 --workers 2";
-    let worked = work(rt, alloc, line, ODD, MemDisk::new(alloc), &meeting)?;
-    show_lines(rt, line, &worked)?;
-    show_kinds(rt, &worked)?;
-    let (met, same) = (
-        meeting.took_place(),
-        worked.cert.bytes() == alone.cert.bytes(),
-    );
-    println!(rt; "the workers met {met}, the certificate is that of one worker {same}")?;
-    Ok(())
+    let worked = work_on(rt, rt.alloc(), &Plan::new(TOGETHER, ODD), &meeting)?;
+    show_met(rt, &worked, meeting.took_place(), alone)
+}
+
+/// One worker, and two that have to meet.
+fn show_meeting<R: Threads + Wait + Sync + Print + Alloc<A = Global>>(rt: &R) -> Result<()> {
+    let alone = answer_to(rt.alloc(), &Plan::new("solve m j c --cuts 0", ODD))?;
+    show_two(rt, &alone)
+}
+
+/// Prints the lines of a command.
+fn show_command<R: Threads + Wait + Sync + Print + Alloc<A = Global>>(
+    rt: &R,
+    plan: &Plan<'_>,
+) -> Result<()> {
+    let worked = work_on(rt, rt.alloc(), plan, &NoHold)?;
+    show_lines(rt, plan.line, &worked)
+}
+
+/// Goes on with a search that was stopped.
+fn show_resumed<R: Threads + Wait + Sync + Print + Alloc<A = Global>>(
+    rt: &R,
+    first: &str,
+    stopped: &Worked,
+    second: &str,
+) -> Result<()> {
+    show_first_line(rt, first, stopped)?;
+    show_command(rt, &Plan::over(second, "", stopped.disk.bytes()))
 }
 
 /// A search that is stopped with some workers, and gone on with by others.
@@ -167,27 +243,24 @@ fn show_stopped<R: Threads + Wait + Sync + Print + Alloc<A = Global>>(
     first: &str,
     second: &str,
 ) -> Result<()> {
-    let alloc = rt.alloc();
-    let stopped = work(rt, alloc, first, ODD, MemDisk::new(alloc), &NoHold)?;
-    show_answer(rt, first, &stopped)?;
-    let Worked {
-        ran,
-        out: _,
-        cert: _,
-    } = stopped;
-    let Ran {
-        status: _,
-        disk,
-        last: _,
-    } = ran;
-    let resumed = work(rt, alloc, second, "", disk, &NoHold)?;
-    show_lines(rt, second, &resumed)
+    let stopped = work_on(rt, rt.alloc(), &Plan::new(first, ODD), &NoHold)?;
+    show_resumed(rt, first, &stopped, second)
 }
+
+/// Commands by some workers, by none and by too many, and one that takes no number of workers.
+const COMMANDS: [&str; 7] = [
+    "solve m j c --workers 16",
+    "drill 1 c --cuts 0 --workers 1",
+    "drill 1 c --cuts 0 --workers 2",
+    "drill 1 c --cuts 0 --workers 4",
+    "solve m j c --workers 0",
+    "solve m j c --workers 17",
+    "show j --workers 2",
+];
 
 /// Prints commands with several workers.
 pub(crate) fn show<R: Threads + Wait + Sync + Print + Alloc<A = Global>>(rt: &R) -> Result<()> {
-    let alloc = rt.alloc();
-    show_two(rt)?;
+    show_meeting(rt)?;
     show_stopped(
         rt,
         "solve m j c --cuts 0 --nodes 3 --workers 4",
@@ -198,17 +271,8 @@ pub(crate) fn show<R: Threads + Wait + Sync + Print + Alloc<A = Global>>(rt: &R)
         "solve m j c --cuts 0 --nodes 3",
         "resume j c --cuts 0 --workers 4",
     )?;
-    for line in [
-        "solve m j c --workers 16",
-        "drill 1 c --cuts 0 --workers 1",
-        "drill 1 c --cuts 0 --workers 2",
-        "drill 1 c --cuts 0 --workers 4",
-        "solve m j c --workers 0",
-        "solve m j c --workers 17",
-        "show j --workers 2",
-    ] {
-        let worked = work(rt, alloc, line, ODD, MemDisk::new(alloc), &NoHold)?;
-        show_lines(rt, line, &worked)?;
+    for line in &COMMANDS {
+        show_command(rt, &Plan::new(line, ODD))?;
     }
     Ok(())
 }

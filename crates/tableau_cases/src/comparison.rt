@@ -2,9 +2,9 @@
 
 use crate::ends::{End, fraction_end, integer_end, scaled_end};
 use crate::programs::random_program;
-use anyhow::{Result, bail};
+use anyhow::Result;
 use problem::Problem;
-use std::alloc::Global;
+use std::alloc::{AllocError, Global};
 use std::io;
 use tableau::{LinearProgram, Place};
 
@@ -61,23 +61,68 @@ fn differ(other: &Option<End>, fractions: &Option<End>) -> bool {
     }
 }
 
+impl Counts {
+    /// Nothing is counted.
+    fn none() -> Counts {
+        Counts {
+            integers: Tally::none(),
+            scaled: Tally::none(),
+            fractions: Tally::none(),
+            differ: 0,
+        }
+    }
+
+    /// Counts the ends of one program's runs.
+    fn count(&mut self, integers: &Option<End>, scaled: &Option<End>, fractions: &Option<End>) {
+        self.integers.count(integers);
+        self.scaled.count(scaled);
+        self.fractions.count(fractions);
+        if differ(integers, fractions) || differ(scaled, fractions) {
+            self.differ = self.differ.saturating_add(1);
+        }
+    }
+}
+
+/// The end of a problem's linear program over its box, on whole numbers.
+fn on_integers(alloc: Global, problem: &Problem) -> Result<Option<End>> {
+    let program = LinearProgram::of(alloc, problem, problem.root())?;
+    integer_end(alloc, &program, problem.root(), PIVOTS)
+}
+
+/// The end of a problem's linear program over its box, on scaled numbers.
+fn on_scaled(alloc: Global, problem: &Problem) -> Result<Option<End>> {
+    let program = LinearProgram::of(alloc, problem, problem.root())?;
+    scaled_end(alloc, &program, problem.root(), PIVOTS)
+}
+
+/// The end of a problem's linear program over its box, on fractions.
+fn on_fractions(alloc: Global, problem: &Problem) -> Result<Option<End>, AllocError> {
+    let program = LinearProgram::of(alloc, problem, problem.root())?;
+    fraction_end(alloc, program, PIVOTS)
+}
+
 /// Solves a problem's linear program over its box in each form, and counts how that ends.
 fn compare(alloc: Global, counts: &mut Counts, problem: &Problem) -> Result<()> {
-    let area = problem.root();
-    let program = LinearProgram::of(alloc, problem, area)?;
-    if area.len() != program.columns() {
-        bail!("a linear program of other columns");
-    }
-    let integers = integer_end(alloc, &program, area, PIVOTS)?;
-    let scaled = scaled_end(alloc, &program, area, PIVOTS)?;
-    let fractions = fraction_end(alloc, program, PIVOTS)?;
-    counts.integers.count(&integers);
-    counts.scaled.count(&scaled);
-    counts.fractions.count(&fractions);
-    if differ(&integers, &fractions) || differ(&scaled, &fractions) {
-        counts.differ = counts.differ.saturating_add(1);
-    }
+    let integers = on_integers(alloc, problem)?;
+    let scaled = on_scaled(alloc, problem)?;
+    let fractions = on_fractions(alloc, problem)?;
+    counts.count(&integers, &scaled, &fractions);
     Ok(())
+}
+
+/// Compares the forms on the random program of a seed.
+fn compare_random(alloc: Global, counts: &mut Counts, seed: u32) -> Result<()> {
+    let problem = random_program(alloc, seed)?;
+    compare(alloc, counts, &problem)
+}
+
+/// Compares the forms on so many random programs.
+fn compared(alloc: Global, programs: u32) -> Result<Counts> {
+    let mut counts = Counts::none();
+    for seed in 0..programs {
+        compare_random(alloc, &mut counts, seed)?;
+    }
+    Ok(counts)
 }
 
 /// Prints how often each end came; `neither` says what the other runs were.
@@ -94,16 +139,7 @@ fn show_tally<R: Print>(rt: &R, form: &str, tally: Tally, neither: &str) -> io::
 
 /// Solves so many random programs in each form, and prints how often each end came, and how often the forms differed.
 pub(crate) fn show<R: Print + Alloc<A = Global>>(rt: &R, programs: u32) -> Result<()> {
-    let mut counts = Counts {
-        integers: Tally::none(),
-        scaled: Tally::none(),
-        fractions: Tally::none(),
-        differ: 0,
-    };
-    for seed in 0..programs {
-        let problem = random_program(rt.alloc(), seed)?;
-        compare(rt.alloc(), &mut counts, &problem)?;
-    }
+    let counts = compared(rt.alloc(), programs)?;
     show_tally(rt, "whole numbers", counts.integers, "given up")?;
     show_tally(rt, "scaled numbers", counts.scaled, "given up")?;
     show_tally(rt, "fractions", counts.fractions, "cramped")?;

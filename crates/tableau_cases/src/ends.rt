@@ -1,9 +1,9 @@
 // How runs of the dual simplex end, in each form of the tableau.
 
-ghost use Rattle.std.specs.Prelude.{◌≡◌, IfSome, length};
+ghost use Rattle.std.specs.Prelude.{◌≡◌, IfOk, IfSome, length};
 ghost use Rattle.tableau.specs.Place.{PlaceIsWithin};
 
-use anyhow::Result;
+use anyhow::{Result, bail};
 use fraction::{Frac, same};
 use integer_tableau::{IntegerProgram, IntegerRunEnd, IntegerTableau};
 use problem::{Term, Terms};
@@ -22,61 +22,112 @@ pub(crate) struct End {
     pub(crate) multipliers: Terms,
 }
 
+/// The multipliers of a tableau on fractions at this place.
+fn fraction_multipliers(alloc: Global, tableau: &Tableau, place: Place) -> Result<Terms, AllocError>
+    requires { PlaceIsWithin (length tableau.now.statuses) place }
+{
+    match place {
+        Place::NoColumn { row } => tableau.mult_of_row(alloc, row),
+        _ => tableau.mult_of_cost(alloc),
+    }
+}
+
+/// The end of a run on fractions, of at most so many pivots, from the start.
+fn fraction_run(
+    alloc: Global,
+    tableau: &mut Tableau,
+    pivots: u32,
+) -> Result<Option<End>, AllocError>
+    requires { tableau.old.pivots ≡ 0 }
+{
+    let place = tableau.run(alloc, u64::from(pivots))?;
+    let multipliers = fraction_multipliers(alloc, tableau, place)?;
+    let point = tableau.point(alloc)?;
+    Ok(Some(End {
+        place,
+        pivots: tableau.pivots(),
+        point,
+        multipliers,
+    }))
+}
+
 /// The end of a run of at most so many pivots on fractions; none where its start is cramped.
 pub(crate) fn fraction_end(
     alloc: Global,
     program: LinearProgram,
     pivots: u32,
 ) -> Result<Option<End>, AllocError> {
-    let Some(mut tableau) = Tableau::start(alloc, program)? else {
-        return Ok(None);
-    };
-    let place = tableau.run(alloc, u64::from(pivots))?;
-    let multipliers = match place {
-        Place::NoColumn { row } => tableau.mult_of_row(alloc, row)?,
-        _ => tableau.mult_of_cost(alloc)?,
-    };
+    match Tableau::start(alloc, program)? {
+        Some(mut tableau) => fraction_run(alloc, &mut tableau, pivots),
+        None => Ok(None),
+    }
+}
+
+/// The multipliers of a tableau on whole numbers at this place.
+fn integer_multipliers(
+    alloc: Global,
+    tableau: &IntegerTableau,
+    place: Place,
+) -> Result<Terms, AllocError>
+    requires { PlaceIsWithin (length tableau.now.statuses) place }
+{
+    match place {
+        Place::NoColumn { row } => tableau.mult_of_row(alloc, row),
+        _ => tableau.mult_of_cost(alloc),
+    }
+}
+
+/// The end of a run on whole numbers that left this tableau at this place.
+fn end_at(alloc: Global, tableau: &IntegerTableau, place: Place) -> Result<Option<End>, AllocError>
+    requires { PlaceIsWithin (length tableau.now.statuses) place }
+{
+    let multipliers = integer_multipliers(alloc, tableau, place)?;
+    let point = tableau.point(alloc)?;
     Ok(Some(End {
         place,
         pivots: tableau.pivots(),
-        point: tableau.point(alloc)?,
+        point,
         multipliers,
     }))
 }
 
 /// The end on whole numbers, where the run came to one. The one error is want of memory.
-fn end_of(alloc: Global, run: Option<IntegerRunEnd>) -> Result<Option<End>, AllocError>
-    requires { IfSome run (λ e. PlaceIsWithin (length e.tableau.statuses) e.place) }
+fn end_of(alloc: Global, run: Result<IntegerRunEnd, u64>) -> Result<Option<End>, AllocError>
+    requires { IfOk run (λ e. PlaceIsWithin (length e.tableau.statuses) e.place) }
 {
-    let Some(IntegerRunEnd { place, tableau }) = run else {
-        return Ok(None);
-    };
-    let multipliers = match place {
-        Place::NoColumn { row } => tableau.mult_of_row(alloc, row)?,
-        _ => tableau.mult_of_cost(alloc)?,
-    };
-    Ok(Some(End {
-        place,
-        pivots: tableau.pivots(),
-        point: tableau.point(alloc)?,
-        multipliers,
-    }))
+    match run {
+        Ok(end) => end_at(alloc, &end.tableau, end.place),
+        Err(_) => Ok(None),
+    }
 }
 
-/// The end of a run of at most so many pivots on whole numbers; none where it is given up.
+/// The tableau on whole numbers at its start; none where it is given up.
+fn integer_start(
+    alloc: Global,
+    program: &LinearProgram,
+    area: &IntBox,
+) -> Result<Option<IntegerTableau>, AllocError>
+    requires { length area.now ≡ length program.now.costs }
+    ensures { IfOk result (λ o. IfSome o (λ t. t.pivots ≡ 0)) }
+{
+    match IntegerProgram::of(alloc, program)? {
+        Some(program) => IntegerTableau::start(alloc, &program, area),
+        None => Ok(None),
+    }
+}
+
+/// The end of a run of at most so many pivots on whole numbers; none where it is given up. A box of other columns is an error.
 pub(crate) fn integer_end(
     alloc: Global,
     program: &LinearProgram,
     area: &IntBox,
     pivots: u32,
-) -> Result<Option<End>, AllocError>
-    requires { length area.now ≡ length program.now.costs }
-{
-    let Some(program) = IntegerProgram::of(alloc, program)? else {
-        return Ok(None);
-    };
-    match IntegerTableau::start(alloc, &program, area)? {
-        Some(start) => end_of(alloc, start.run(u64::from(pivots)).ok()),
+) -> Result<Option<End>> {
+    if area.len() != program.columns() {
+        bail!("a linear program of other columns");
+    }
+    match integer_start(alloc, program, area)? {
+        Some(start) => Ok(end_of(alloc, start.run(u64::from(pivots)))?),
         None => Ok(None),
     }
 }

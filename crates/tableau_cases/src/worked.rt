@@ -6,6 +6,7 @@ use case_tools::{Sum, problem_of};
 use fraction::Frac;
 use problem::{Problem, Row, Sense, Terms};
 use std::alloc::Global;
+use std::io;
 use tableau::LinearProgram;
 
 /// Minimise x where 2x >= 3, x from 0 to 5.
@@ -25,78 +26,159 @@ const HALF: &[u8] =
 const DECIMALS: &[u8] =
     b"ROWS\n N o\n L r\n L s\nCOLUMNS\n m 'MARKER' 'INTORG'\n x o -1.5 r 0.4\n x s 0.25\n y o -2 r 0.2\n y s 0.5\nRHS\n r 0.8 s 1.5\nBOUNDS\n UP x 3\n UP y 3\nENDATA\n";
 
-/// The linear program of a problem over its box, with the cut x >= 2 behind its rows if that is asked for.
-fn program_of(alloc: Global, problem: &Problem, with_cut: bool) -> Result<LinearProgram> {
-    let mut program = LinearProgram::of(alloc, problem, problem.root())?;
+/// A program with its name, whether the cut x >= 2 stands behind its row, and how many pivots its runs make at most.
+type Case = (&'static str, &'static [u8], bool, u32);
+
+/// A row, that row and its cut up to the first pivot and to the end, two programs without a point, of which the second has a coefficient that isn't
+/// whole, and one with decimals in the objective and in each row.
+const CASES: [Case; 6] = [
+    ("2x >= 3", ROW, false, 140),
+    ("2x >= 3 and x >= 2, one pivot", ROW, true, 1),
+    ("2x >= 3 and x >= 2", ROW, true, 160),
+    ("2x + 2y = 3, x = 0", NO_COLUMN, false, 160),
+    ("x/2 >= 3", HALF, false, 140),
+    (
+        "0.4x + 0.2y <= 0.8 and x/4 + y/2 <= 1.5",
+        DECIMALS,
+        false,
+        180,
+    ),
+];
+
+/// Puts the cut x >= 2 behind the rows of a program.
+fn add_cut(alloc: Global, program: &mut LinearProgram) -> Result<()> {
     if program.rows() > 1_000 || program.columns() > 1_000 {
         bail!("a linear program that is large");
     }
+    let terms = Terms::make(alloc, &[(0, Frac::of(1))])?;
+    let cut = Row {
+        sense: Sense::G,
+        rhs: Frac::of(2),
+        terms,
+    };
+    Ok(program.add_cut(alloc, &cut)?)
+}
+
+/// The linear program of a problem over its box, with the cut behind its rows if that is asked for.
+fn program_of(alloc: Global, problem: &Problem, with_cut: bool) -> Result<LinearProgram> {
+    let mut program = LinearProgram::of(alloc, problem, problem.root())?;
     if with_cut {
-        let cut = Row {
-            sense: Sense::G,
-            rhs: Frac::of(2),
-            terms: Terms::make(alloc, &[(0, Frac::of(1))])?,
-        };
-        program.add_cut(alloc, &cut)?;
+        add_cut(alloc, &mut program)?;
     }
     Ok(program)
 }
 
-/// Prints how a run ends: what the tableau asks for, the values of the columns, and the multipliers of the rows.
-fn show_end<R: Print>(rt: &R, run: &str, end: &Option<End>) -> Result<()> {
-    let Some(end) = end else {
-        println!(rt; "tableau {run}: given up")?;
-        return Ok(());
-    };
-    let (place, pivots) = (end.place, end.pivots);
-    print!(rt; "tableau {run}: {place:?} after {pivots} pivots, at")?;
-    for number in &end.point {
+/// Prints the values of the columns.
+fn show_point<R: Print>(rt: &R, point: &[Frac]) -> io::Result<()> {
+    for number in point {
         print!(rt; " {number}")?;
     }
-    let multipliers = Sum(end.multipliers.as_slice());
-    println!(rt; ", by {multipliers}")?;
     Ok(())
 }
 
-/// Prints how runs of at most so many pivots end, on whole numbers, on scaled ones and on fractions.
-fn show_ends<R: Print + Alloc<A = Global>>(
+/// Prints what the tableau asks for at an end, the values of the columns, and the multipliers of the rows.
+fn show_some<R: Print>(rt: &R, run: &str, end: &End) -> io::Result<()> {
+    let (place, pivots) = (end.place, end.pivots);
+    print!(rt; "tableau {run}: {place:?} after {pivots} pivots, at")?;
+    show_point(rt, &end.point)?;
+    let multipliers = Sum(end.multipliers.as_slice());
+    println!(rt; ", by {multipliers}")
+}
+
+/// Prints how a run ends.
+fn show_end<R: Print>(rt: &R, run: &str, end: &Option<End>) -> Result<()> {
+    match end {
+        Some(end) => show_some(rt, run, end)?,
+        None => println!(rt; "tableau {run}: given up")?,
+    }
+    Ok(())
+}
+
+/// The end of a run on whole numbers.
+fn on_integers(
+    alloc: Global,
+    problem: &Problem,
+    with_cut: bool,
+    pivots: u32,
+) -> Result<Option<End>> {
+    let program = program_of(alloc, problem, with_cut)?;
+    integer_end(alloc, &program, problem.root(), pivots)
+}
+
+/// The end of a run on scaled numbers.
+fn on_scaled(alloc: Global, problem: &Problem, with_cut: bool, pivots: u32) -> Result<Option<End>> {
+    let program = program_of(alloc, problem, with_cut)?;
+    scaled_end(alloc, &program, problem.root(), pivots)
+}
+
+/// The end of a run on fractions.
+fn on_fractions(
+    alloc: Global,
+    problem: &Problem,
+    with_cut: bool,
+    pivots: u32,
+) -> Result<Option<End>> {
+    let program = program_of(alloc, problem, with_cut)?;
+    Ok(fraction_end(alloc, program, pivots)?)
+}
+
+/// Prints how a run on whole numbers ends.
+fn show_integers<R: Print + Alloc<A = Global>>(
     rt: &R,
-    text: &[u8],
+    problem: &Problem,
     with_cut: bool,
     pivots: u32,
 ) -> Result<()> {
-    let alloc = rt.alloc();
-    let problem = problem_of(alloc, text)?;
-    let program = program_of(alloc, &problem, with_cut)?;
-    if problem.root().len() != program.columns() {
-        bail!("a linear program of other columns");
-    }
-    let end = integer_end(alloc, &program, problem.root(), pivots)?;
-    show_end(rt, "on whole numbers", &end)?;
-    let end = scaled_end(alloc, &program, problem.root(), pivots)?;
-    show_end(rt, "on scaled numbers", &end)?;
-    let end = fraction_end(alloc, program, pivots)?;
+    let end = on_integers(rt.alloc(), problem, with_cut, pivots)?;
+    show_end(rt, "on whole numbers", &end)
+}
+
+/// Prints how a run on scaled numbers ends.
+fn show_scaled<R: Print + Alloc<A = Global>>(
+    rt: &R,
+    problem: &Problem,
+    with_cut: bool,
+    pivots: u32,
+) -> Result<()> {
+    let end = on_scaled(rt.alloc(), problem, with_cut, pivots)?;
+    show_end(rt, "on scaled numbers", &end)
+}
+
+/// Prints how a run on fractions ends.
+fn show_fractions<R: Print + Alloc<A = Global>>(
+    rt: &R,
+    problem: &Problem,
+    with_cut: bool,
+    pivots: u32,
+) -> Result<()> {
+    let end = on_fractions(rt.alloc(), problem, with_cut, pivots)?;
     show_end(rt, "on fractions", &end)
 }
 
-/// Prints the runs of a row, of a row and its cut up to the first pivot and to the end, of two programs without a point, of which the second has
-/// a coefficient that isn't whole, and of one with decimals in the objective and in each row.
+/// Prints how the runs of a problem end in each form.
+fn show_all<R: Print + Alloc<A = Global>>(
+    rt: &R,
+    problem: &Problem,
+    with_cut: bool,
+    pivots: u32,
+) -> Result<()> {
+    show_integers(rt, problem, with_cut, pivots)?;
+    show_scaled(rt, problem, with_cut, pivots)?;
+    show_fractions(rt, problem, with_cut, pivots)
+}
+
+/// Prints a case.
+fn show_case<R: Print + Alloc<A = Global>>(rt: &R, case: &Case) -> Result<()> {
+    let (title, text, with_cut, pivots) = *case;
+    println!(rt; "tableau of {title}")?;
+    let problem = problem_of(rt.alloc(), text)?;
+    show_all(rt, &problem, with_cut, pivots)
+}
+
+/// Prints each case.
 pub(crate) fn show<R: Print + Alloc<A = Global>>(rt: &R) -> Result<()> {
-    for (title, text, with_cut, pivots) in [
-        ("2x >= 3", ROW, false, 140),
-        ("2x >= 3 and x >= 2, one pivot", ROW, true, 1),
-        ("2x >= 3 and x >= 2", ROW, true, 160),
-        ("2x + 2y = 3, x = 0", NO_COLUMN, false, 160),
-        ("x/2 >= 3", HALF, false, 140),
-        (
-            "0.4x + 0.2y <= 0.8 and x/4 + y/2 <= 1.5",
-            DECIMALS,
-            false,
-            180,
-        ),
-    ] {
-        println!(rt; "tableau of {title}")?;
-        show_ends(rt, text, with_cut, pivots)?;
+    for case in &CASES {
+        show_case(rt, case)?;
     }
     Ok(())
 }
