@@ -34,7 +34,7 @@ impl Model for Combination {
 
 /// The number, where it is whole and has 64 bits.
 #[inline(always)]
-fn short(number: Frac) -> Option<i64>
+pub(crate) fn short(number: Frac) -> Option<i64>
     ensures { IfSome result (λ z. number ≡ whole z) }
 {
     if !number.is_whole() {
@@ -90,11 +90,7 @@ pub(crate) fn with_product(total: Frac, factor: Frac, number: Frac) -> Option<Fr
 pub(crate) fn zeros(alloc: Global, count: usize) -> Result<Vec<Frac>, AllocError>
     ensures { IfOk result (λ v. v.items ≡ replicate count (whole (pos 0))) }
 {
-    let mut items = Vec::with_capacity(alloc, count)?;
-    for _ in 0..count {
-        items.push(Frac::of(0))?;
-    }
-    Ok(items)
+    vec![in alloc; Frac::of(0); count]
 }
 
 /// Adds a multiple of one term, if its column is there. Where that is cramped the answer is false.

@@ -1,6 +1,6 @@
 //! The price of a combination.
 
-ghost use Rattle.std.specs.Prelude.{◌≡◌, ◌<◌, ◌≤◌, ◌+◌, ℕ, pos, IfOk, IfSome, IsSome, All, length, map, drop, slice_index_or, Some};
+ghost use Rattle.std.specs.Prelude.{◌≡◌, ◌<◌, ◌≤◌, ◌^◌, ◌+◌, ◌-ℤ◌, ℕ, pos, nat_abs, IfOk, IfSome, IsSome, All, length, map, drop, slice_index_or, Some};
 ghost use Rattle.fraction.specs.Rational.{whole, ◌+ℚ◌, neg_ℚ};
 ghost use Rattle.fraction.specs.Checked.{sub_checked};
 ghost use Rattle.problem.specs.Linear.{coefficient};
@@ -12,7 +12,7 @@ ghost use Rattle.derivation_book.specs.Price.{with_bound, with_reduced_cost, wit
 ghost use Rattle.derivation_book.specs.Sizes.{denominator_limit};
 
 use crate::book::Book;
-use crate::combination::{Combination, with_product, with_short_product};
+use crate::combination::{Combination, short, with_product, with_short_product};
 use fraction::Frac;
 use node_events::Mult;
 use problem::{Problem, Term};
@@ -79,12 +79,32 @@ fn with_short_bound(total: Frac, left: Frac, span: Span) -> Option<Frac>
     with_short_product(total, left, Frac::of(bound as i128))
 }
 
+/// The difference of two numbers of 64 bits, which needs no test.
+#[inline(always)]
+fn short_difference(wanted: i64, combined: i64) -> i128
+    ensures value { result ≡ wanted -ℤ combined }
+    ensures small { nat_abs result < 2 ^ 127 }
+{
+    i128::from(wanted) - i128::from(combined)
+}
+
+/// What a number leaves of another, likewise.
+#[inline(always)]
+fn short_left(wanted: Frac, combined: Frac) -> Option<Frac>
+    ensures { IfSome result (λ r. sub_checked wanted combined ≡ Some r) }
+{
+    match (short(wanted), short(combined)) {
+        (Some(wanted), Some(combined)) => Some(Frac::of(short_difference(wanted, combined))),
+        _ => None,
+    }
+}
+
 /// As `with_reduced_cost`, likewise.
 #[inline(always)]
 fn with_short_cost(total: Frac, wanted: Frac, combined: Frac, span: Span) -> Option<Frac>
     ensures { IfSome result (λ t. with_reduced_cost total wanted combined span ≡ Some t) }
 {
-    let left = wanted.sub(combined)?;
+    let left = short_left(wanted, combined)?;
     with_short_bound(total, left, span)
 }
 
