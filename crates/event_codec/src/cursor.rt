@@ -1,6 +1,7 @@
 //! A reader of fields, from left to right.
 
-ghost use Rattle.std.specs.Prelude.{◌≡◌};
+ghost use Rattle.std.specs.Prelude.{◌≡◌, ◌<◌, ◌^◌, length};
+ghost use Rattle.std.specs.Int.{w64, w128, from_le_bytes};
 ghost use Rattle.event_codec.specs.Places.{beginning};
 ghost use Rattle.event_codec.specs.ReadResults.{Reads};
 ghost use Rattle.event_codec.specs.Reading.{bytes_at, byte_at, u32_at, i64_at, i128_at, flag_at};
@@ -28,12 +29,44 @@ impl<'a> Model for Cursor<'a> {
     ghost invariant = { λ c. c.at + length c.rest.now < 2 ^ 64 };
 }
 
+/// The number of 8 bytes.
+#[inline(always)]
+fn word(bytes: &[u8]) -> u64
+    requires { length bytes.now ≡ 8 }
+    ensures value { result ≡ from_le_bytes w64 bytes.now }
+    ensures small { result < 2 ^ 64 }
+{
+    let mut word = [0; 8];
+    word.copy_from_slice(bytes);
+    u64::from_le_bytes(word)
+}
+
+/// The number of 16 bytes, by its halves: each is loaded as one word, where 16 bytes would be loaded in pieces.
+#[inline(always)]
+fn two_words(bytes: &[u8]) -> u128
+    requires { length bytes.now ≡ 16 }
+    ensures { result ≡ from_le_bytes w128 bytes.now }
+{
+    let (low, high) = bytes.split_at(8);
+    u128::from(word(low)) + u128::from(word(high)) * (1 << 64)
+}
+
 impl<'a> Cursor<'a> {
     /// The first place.
     pub(crate) fn new(bytes: &'a [u8]) -> Cursor<'a>
         ensures { result ≡ beginning bytes.now }
     {
         Cursor { at: 0, rest: bytes }
+    }
+
+    /// A second cursor at the same place.
+    pub(crate) fn again(&self) -> Cursor<'a>
+        ensures { result ≡ self.now }
+    {
+        Cursor {
+            at: self.at,
+            rest: self.rest,
+        }
     }
 
     /// How many bytes were read.
@@ -91,11 +124,18 @@ impl<'a> Cursor<'a> {
     }
 
     /// A signed number of 128 bits.
-    #[tactic(auto, unfolding(crate::specs::Reading::i128_at))]
+    #[tactic(auto, unfolding(crate::specs::Reading::bytes_at, crate::specs::Reading::i128_at))]
     pub(crate) fn i128(&mut self) -> Result<i128, CodecFault>
         ensures { Reads result self.new (i128_at self.old) }
     {
-        Ok(i128::from_le_bytes(self.bytes()?))
+        if self.rest.len() < 16 {
+            return Err(CodecFault::Short { at: self.at });
+        }
+        let (front, rest) = self.rest.split_at(16);
+        let number = two_words(front).cast_signed();
+        self.at += 16;
+        self.rest = rest;
+        Ok(number)
     }
 
     /// A flag: 0 is false, and 1 is true.

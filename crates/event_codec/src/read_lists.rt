@@ -1,14 +1,14 @@
 //! Readers of fractions and of lists.
 
-ghost use Rattle.std.specs.Prelude.{◌≡◌, ◌<◌, ◌^◌, nat_abs, if◌then◌else◌};
+ghost use Rattle.std.specs.Prelude.{◌≡◌, ◌<◌, ◌^◌, nat_abs, Ok, IfOk, IfErr, IfSome, if◌then◌else◌};
 ghost use Rattle.fraction.specs.Rational.{frac};
 ghost use Rattle.fraction.specs.Checked.{is_small};
-ghost use Rattle.event_codec.specs.ReadResults.{Reads, ReadsUnlessMemory, ReadsList};
+ghost use Rattle.event_codec.specs.ReadResults.{Reads, ReadsUnlessMemory, ReadsList, Fails};
 ghost use Rattle.event_codec.specs.Reading.{is_lowest, is_factor, denominator_at, fraction_at, i64_at, elements_at, point_at, rational_point_at, factor_at, factors_at, mult_at};
 
 use crate::cursor::Cursor;
 use crate::fault::{CodecError, CodecFault};
-use fraction::Frac;
+use fraction::{Frac, NarrowFrac};
 use node_events::{Mult, RationalPoint};
 use problem::{Point, Terms};
 use std::alloc::Global;
@@ -118,7 +118,29 @@ fn fractions(alloc: Global, count: u32, cursor: &mut Cursor<'_>) -> Result<Vec<F
     Ok(numbers)
 }
 
-/// A point of fractions.
+/// So many fractions of 64 bits; none where one is larger, and the cursor is then of no more use.
+fn narrow_fractions(
+    alloc: Global,
+    count: u32,
+    cursor: &mut Cursor<'_>,
+) -> Result<Option<Vec<NarrowFrac>>, CodecError>
+    ensures some { IfOk result (λ o. IfSome o (λ v. elements_at (fraction_at is_small) count cursor.old ≡ Ok (v.items, cursor.new))) }
+    ensures err { IfErr result (λ e. Fails e (elements_at (fraction_at is_small) count cursor.old)) }
+{
+    // Room for no more numbers than there are bytes for.
+    let room = (cursor.rest().len() / FRACTION_BYTES).min(count as usize);
+    let mut numbers = Vec::with_capacity(alloc, room)?;
+    for _ in 0..count {
+        let number = fraction(cursor)?;
+        match number.narrow() {
+            Some(number) => numbers.push(number)?,
+            None => return Ok(None),
+        }
+    }
+    Ok(Some(numbers))
+}
+
+/// A point of fractions. Nearly all are of 64 bits, and need no second form.
 #[tactic(auto, unfolding(crate::specs::Reading::rational_point_at))]
 pub(crate) fn rational_point(
     alloc: Global,
@@ -127,6 +149,11 @@ pub(crate) fn rational_point(
     ensures { ReadsUnlessMemory result cursor.new (rational_point_at cursor.old) }
 {
     let count = cursor.u32()?;
+    let mut front = cursor.again();
+    if let Some(numbers) = narrow_fractions(alloc, count, &mut front)? {
+        *cursor = front;
+        return Ok(RationalPoint::of_narrow(alloc, numbers)?);
+    }
     let numbers = fractions(alloc, count, cursor)?;
     Ok(RationalPoint::make(alloc, numbers)?)
 }

@@ -66,6 +66,15 @@ impl RationalPoint {
         })
     }
 
+    /// The point of these numbers of 64 bits, column 0 first. The one error is want of memory.
+    pub fn of_narrow(alloc: Global, numbers: Vec<NarrowFrac>) -> Result<RationalPoint, AllocError>
+        ensures { IfOk result (λ p. p ≡ numbers.items) }
+    {
+        Ok(RationalPoint {
+            numbers: Box::new(alloc, Numbers::Narrow(numbers))?,
+        })
+    }
+
     /// How many columns it has.
     pub fn len(&self) -> usize
         ensures { result ≡ length self.now }
