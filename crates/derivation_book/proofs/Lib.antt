@@ -3,3 +3,4 @@ mod Leaving
 mod Worked
 mod WholeSums
 mod IntegerPrice
+mod ShortProducts

@@ -1,6 +1,6 @@
 //! The price of a combination.
 
-ghost use Rattle.std.specs.Prelude.{◌≡◌, ◌<◌, ◌≤◌, ◌+◌, ℕ, pos, IfOk, IsSome, All, length, map, drop, slice_index_or};
+ghost use Rattle.std.specs.Prelude.{◌≡◌, ◌<◌, ◌≤◌, ◌^◌, ◌+◌, ◌-ℤ◌, ℕ, pos, nat_abs, IfOk, IfSome, IsSome, All, length, map, drop, slice_index_or, Some};
 ghost use Rattle.fraction.specs.Rational.{whole, ◌+ℚ◌, neg_ℚ};
 ghost use Rattle.fraction.specs.Checked.{sub_checked};
 ghost use Rattle.problem.specs.Linear.{coefficient};
@@ -12,7 +12,7 @@ ghost use Rattle.derivation_book.specs.Price.{with_bound, with_reduced_cost, wit
 ghost use Rattle.derivation_book.specs.Sizes.{denominator_limit};
 
 use crate::book::Book;
-use crate::combination::{Combination, with_product};
+use crate::combination::{Combination, short, with_product, with_short_product};
 use fraction::Frac;
 use node_events::Mult;
 use problem::{Problem, Term};
@@ -39,6 +39,7 @@ fn with_reduced_cost(total: Frac, wanted: Frac, combined: Frac, span: Span) -> O
 }
 
 /// The target's coefficient at a column, where the terms before `next` are of earlier columns; and the number of the first term behind the column.
+#[inline(always)]
 pub(crate) fn wanted_at(target: &[Term], next: usize, column: usize) -> (Frac, usize)
     requires { RiseFrom column (drop next target.now) }
     ensures coefficient { result.0 ≡ coefficient (drop next target.now) column }
@@ -56,20 +57,121 @@ pub(crate) fn wanted_at(target: &[Term], next: usize, column: usize) -> (Frac, u
     }
 }
 
+/// How far a sum over the columns has come.
+#[derive(Clone, Copy)]
+struct Reached {
+    /// The sum over the columns before `column`.
+    total: Frac,
+    /// The number of the target's first term that isn't of one of these.
+    next: usize,
+    column: usize,
+}
+
+/// As `with_bound`, where all numbers are whole and have 64 bits; none where one isn't so.
+#[inline(always)]
+fn with_short_bound(total: Frac, left: Frac, span: Span) -> Option<Frac>
+    ensures { IfSome result (λ t. with_bound total left span ≡ Some t) }
+{
+    if left.numer() == 0 {
+        return Some(total);
+    }
+    let bound = if left.numer() > 0 { span.lo } else { span.hi };
+    with_short_product(total, left, Frac::of(bound as i128))
+}
+
+/// The difference of two numbers of 64 bits, which needs no test.
+#[inline(always)]
+fn short_difference(wanted: i64, combined: i64) -> i128
+    ensures value { result ≡ wanted -ℤ combined }
+    ensures small { nat_abs result < 2 ^ 127 }
+{
+    i128::from(wanted) - i128::from(combined)
+}
+
+/// What a number leaves of another, likewise.
+#[inline(always)]
+fn short_left(wanted: Frac, combined: Frac) -> Option<Frac>
+    ensures { IfSome result (λ r. sub_checked wanted combined ≡ Some r) }
+{
+    match (short(wanted), short(combined)) {
+        (Some(wanted), Some(combined)) => Some(Frac::of(short_difference(wanted, combined))),
+        _ => None,
+    }
+}
+
+/// As `with_reduced_cost`, likewise.
+#[inline(always)]
+fn with_short_cost(total: Frac, wanted: Frac, combined: Frac, span: Span) -> Option<Frac>
+    ensures { IfSome result (λ t. with_reduced_cost total wanted combined span ≡ Some t) }
+{
+    let left = short_left(wanted, combined)?;
+    with_short_bound(total, left, span)
+}
+
+/// The sum with what coefficients leave of a target at the first columns, as many as `with_short_cost` takes.
+fn with_short_columns(
+    side: Frac,
+    target: &[Term],
+    coefficients: &[Frac],
+    area: &IntBox,
+) -> Reached
+    requires columns { length area.now ≡ length coefficients.now }
+    requires rising { AreRising target.now }
+    ensures rising { RiseFrom result.column (drop result.next target.now) }
+    ensures left { with_columns result.total (drop result.next target.now) result.column (drop result.column coefficients.now) (drop result.column area.now) ≡ with_columns side target.now 0 coefficients.now area.now }
+{
+    let mut total = side;
+    let mut next = 0;
+    for (column, combined) in coefficients.iter().enumerate() {
+        let (wanted, after) = wanted_at(target, next, column);
+        match with_short_cost(total, wanted, *combined, area.span(column)) {
+            Some(sum) => total = sum,
+            None => {
+                return Reached {
+                    total,
+                    next,
+                    column,
+                };
+            }
+        }
+        next = after;
+    }
+    Reached {
+        total,
+        next,
+        column: coefficients.len(),
+    }
+}
+
+/// The sum with what coefficients leave of a target at each column that wasn't reached; none exactly where that is cramped.
+fn with_other_columns(
+    reached: Reached,
+    target: &[Term],
+    coefficients: &[Frac],
+    area: &IntBox,
+) -> Option<Frac>
+    requires columns { length area.now ≡ length coefficients.now }
+    requires rising { RiseFrom reached.column (drop reached.next target.now) }
+    ensures { result ≡ with_columns reached.total (drop reached.next target.now) reached.column (drop reached.column coefficients.now) (drop reached.column area.now) }
+{
+    let mut total = reached.total;
+    let mut next = reached.next;
+    for column in reached.column..coefficients.len() {
+        let (wanted, after) = wanted_at(target, next, column);
+        total = with_reduced_cost(total, wanted, coefficients[column], area.span(column))?;
+        next = after;
+    }
+    Some(total)
+}
+
 /// The sum with what coefficients leave of a target at each column; none exactly where that is cramped.
 fn with_columns(side: Frac, target: &[Term], coefficients: &[Frac], area: &IntBox) -> Option<Frac>
     requires columns { length area.now ≡ length coefficients.now }
     requires rising { AreRising target.now }
     ensures { result ≡ with_columns side target.now 0 coefficients.now area.now }
 {
-    let mut total = side;
-    let mut next = 0;
-    for (column, combined) in coefficients.iter().enumerate() {
-        let (wanted, after) = wanted_at(target, next, column);
-        total = with_reduced_cost(total, wanted, *combined, area.span(column))?;
-        next = after;
-    }
-    Some(total)
+    let reached = with_short_columns(side, target, coefficients, area);
+    with_other_columns(reached, target, coefficients, area)
 }
 
 /// What coefficients leave of a target at each column, no difference being cramped. The one error is want of memory.

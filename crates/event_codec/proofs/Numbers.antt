@@ -1,6 +1,6 @@
 -- Numbers as bytes, the lowest first: bytes of a number and back, for each width.
-use Rattle.std.proofs.Common.{◌≡◌, ℕ, zero, suc, ◌+◌, ◌-◌, ◌*◌, ◌/◌, ◌%◌, ◌^◌, ◌<◌, List, [], ◌∷◌, length, get_or, refl, sym, ap, subst, ◌∙◌, add_assoc, arith}
-use Rattle.std.specs.Int.{Width, byte_len, byte_at, byte_worth, bytes_low_first, sum_through, to_le_bytes, from_le_bytes}
+use Rattle.std.proofs.Common.{◌≡◌, ℕ, zero, suc, ◌+◌, ◌-◌, ◌*◌, ◌/◌, ◌%◌, ◌^◌, ◌<◌, List, [], ◌∷◌, ◌++◌, length, get_or, refl, sym, ap, subst, ◌∙◌, add_assoc, arith}
+use Rattle.std.specs.Int.{Width, w64, w128, byte_len, byte_at, byte_worth, bytes_low_first, sum_through, to_le_bytes, from_le_bytes}
 use Rattle.std.proofs.Math.Nat.{div-div-eq-div-mul, pow-suc, mul_assoc, mul_comm}
 
 abbrev pub IsBytes : List ℕ → Type 0
@@ -78,7 +78,25 @@ sum_is (b ∷ bs) (suc k) len =
     let times = sum_times (λ i. byte_worth i (get_or bs i 0)) (λ i. byte_worth (suc i) (get_or bs i 0)) k (λ i. worth_above i (get_or bs i 0)) in
     sum_front (λ i. byte_worth i (get_or (b ∷ bs) i 0)) k ∙ ap (λ m. b + m) (times ∙ ap (λ m. m * 256) rest)
 
+-- two parts
+number-append : (xs ys : List ℕ) → number_of (xs ++ ys) ≡ number_of xs + number_of ys * 256 ^ length xs
+number-append [] ys = omega arith
+number-append (x ∷ xs) ys =
+    omega (arith, number-append xs ys, ap (λ m. number_of ys * m) (pow-suc 256 (length xs)), mul_assoc (number_of ys) (256 ^ length xs) 256)
+
 -- ---- numbers of a width
+
+from_is : (w : Width) (k : ℕ) → byte_len w ≡ suc k → (bs : List ℕ) → length bs ≡ suc k → from_le_bytes w bs ≡ number_of bs
+from_is w k size bs len =
+    let last : byte_len w - 1 ≡ k = omega arith in
+    ap (sum_through (λ i. byte_worth i (get_or bs i 0))) last ∙ sum_is bs k len
+
+pub two_words : (bs low high : List ℕ) → bs ≡ low ++ high → length low ≡ 8 → length high ≡ 8 → length bs ≡ 16
+    → from_le_bytes w128 bs ≡ from_le_bytes w64 low + from_le_bytes w64 high * 2 ^ 64
+two_words bs low high is low_len high_len len =
+    from_is w128 15 refl bs len ∙ ap number_of is ∙ number-append low high
+    ∙ (λ i. sym (from_is w64 7 refl low low_len) i + sym (from_is w64 7 refl high high_len) i * 256 ^ low_len i)
+
 
 pub record IsWide (w : Width) (limit : ℕ) : Type 0 where
   pub len : (n : ℕ) → length (to_le_bytes w n) ≡ byte_len w

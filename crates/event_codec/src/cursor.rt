@@ -1,6 +1,7 @@
 //! A reader of fields, from left to right.
 
-ghost use Rattle.std.specs.Prelude.{◌≡◌, length, IfOk, IfErr, Ok, Err};
+ghost use Rattle.std.specs.Prelude.{◌≡◌, ◌<◌, ◌^◌, length, IfOk, IfErr, Ok, Err};
+ghost use Rattle.std.specs.Int.{w64, w128, from_le_bytes};
 ghost use Rattle.event_codec.specs.Places.{beginning};
 ghost use Rattle.event_codec.specs.ReadResults.{Reads};
 ghost use Rattle.event_codec.specs.Reading.{bytes_at, byte_at, u32_at, i64_at, i128_at, flag_at};
@@ -37,6 +38,26 @@ fn array<const N: usize>(bytes: &[u8]) -> [u8; N]
     let mut array = [0; N];
     array.copy_from_slice(bytes);
     array
+}
+
+/// The number of 8 bytes.
+#[inline(always)]
+fn word(bytes: &[u8]) -> u64
+    requires { length bytes.now ≡ 8 }
+    ensures value { result ≡ from_le_bytes w64 bytes.now }
+    ensures small { result < 2 ^ 64 }
+{
+    u64::from_le_bytes(array(bytes))
+}
+
+/// The number of 16 bytes, by its halves: each is loaded as one word, where 16 bytes would be loaded in pieces.
+#[inline(always)]
+fn two_words(bytes: &[u8]) -> u128
+    requires { length bytes.now ≡ 16 }
+    ensures { result ≡ from_le_bytes w128 bytes.now }
+{
+    let (low, high) = bytes.split_at(8);
+    u128::from(word(low)) + u128::from(word(high)) * (1 << 64)
 }
 
 impl<'a> Cursor<'a> {
@@ -111,7 +132,7 @@ impl<'a> Cursor<'a> {
         ensures { Reads result self.new (i128_at self.old) }
     {
         let bytes = self.bytes(16)?;
-        Ok(i128::from_le_bytes(array(bytes)))
+        Ok(two_words(bytes).cast_signed())
     }
 
     /// A flag: 0 is false, and 1 is true.

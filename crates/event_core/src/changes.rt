@@ -93,6 +93,20 @@ impl Parts {
         remove_holds(&mut self.holds, node);
     }
 
+    /// Has the tree keep the box of the node that an event splits or closes, if it is open. It takes no memory.
+    pub(crate) fn approach(&mut self, event: &Event)
+        ensures { self.new ≡ self.old }
+    {
+        match event {
+            Event::Split { node, .. } | Event::Close { node, .. } => {
+                if self.is_open(*node) {
+                    self.tree.move_to(*node);
+                }
+            }
+            _ => {}
+        }
+    }
+
     /// Changes what a legal event names, and nothing else. There is room, and the event's cut or point is at hand.
     pub(crate) fn change(
         &mut self,

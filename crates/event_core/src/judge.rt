@@ -1,11 +1,14 @@
 // Which events are admitted.
-ghost use Rattle.std.specs.Prelude.{◌≡◌, ◌≤◌, true, IfOk, length, All};
+ghost use Rattle.std.specs.Prelude.{◌≡◌, ◌≤◌, true, IfOk, IfSome, length, slice_get, All};
 ghost use Rattle.problem.specs.Limited.{IsModestSpan};
 ghost use Rattle.problem.specs.Limits.{most_cuts};
 ghost use Rattle.dual_simplex.specs.Prepared.{IsKept};
-ghost use Rattle.event_core.specs.States.{is_open, box_of};
+ghost use Rattle.derivation_book.specs.Legal.{is_legal_proof};
+ghost use Rattle.event_core.specs.declared.admit.Admit.TheVariants.{Yes, BadSplit, BadReason, BadProof};
+ghost use Rattle.event_core.specs.States.{is_open, box_of, cutoff};
 ghost use Rattle.event_core.specs.Holds.{is_held, is_holding, holds_node, is_busy, is_yours};
-ghost use Rattle.event_core.specs.Judging.{judged_claim, judged_release, judged_cut, judged_offer, judged_split, judged_close, judged};
+ghost use Rattle.event_core.specs.Splits.{has_both, is_reason};
+ghost use Rattle.event_core.specs.Judging.{checked, judged_claim, judged_release, judged_cut, judged_offer, judged_split, judged_close, judged};
 
 use crate::admit::Admit;
 use crate::parts::Parts;
@@ -82,6 +85,22 @@ impl Parts {
         self.tree.box_of(alloc, node)
     }
 
+    /// The box of an open node, likewise, where the tree keeps it.
+    fn kept_box(&self, node: u32) -> Option<&IntBox>
+        requires { is_open self.now.state node ≡ true }
+        ensures same { IfSome result (λ b. b.now ≡ box_of self.now.state node) }
+        ensures columns { IfSome result (λ b. length b.now ≡ length self.now.state.problem.spans) }
+        ensures modest { IfSome result (λ b. All IsModestSpan b.now) }
+    {
+        self.problem.limits_hold();
+        boxes_are_cut(&self.tree);
+        // Taken apart for the proof: LLVM leaves nothing of it.
+        match self.tree.kept_box(node) {
+            Some(area) => Some(area),
+            None => None,
+        }
+    }
+
     /// The answer to a claim.
     fn judge_claim(&self, worker: Option<u32>, node: u32) -> Admit
         ensures { result ≡ judged_claim self.now.state worker node }
@@ -137,6 +156,41 @@ impl Parts {
         Admit::Yes
     }
 
+    /// The answer to a split of a node with this box, whoever holds it. The one error is want of memory.
+    fn judge_halves(
+        &self,
+        alloc: Global,
+        area: &IntBox,
+        at: SplitPlace,
+        reason: &Reason,
+        kept: &mut KeptRelaxation,
+    ) -> Result<Admit, AllocError>
+        requires few { length self.now.state.cuts ≤ most_cuts }
+        requires kept { IsKept self.now.state.problem self.now.state.cuts kept.old }
+        requires columns { length area.now ≡ length self.now.state.problem.spans }
+        requires modest { All IsModestSpan area.now }
+        ensures answer { IfOk result (λ a. a ≡ checked (has_both (slice_get area.now at.column) at.bound) BadSplit (checked (is_reason self.now.state.problem self.now.state.cuts area.now (cutoff self.now.state) at.column at.bound reason.now) BadReason Yes)) }
+        ensures kept { IsKept self.now.state.problem self.now.state.cuts kept.new }
+    {
+        if !has_both(area, at.column, at.bound) {
+            return Ok(Admit::BadSplit);
+        }
+        let cutoff = self.incumbent.cutoff();
+        if !is_reason(
+            alloc,
+            &self.problem,
+            &self.book,
+            kept,
+            area,
+            cutoff,
+            at,
+            reason,
+        )? {
+            return Ok(Admit::BadReason);
+        }
+        Ok(Admit::Yes)
+    }
+
     /// The answer to a split. The one error is want of memory.
     fn judge_split(
         &self,
@@ -159,23 +213,27 @@ impl Parts {
         if !self.is_yours(worker, node) {
             return Ok(Admit::NotYours);
         }
-        let area = self.box_of(alloc, node)?;
-        if !has_both(&area, column, bound) {
-            return Ok(Admit::BadSplit);
-        }
-        let cutoff = self.incumbent.cutoff();
         let at = SplitPlace { column, bound };
-        if !is_reason(
-            alloc,
-            &self.problem,
-            &self.book,
-            kept,
-            &area,
-            cutoff,
-            at,
-            reason,
-        )? {
-            return Ok(Admit::BadReason);
+        if let Some(area) = self.kept_box(node) {
+            return self.judge_halves(alloc, area, at, reason, kept);
+        }
+        let area = self.box_of(alloc, node)?;
+        self.judge_halves(alloc, &area, at, reason, kept)
+    }
+
+    /// The answer to a closing of a node with this box, whoever holds it. The one error is want of memory.
+    fn judge_proof(
+        &self,
+        alloc: Global,
+        area: &IntBox,
+        proof: &Proof,
+    ) -> Result<Admit, AllocError>
+        requires { length area.now ≡ length self.now.state.problem.spans }
+        ensures { IfOk result (λ a. a ≡ checked (is_legal_proof self.now.state.problem self.now.state.cuts area.now (cutoff self.now.state) proof.now) BadProof Yes) }
+    {
+        let cutoff = self.incumbent.cutoff();
+        if !self.book.admits(alloc, &self.problem, area, cutoff, proof)? {
+            return Ok(Admit::BadProof);
         }
         Ok(Admit::Yes)
     }
@@ -196,15 +254,11 @@ impl Parts {
         if !self.is_yours(worker, node) {
             return Ok(Admit::NotYours);
         }
-        let area = self.box_of(alloc, node)?;
-        let cutoff = self.incumbent.cutoff();
-        if !self
-            .book
-            .admits(alloc, &self.problem, &area, cutoff, proof)?
-        {
-            return Ok(Admit::BadProof);
+        if let Some(area) = self.kept_box(node) {
+            return self.judge_proof(alloc, area, proof);
         }
-        Ok(Admit::Yes)
+        let area = self.box_of(alloc, node)?;
+        self.judge_proof(alloc, &area, proof)
     }
 
     /// The answer to an event of this worker, or of none. The one error is want of memory.

@@ -148,6 +148,13 @@ impl State {
         self.parts.admits(alloc, worker, event, kept)
     }
 
+    /// Looks at the node that an event splits or closes, so that its box need not be copied where the event is judged next. It takes no memory.
+    pub fn approach(&mut self, event: &Event)
+        ensures { self.new ≡ self.old }
+    {
+        self.parts.approach(event);
+    }
+
     /// Makes ready what `apply` needs for the event, so that it takes no memory: for a claim also what the release of its node needs. The nodes of a
     /// split are few enough.
     ///

@@ -1,5 +1,5 @@
 // Search trees.
-ghost use Rattle.std.specs.Prelude.{◌≡◌, ◌<◌, ◌≤◌, ◌+◌, ◌*◌, ◌↔◌, ◌<ℤ◌, ◌≤ℤ◌, [], ◌∷◌, None, IsTrue, IfOk, OnOk, OnErr, length, slice_get};
+ghost use Rattle.std.specs.Prelude.{◌≡◌, ◌<◌, ◌≤◌, ◌+◌, ◌*◌, ◌↔◌, ◌<ℤ◌, ◌≤ℤ◌, [], ◌∷◌, None, IsTrue, IfOk, IfSome, OnOk, OnErr, length, slice_get};
 ghost use Rattle.std.specs.Option.{ForSome};
 ghost use Rattle.node_tree.specs.Limits.{most_nodes};
 ghost use Rattle.node_tree.specs.Nodes.{no_node, branch_at, parent_at, children_at};
@@ -145,6 +145,17 @@ impl Tree {
     {
         self.nodes.walk(&mut self.area, self.place, node);
         self.place = node;
+    }
+
+    /// The box that is kept, where it is that of the node.
+    pub fn kept_box(&self, node: u32) -> Option<&IntBox>
+        ensures { IfSome result (λ b. b.now ≡ box_at self.now node) }
+    {
+        if node == self.place {
+            Some(&self.area)
+        } else {
+            None
+        }
     }
 
     /// Makes the box of one node that of another. Both are there. It takes no memory, and as many steps as there are branches between them.

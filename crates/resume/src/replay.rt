@@ -51,6 +51,7 @@ fn apply_payload(
         Err(CodecError::Fault(_)) => return Err(PayloadFault::Damaged),
         Err(CodecError::Memory) => return Err(PayloadFault::Memory),
     };
+    state.approach(&event);
     if state.admits_with(alloc, None, &event, kept)? != Admit::Yes || !has_numbers(state, &event) {
         return Err(PayloadFault::Damaged);
     }

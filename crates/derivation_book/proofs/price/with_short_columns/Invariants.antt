@@ -1,7 +1,7 @@
 use Rattle.std.proofs.Common.{◌≡◌, drop}
 use Rattle.problem.specs.Rising.{RiseFrom}
 use Rattle.derivation_book.specs.Price.{with_columns}
-use Rattle.derivation_book.proofs.price.with_columns.Given as goal
+use Rattle.derivation_book.proofs.price.with_short_columns.Given as goal
 
 abbrev pub invariant-loop-column : goal.invariant-loop-column
 invariant-loop-column l = record {

@@ -3,7 +3,7 @@ use Rattle.std.specs.Prelude.{All}
 use Rattle.fraction.specs.Fits.{FitsFraction}
 use Rattle.derivation_book.specs.Adding.{columns_added}
 use Rattle.problem.specs.Rising.{AreRising}
-use Rattle.derivation_book.proofs.combination.add_terms.Given as goal
+use Rattle.derivation_book.proofs.combination.add_any_terms.Given as goal
 
 abbrev pub invariant-loop-term : goal.invariant-loop-term
 invariant-loop-term l = record {

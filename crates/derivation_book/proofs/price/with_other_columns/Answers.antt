@@ -1,6 +1,6 @@
 use Rattle.std.proofs.Common.{◌∙◌, sym, arith, drop}
 use Rattle.derivation_book.specs.Lemmas.Price.{next_column, no_column}
-use Rattle.derivation_book.proofs.price.with_columns.Goals as goal
+use Rattle.derivation_book.proofs.price.with_other_columns.Goals as goal
 
 pub returns-in_err-total : goal.returns-in_err-total
 returns-in_err-total c =

@@ -1,6 +1,6 @@
 use Rattle.std.proofs.Common.{arith, sym, ◌∙◌}
 use Rattle.derivation_book.specs.Lemmas.Columns.{still_rising, next_added, next_cramped, all_added}
-use Rattle.derivation_book.proofs.combination.add_terms.Goals as goal
+use Rattle.derivation_book.proofs.combination.add_any_terms.Goals as goal
 
 pub returns-then-not-add_term-clause-sums : goal.returns-then-not-add_term-clause-sums
 returns-then-not-add_term-clause-sums c =
