@@ -3,7 +3,7 @@ use mir.Val.{SFits}
 use Rattle.std.proofs.lemmas.Int.{to_z-of_z}
 use Rattle.std.proofs.lemmas.List.{take_rest}
 use Rattle.integer_tableau.proofs.Answering.{costs_are}
-use Rattle.integer_tableau.proofs.Lists.{if_ok}
+use Rattle.std.proofs.lemmas.Result.{IfOk-weaker}
 use Rattle.tableau.specs.Multipliers.{numbered}
 use Rattle.integer_tableau.specs.Positions.{coefficients}
 use Rattle.integer_tableau.proofs.integer_tableau.IntegerTableau.mult_of_cost.Goals as goal
@@ -12,7 +12,7 @@ pub returns : goal.returns
 returns c =
     let n = c.self.inside in
     let f : SFits w64 n.denominator = search rules in
-    if_ok _ _ c.named_multipliers.result (λ v h. h
+    IfOk-weaker c.named_multipliers.result _ _ (λ v h. h
     ∙ (λ i. numbered (c.deref-2.ensures.value i) ((c.deref-3.ensures.value ∙ c.in_ok-reduced_costs.ensures) i))
     ∙ (λ i. numbered n.fixed.numbers.items (coefficients (nat_abs (to_z-of_z w64 n.denominator f i)) (take_rest c.deref.result.now c.len-columns.result i) n.reduced_costs))
     ∙ (λ i. numbered n.fixed.numbers.items (coefficients (nat_abs n.denominator) (drop ((c.len-columns.ensures ∙ n.rows.ok.0) i) (c.deref.ensures.value i)) n.reduced_costs))

@@ -1,7 +1,7 @@
 use Rattle.std.proofs.Common.{arith, refl, ◌≡◌, ◌+◌, ◌≤◌, ◌<◌, ◌∙◌, ap, drop, length}
 use Rattle.integer_tableau.proofs.Answering.{multipliers_are}
 use Rattle.integer_tableau.proofs.FromCode.{is_there, statuses_as_many}
-use Rattle.integer_tableau.proofs.Lists.{if_ok}
+use Rattle.std.proofs.lemmas.Result.{IfOk-weaker}
 use Rattle.integer_tableau.proofs.Sizes.{written}
 use Rattle.tableau.specs.Multipliers.{numbered, row_multipliers}
 use Rattle.tableau.specs.Tableau.{row_of}
@@ -29,7 +29,7 @@ returns c =
       | then-row-columns w ↦ λ l. absurd (omega (arith, l, columns_are, w.if-row-columns.true))
       | else-row-columns w ↦ λ l. omega (arith, l, columns_are, w.place-is)
     ] in
-    if_ok _ _ c.named_multipliers.result (λ v h. h
+    IfOk-weaker c.named_multipliers.result _ _ (λ v h. h
     ∙ (λ i. numbered (c.deref.ensures.value i) (drop 0 ((c.deref-2.ensures.value ∙ written c.turn_into_multipliers.new.coefficients m.items m.len (c.turn_into_multipliers.auto.coefficients ∙ c.deref_mut.ensures.len)
     ∙ c.turn_into_multipliers.ensures ∙ ap (row_multipliers direction place) c.deref_mut.ensures.value) i)))
     ∙ multipliers_are _ _ _ _ _ _ c.args.self.now c.self.invariant.0 c.self.view_is refl c.args.row (is_there _ _ _ _ _ _ c.args.self.now c.self.invariant.0 c.self.view_is n.positions.items c.args.row refl c.requires)
