@@ -1,7 +1,7 @@
 -- What a tableau answers, from what the code's parts say.
 use Rattle.std.proofs.Common.{◌≡◌, ℕ, zero, suc, ◌+◌, ◌<◌, ◌≤◌, arith, refl, ap, sym, ◌∙◌, List, [], ◌∷◌, ◌++◌, length, get_or, set, take, drop, drop-cons, append_assoc, inl, inr}
 use Rattle.std.specs.Prelude.{ℤ, pos, negsuc, map, if◌then◌else◌}
-use Rattle.std.proofs.lemmas.List.{drop-map, drop-set-lt, drop-set-add, get_or-map, get_or_default, length-drop, length-map}
+use Rattle.std.proofs.lemmas.List.{drop-map, drop-set-lt, drop-set-add, get_or-map, get_or_default, length-drop, length-map, set_past}
 use Rattle.fraction.specs.Rational.{ℚ, whole, neg_ℚ}
 use Rattle.integer_tableau.proofs.AllRows.{get_or-rows_of}
 use Rattle.integer_tableau.proofs.ExactPivots.{get_or-values}
@@ -77,12 +77,6 @@ take_values d (s ∷ ss) (x ∷ xs) (v ∷ vs) ws l m = ap (λ ys. value d s x v
 pub drop_multipliers : (n place : ℕ) (w : Direction) (xs : List ℚ) → drop n (row_multipliers w (n + place) xs) ≡ row_multipliers w place (drop n xs)
 drop_multipliers n place Rise xs = drop-set-add n (map neg_ℚ xs) place (whole (pos 1)) ∙ ap (λ ys. set ys place (whole (pos 1))) (drop-map neg_ℚ n xs)
 drop_multipliers n place Fall xs = drop-set-add n xs place (whole (negsuc 0))
-
--- a place past the end
-set_past : {X : Type 0} (xs : List X) (i : ℕ) (x : X) → length xs ≤ i → set xs i x ≡ xs
-set_past [] i x l = refl
-set_past (y ∷ xs) zero x l = absurd (omega arith)
-set_past (y ∷ xs) (suc i) x l = ap (λ ys. y ∷ ys) (set_past xs i x (omega arith))
 
 pub drop_multipliers_before : (n place r : ℕ) (w : Direction) (xs : List ℚ) → r < n → length (drop n xs) ≤ place → drop n (row_multipliers w r xs) ≡ row_multipliers w place (drop n xs)
 drop_multipliers_before n place r Rise xs l h =

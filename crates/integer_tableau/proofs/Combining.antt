@@ -4,7 +4,7 @@ use Rattle.std.specs.Prelude.{ℤ, pos, negsuc, neg_ℤ, ◌+ℤ◌, ◌*ℤ◌,
 use lib.IntN.{*ℤ_comm}
 use Rattle.std.proofs.Math.Nat.{mul-le-mul_left, mul-le-mul_right}
 use Rattle.std.proofs.lemmas.Int.{ints, unsigned_abs-mul}
-use Rattle.std.proofs.lemmas.Bool.{cases_eq, cases_lt}
+use Rattle.std.proofs.lemmas.Bool.{cases_eq, cases_lt, eq-eqb, ne_eqb}
 use Rattle.std.proofs.lemmas.Bool.Decides.{nat_tests}
 use Rattle.std.proofs.lemmas.List.{get_or_default, get_or_past, same_lists}
 use Rattle.fraction.specs.Lemmas.Integers.{diff-add, diff-mul, diff-neg, diff-pos, diff-same, is_diff, neg-mul_ℤ}
@@ -63,18 +63,12 @@ combined_step d e c solved (a ∷ cs) (s ∷ ss) (s' ∷ ss') (l ∷ ls) (l' ∷
     ∙ ap (λ z. z *ℤ pos e +ℤ number_at solved k *ℤ (a *ℤ numerator_of d l s c +ℤ combined d cs ss ls c)) (sym (but_sum a (numerator_of d l s k) (combined d cs ss ls k) (nat_eq k c)))
 
 -- ---- what each column says takes the step
-same_test : (k : ℕ) → nat_eq k k ≡ true
-same_test k = grind (arith, nat_tests)
-
-other_test : (k j : ℕ) → k ≢ j → nat_eq k j ≡ false
-other_test k j n = grind (arith, nat_tests)
-
 -- what stands at another place than c
 pub but_other : (c k : ℕ) (f : ℕ → ℤ) → k ≢ c → but c f k ≡ f k
-but_other c k f n = ap (λ b. if b then pos 0 else f k) (other_test k c n)
+but_other c k f n = ap (λ b. if b then pos 0 else f k) (ne_eqb k c n)
 
 pub but_same : (c : ℕ) (f : ℕ → ℤ) → but c f c ≡ pos 0
-but_same c f = ap (λ b. if b then pos 0 else f c) (same_test c)
+but_same c f = ap (λ b. if b then pos 0 else f c) (eq-eqb c c refl)
 
 -- a row with 0 in column c
 pub set_is_but : (c : ℕ) (row : List ℤ) (k : ℕ) → c < length row → number_at (set row c (pos 0)) k ≡ but c (number_at row) k
@@ -92,7 +86,7 @@ kept_step d e c solved row row' l h k = h k ∙ ap (λ z. z *ℤ pos e +ℤ numb
 pub unit_step : (d e c j : ℕ) (solved row row' : List ℤ) → j ≢ c → IsStepOf d e c solved (numerator_of d row (InColumn j)) (numerator_of e row' (InColumn j))
 unit_step d e c j solved row row' n k =
     by_test (number_at solved k) (nat_eq k c) (nat_eq k j) refl refl
-    ∙ ap (λ z. but c (numerator_of d row (InColumn j)) k *ℤ pos e +ℤ number_at solved k *ℤ z) (sym (ap (λ b. if b then pos d else pos 0) (other_test c j (λ e. n (sym e)))))
+    ∙ ap (λ z. but c (numerator_of d row (InColumn j)) k *ℤ pos e +ℤ number_at solved k *ℤ z) (sym (ap (λ b. if b then pos d else pos 0) (ne_eqb c j (λ e. n (sym e)))))
   where
     by_test : (z : ℤ) (s t : Bool) → nat_eq k c ≡ s → nat_eq k j ≡ t → (if t then pos e else pos 0) *ℤ pos d ≡ (if s then pos 0 else if t then pos d else pos 0) *ℤ pos e +ℤ z *ℤ pos 0
     by_test z true true p q = absurd (n (grind (arith, nat_tests)))
@@ -104,7 +98,7 @@ unit_step d e c j solved row row' n k =
 pub entering_step : (d e c : ℕ) (solved row : List ℤ) → IsStepOf d e c solved (numerator_of d row (InColumn c)) (numerator_of e solved InBasis)
 entering_step d e c solved row k =
     by_test (number_at solved k) (nat_eq k c)
-    ∙ ap (λ z. but c (numerator_of d row (InColumn c)) k *ℤ pos e +ℤ number_at solved k *ℤ z) (sym (ap (λ b. if b then pos d else pos 0) (same_test c)))
+    ∙ ap (λ z. but c (numerator_of d row (InColumn c)) k *ℤ pos e +ℤ number_at solved k *ℤ z) (sym (ap (λ b. if b then pos d else pos 0) (eq-eqb c c refl)))
   where
     by_test : (z : ℤ) (t : Bool) → z *ℤ pos d ≡ (if t then pos 0 else if t then pos d else pos 0) *ℤ pos e +ℤ z *ℤ pos d
     by_test z true = omega (arith, ints)
@@ -123,10 +117,10 @@ up p d = ap pos (omega arith)
 pub leaving_step : (d c : ℕ) (solved row row' : List ℤ) → c < length row → IsSolvedFor (number_at row c) c d row solved
     → IsStepOf d (nat_abs (number_at row c)) c solved (numerator_of d row InBasis) (numerator_of (nat_abs (number_at row c)) row' (InColumn c))
 leaving_step d c solved row row' l turn k = elim (cases_eq k c) [
-  | inl p ↦ ap (λ b. (if b then pos (nat_abs (number_at row c)) else pos 0) *ℤ pos d) (ap (λ k. nat_eq k c) p ∙ same_test c) ∙ here (number_at row c) d
+  | inl p ↦ ap (λ b. (if b then pos (nat_abs (number_at row c)) else pos 0) *ℤ pos d) (ap (λ k. nat_eq k c) p ∙ eq-eqb c c refl) ∙ here (number_at row c) d
       ∙ sym (λ i. (ap (λ k. but c (number_at row) k) p ∙ but_same c (number_at row)) i *ℤ pos (nat_abs (number_at row c))
       +ℤ (ap (number_at solved) p ∙ turn c ∙ ap (quotient_numerator (number_at row c)) (get_or-set_same row c (neg_ℤ (pos d)) (pos 0) l)) i *ℤ number_at row c)
-  | inr n ↦ ap (λ b. (if b then pos (nat_abs (number_at row c)) else pos 0) *ℤ pos d) (other_test k c n) ∙ away (number_at row c) (number_at row k) d
+  | inr n ↦ ap (λ b. (if b then pos (nat_abs (number_at row c)) else pos 0) *ℤ pos d) (ne_eqb k c n) ∙ away (number_at row c) (number_at row k) d
       ∙ sym (λ i. but_other c k (number_at row) n i *ℤ pos (nat_abs (number_at row c))
       +ℤ (turn k ∙ ap (quotient_numerator (number_at row c)) (get_or-set_other row c k (neg_ℤ (pos d)) (pos 0) n)) i *ℤ number_at row c)
 ]
@@ -185,7 +179,7 @@ combined_past d k (c ∷ cs) (s ∷ ss) (l ∷ ls) h = (λ i. c *ℤ h zero i +�
 
 numerator_past : (d n k : ℕ) (row : List ℤ) (s : Position) → n ≤ k → length row ≤ n → ((j : ℕ) → s ≡ InColumn j → j < n) → numerator_of d row s k ≡ pos 0
 numerator_past d n k row InBasis h l w = get_or_past row k (pos 0) (omega arith)
-numerator_past d n k row (InColumn j) h l w = ap (λ b. if b then pos d else pos 0) (other_test k j (let m = w j refl in omega arith))
+numerator_past d n k row (InColumn j) h l w = ap (λ b. if b then pos d else pos 0) (ne_eqb k j (let m = w j refl in omega arith))
 
 -- what the row of a combination has in a column
 pub combined_row_in : (d : ℕ) (cs : List ℤ) (ss : List Position) (ls : List (List ℤ)) (k : ℕ) → k < length ls → number_at (combined_row d ss ls cs) k ≡ combined d cs ss ls k

@@ -1,13 +1,15 @@
 -- Signs, comparisons and ratios of fractions on their whole numbers.
-use Rattle.std.proofs.Common.{◌≡◌, ℕ, zero, suc, ◌*◌, ◌^◌, ◌<◌, arith, refl, ap, sym, ◌∙◌, Bool, true, false, Some}
-use Rattle.std.specs.Prelude.{ℤ, pos, negsuc, neg_ℤ, ◌*ℤ◌, ◌≤ℤ◌, ◌<ℤ◌, nat_abs, int_lt, cond, if◌then◌else◌}
+use Rattle.std.proofs.Common.{◌≡◌, ℕ, ◌*◌, ◌^◌, ◌<◌, arith, refl, ap, ◌∙◌, Bool, true, false, Some}
+use Rattle.std.specs.Prelude.{ℤ, pos, negsuc, neg_ℤ, ◌*ℤ◌, nat_abs, int_lt, cond, if◌then◌else◌}
 use Rattle.std.specs.declared.cmp.Ordering.TheVariants.{Less, Equal, Greater}
 use Rattle.std.specs.Ordering.{is_lt, int_cmp}
 use Rattle.std.proofs.lemmas.Int.{ints}
 use Rattle.std.proofs.Math.Nat.{mul-pos}
 use Rattle.fraction.specs.Checked.{abs_ℚ, compare, div_checked, mul_checked}
-use Rattle.fraction.specs.Lemmas.Rational.{frac-≤ℚ, frac_is, frac_same, lit_one, neg_ℚ-frac, ≤ℚ_frac}
+use Rattle.fraction.specs.Lemmas.Rational.{frac-≤ℚ, frac_same, lit_one, neg_ℚ-frac, ≤ℚ_frac}
 use Rattle.fraction.specs.Rational.{frac, inv_ℚ, neg_ℚ, whole, ◌≤ℚ◌}
+use Rattle.fraction.specs.Lemmas.Integers.{same_less}
+use Rattle.fraction.specs.Lemmas.Order.{below_zero}
 use Rattle.integer_tableau.proofs.Fractions.{IsNarrow, below, inv-frac, mul_frac}
 use Rattle.tableau.specs.Leaving.{is_above, is_below}
 
@@ -19,22 +21,6 @@ less_test u v = step (int_lt u v) (int_lt v u)
     step true t = refl
     step false true = refl
     step false false = refl
-
-less_of : (a c : ℤ) → int_lt a c ≡ true → a <ℤ c
-less_of a c e = grind (arith, ints)
-
-not_less_of : (a c : ℤ) → int_lt a c ≡ false → c ≤ℤ a
-not_less_of a c e = grind (arith, ints)
-
--- two tests that fail alike
-same_less : (a c p q : ℤ) → (c ≤ℤ a → q ≤ℤ p) → (q ≤ℤ p → c ≤ℤ a) → int_lt p q ≡ int_lt a c
-same_less a c p q f g = step (int_lt a c) (int_lt p q) refl refl
-  where
-    step : (s t : Bool) → int_lt a c ≡ s → int_lt p q ≡ t → int_lt p q ≡ int_lt a c
-    step true true m n = n ∙ sym m
-    step true false m n = absurd (let k = g (not_less_of p q n) in let l = less_of a c m in omega (arith, ints))
-    step false true m n = absurd (let k = f (not_less_of a c m) in let l = less_of p q n in omega (arith, ints))
-    step false false m n = n ∙ sym m
 
 pub less_frac : (a b : ℤ) (c d : ℕ) → 0 < c → 0 < d → is_lt (compare (frac a c) (frac b d)) ≡ int_lt (a *ℤ pos d) (b *ℤ pos c)
 unfolding compare ◌≤ℚ◌
@@ -52,34 +38,13 @@ below_whole v l d o = less_frac v l d 1 o lit_one ∙ ap (λ z. int_lt z (l *ℤ
 pub above_whole : (v u : ℤ) (d : ℕ) → 0 < d → is_above (frac v d) (Some (whole u)) ≡ int_lt (u *ℤ pos d) v
 above_whole v u d o = less_frac u v 1 d lit_one o ∙ ap (int_lt (u *ℤ pos d)) (times_one v)
 
--- ---- signs
-pub above_zero : (a : ℤ) (d : ℕ) → 0 < d → int_lt (pos 0) (frac a d).num ≡ int_lt (pos 0) a
-above_zero a d o = same_less (pos 0) a (pos 0) (frac a d).num
-    (λ h. by_sign (frac a d).num a d (frac a d).den o (frac_is a d o) h) (λ h. by_sign a (frac a d).num (frac a d).den d (frac a d).lowest.0 (sym (frac_is a d o)) h)
-  where
-    by_sign : (n a : ℤ) (d e : ℕ) → 0 < d → n *ℤ pos d ≡ a *ℤ pos e → a ≤ℤ pos 0 → n ≤ℤ pos 0
-    by_sign (pos zero) a d e o h l = omega (arith, ints)
-    by_sign (pos (suc n)) (pos zero) d e o h l = absurd (omega (arith, ints, h))
-    by_sign (pos (suc n)) (pos (suc a)) d e o h l = absurd (omega (arith, ints, l))
-    by_sign (pos (suc n)) (negsuc a) d e o h l = absurd (omega (arith, ints, h))
-    by_sign (negsuc n) a d e o h l = omega (arith, ints)
-
-pub below_zero : (a : ℤ) (d : ℕ) → 0 < d → int_lt (frac a d).num (pos 0) ≡ int_lt a (pos 0)
-below_zero a d o = same_less a (pos 0) (frac a d).num (pos 0)
-    (λ h. by_sign (frac a d).num a d (frac a d).den o (frac_is a d o) h) (λ h. by_sign a (frac a d).num (frac a d).den d (frac a d).lowest.0 (sym (frac_is a d o)) h)
-  where
-    by_sign : (n a : ℤ) (d e : ℕ) → 0 < d → n *ℤ pos d ≡ a *ℤ pos e → pos 0 ≤ℤ a → pos 0 ≤ℤ n
-    by_sign (pos n) a d e o h l = omega (arith, ints)
-    by_sign (negsuc n) (pos a) d e o h l = absurd (omega (arith, ints, h))
-    by_sign (negsuc n) (negsuc a) d e o h l = absurd (omega (arith, ints, l))
-
 -- ---- ratios
 pub abs-frac : (a : ℤ) (d : ℕ) → 0 < d → abs_ℚ (frac a d) ≡ frac (pos (nat_abs a)) d
 abs-frac a d o = ap (λ b. if b then neg_ℚ (frac a d) else frac a d) (below_zero a d o) ∙ ap (λ x. if int_lt a (pos 0) then x else frac a d) (neg_ℚ-frac a d o) ∙ step a
   where
     step : (a : ℤ) → (if int_lt a (pos 0) then frac (neg_ℤ a) d else frac a d) ≡ frac (pos (nat_abs a)) d
     step (pos a) = elim (int_lt (pos a) (pos 0)) as (λ b. int_lt (pos a) (pos 0) ≡ b → (if b then frac (neg_ℤ (pos a)) d else frac (pos a) d) ≡ frac (pos a) d) [
-      | true ↦ λ e. absurd (let l = less_of (pos a) (pos 0) e in omega (arith, ints))
+      | true ↦ λ e. absurd (grind (arith, ints, e))
       | false ↦ λ e. refl
     ] refl
     step (negsuc a) = refl

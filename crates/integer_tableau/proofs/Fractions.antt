@@ -2,7 +2,7 @@
 use Rattle.std.proofs.Common.{◌≡◌, ℕ, zero, suc, ◌+◌, ◌-◌, ◌*◌, ◌^◌, ◌≤◌, ◌<◌, arith, refl, ap, sym, ◌∙◌, subst, Bool, true, false, Some}
 use Rattle.std.specs.Prelude.{ℤ, pos, negsuc, neg_ℤ, ◌+ℤ◌, ◌*ℤ◌, nat_abs}
 use Rattle.std.proofs.lemmas.Int.{ints, unsigned_abs-mul}
-use Rattle.std.proofs.Math.Nat.{mul-one, mul-le-mul, div-le_self, mul-pos, le_of_dvd, dvd_trans, dvd-mul_right}
+use Rattle.std.proofs.Math.Nat.{mul-one, mul-le-mul, mul-pos, le_of_dvd, dvd_trans, dvd-mul_right}
 use Rattle.std.specs.Option.{option_and_then}
 use Rattle.std.specs.Ordering.{int_eq}
 use Rattle.std.proofs.lemmas.Bool.Decides.{Decides-int_eq}
@@ -10,8 +10,7 @@ use Rattle.fraction.specs.Bounds.{Within}
 use Rattle.fraction.specs.Checked.{add_checked, mul_checked}
 use Rattle.fraction.specs.Lemmas.Bounds.{add_fits_within, add_is, mul_fits_small, mul_is, frac-num_le, small_product}
 use Rattle.fraction.specs.Lemmas.Integers.{diff-add, diff-mul, diff-neg, diff-pos, diff-same, is_diff, neg-mul_ℤ}
-use Rattle.fraction.specs.Lemmas.Lowest.{abs-div}
-use Rattle.fraction.specs.Lemmas.Rational.{frac-*ℚ, frac-+ℚ, frac_den, frac_is, frac_same, lit_one, neg_ℚ-frac}
+use Rattle.fraction.specs.Lemmas.Rational.{frac-*ℚ, frac-+ℚ, frac_den, frac_is, frac_same, lit_one, neg_ℚ-frac, abs-signed}
 use Rattle.fraction.specs.Rational.{frac, inv_ℚ, signed_as, whole}
 use Rattle.integer_tableau.specs.Substitution.{quotient_numerator}
 use Rattle.tableau.specs.Elimination.{add_multiple, negative_quotient}
@@ -108,10 +107,6 @@ quotient_over (negsuc b) a d = quotient_neg a d (suc b)
 
 abs-neg : (a : ℤ) → nat_abs (neg_ℤ a) ≡ nat_abs a
 abs-neg a = omega (arith, ints)
-
-abs-signed : (b : ℤ) (d : ℕ) → nat_abs (signed_as b d) ≡ d
-abs-signed (pos b) d = refl
-abs-signed (negsuc b) d = abs-neg (pos d)
 
 pub negative_quotient_exact : (b a : ℤ) (d : ℕ) → 0 < d → d < 2 ^ 63 → 0 < nat_abs b → IsNarrow b → IsNarrow a
     → negative_quotient (frac b d) (frac a d) ≡ Some (frac (quotient_numerator b a) (nat_abs b))

@@ -1,5 +1,5 @@
 -- Steps of the loops over all variables.
-use Rattle.std.proofs.Common.{◌≡◌, ◌≢◌, ℕ, zero, suc, ◌+◌, ◌<◌, ◌≤◌, arith, refl, ap, sym, ◌∙◌, subst, List, [], ◌∷◌, ◌++◌, length, get_or, set, take, below_more, get_or-set_other, get_or-set_same}
+use Rattle.std.proofs.Common.{◌≡◌, ◌≢◌, ℕ, zero, suc, ◌+◌, ◌<◌, ◌≤◌, arith, ap, sym, ◌∙◌, subst, List, [], ◌∷◌, ◌++◌, length, get_or, set, take, below_more, get_or-set_other, get_or-set_same}
 use Rattle.std.specs.Prelude.{eqb}
 use Rattle.std.specs.Int.{w64}
 use Rattle.std.specs.Ordering.{is_eq}
@@ -8,12 +8,10 @@ use Rattle.std.proofs.Common.{to_z, of_z}
 use mir.Val.{SFits}
 use Rattle.std.proofs.lemmas.Bool.Decides.{Decides-like, Decides-eqb}
 use Rattle.std.proofs.lemmas.Int.{to_z-of_z}
-use Rattle.std.specs.Prelude.{ℤ, pos, nat_abs, int_lt, ◌<ℤ◌, ◌*ℤ◌, Option, Some, None, map, slice_get}
+use Rattle.std.specs.Prelude.{ℤ, pos, nat_abs, int_lt, ◌<ℤ◌, ◌*ℤ◌, Option, Some, None, map}
 use Rattle.std.specs.Option.{IfSome}
-use Rattle.std.specs.Prelude.{IfOk, Result}
-use Rattle.std.proofs.Common.{Ok, Err}
 use Rattle.std.proofs.lemmas.Int.{ints}
-use Rattle.std.proofs.lemmas.List.{length-set}
+use Rattle.std.proofs.lemmas.List.{length-set, take_more, map-append}
 use Rattle.fraction.specs.Checked.{compare}
 use Rattle.fraction.specs.Lemmas.Bounds.{whole_parts}
 use Rattle.fraction.specs.Lemmas.Order.{compare_equal}
@@ -44,21 +42,8 @@ total_bound_size_more bs i total more x l t n m = let q : i + 1 ≡ suc i = omeg
     step (c ∷ bs) (suc i) l = omega (arith, step bs i (omega arith))
 
 -- an element more
-pub next_mapped : {A B : Type 0} (f : A → B) (xs : List A) (i : ℕ) (x : A) → slice_get xs i ≡ Some x → map f (take (i + 1) xs) ≡ map f (take i xs) ++ (f x ∷ [])
-next_mapped f xs i x e = ap (λ n. map f (take n xs)) (let q : i + 1 ≡ suc i = omega arith in q) ∙ step f xs i x e
-  where
-    step : {A B : Type 0} (f : A → B) (xs : List A) (i : ℕ) (x : A) → slice_get xs i ≡ Some x → map f (take (suc i) xs) ≡ map f (take i xs) ++ (f x ∷ [])
-    step f [] i x e = cc
-    step f (y ∷ ys) zero x e = let q : y ≡ x = cc in ap (λ y. f y ∷ []) q
-    step f (y ∷ ys) (suc i) x e = ap (λ zs. f y ∷ zs) (step f ys i x e)
-
 pub next_mapped_at : {A B : Type 0} (f : A → B) (xs : List A) (i : ℕ) (d : A) → i < length xs → map f (take (i + 1) xs) ≡ map f (take i xs) ++ (f (get_or xs i d) ∷ [])
-next_mapped_at f xs i d l = ap (λ n. map f (take n xs)) (let q : i + 1 ≡ suc i = omega arith in q) ∙ step f xs i d l
-  where
-    step : {A B : Type 0} (f : A → B) (xs : List A) (i : ℕ) (d : A) → i < length xs → map f (take (suc i) xs) ≡ map f (take i xs) ++ (f (get_or xs i d) ∷ [])
-    step f [] i d l = absurd (omega arith)
-    step f (y ∷ ys) zero d l = refl
-    step f (y ∷ ys) (suc i) d l = ap (λ zs. f y ∷ zs) (step f ys i d (omega arith))
+next_mapped_at f xs i d l = ap (map f) (take_more xs i d l) ∙ map-append f (take i xs) (get_or xs i d ∷ [])
 
 -- an element is replaced
 module _ {X : Type 0} (R : ℕ → X → X → Type 0) (none : X) where
@@ -75,10 +60,6 @@ others_more none first now i x h v m = let ne : v ≢ i = omega arith in get_or-
 pub if_some : {A : Type 0} (P Q : A → Type 0) (o : Option A) → ((v : A) → P v → Q v) → IfSome o P → IfSome o Q
 if_some P Q None f h = h
 if_some P Q (Some v) f h = f v h
-
-pub if_ok : {A E : Type 0} (P Q : A → Type 0) (r : Result A E) → ((v : A) → P v → Q v) → IfOk r P → IfOk r Q
-if_ok P Q (Err e) f h = h
-if_ok P Q (Ok v) f h = f v h
 
 -- ---- outside a bound
 same_size : (d : ℤ) → pos 0 <ℤ d → 0 < nat_abs d

@@ -3,9 +3,11 @@ use Rattle.std.proofs.Common.{List, [], ◌∷◌, length, get_or, zero, suc, �
 use Rattle.std.specs.Prelude.{ℤ, pos, nat_abs, int_lt, map, ◌&&◌, if◌then◌else◌}
 use Rattle.std.specs.Option.{option_map, option_and_then, IfSome}
 use Rattle.std.proofs.lemmas.Int.{ints}
+use Rattle.std.proofs.lemmas.Bool.{and_parts}
 use Rattle.fraction.specs.Checked.{abs_ℚ, div_checked}
 use Rattle.fraction.specs.Rational.{frac, whole, ℚ}
-use Rattle.integer_tableau.proofs.Comparing.{above_zero, below_zero, less_quotient, ratio_exact}
+use Rattle.fraction.specs.Lemmas.Order.{above_zero, below_zero}
+use Rattle.integer_tableau.proofs.Comparing.{less_quotient, ratio_exact}
 use Rattle.integer_tableau.proofs.Fractions.{IsNarrow}
 use Rattle.integer_tableau.proofs.Sums.{coefficient_is, numerator_within}
 use Rattle.integer_tableau.specs.Entering.{better_candidate, entering_by_numerators, is_eligible_numerator, with_candidate}
@@ -66,10 +68,6 @@ entry_there Rise AtUpper t e = under t e
 entry_there Fall AtLower t e = under t e
 entry_there Fall AtUpper t e = above t e
 
-both : (a b : Bool) → (a && b) ≡ true → a ≡ true
-both true b e = refl
-both false b e = cc
-
 -- with one variable more: no ratio is cramped, and the choice is the one by fractions
 pub with_candidate_is : (j : ℕ) (w : Direction) (best : Option Candidate) (s : BasisStatus) (b : Bounds) (d t : ℤ) (denominator : ℕ) → 0 < denominator → denominator < 2 ^ 63 → IsNarrow d → IsNarrow t → HasCoefficient best
     → with_ratio j w (as_ratios best) s b (frac d denominator) (frac t denominator) ≡ Some (as_ratios (with_candidate j w best s b d t))
@@ -81,7 +79,7 @@ with_candidate_is j w best s b d t denominator o hd nd nt p =
         → (if e then option_map (λ q. better j q (as_ratios best)) (div_checked (abs_ℚ (frac d denominator)) (abs_ℚ (frac t denominator))) else Some (as_ratios best))
         ≡ Some (as_ratios (if e then better_candidate record { variable = j; reduced_cost = nat_abs d; coefficient = nat_abs t } best else best))
     by_test true e =
-        let l = entry_there w s t (both (is_eligible_numerator w s t) (bounds_differ b) e) in
+        let l = entry_there w s t (and_parts (is_eligible_numerator w s t) (bounds_differ b) e).0 in
         ap (option_map (λ q. better j q (as_ratios best))) (ratio_exact d t denominator o hd nd nt l)
         ∙ ap Some (better_is record { variable = j; reduced_cost = nat_abs d; coefficient = nat_abs t } best l p)
     by_test false e = refl
@@ -99,7 +97,7 @@ with_candidate_has j w best s b d t p = by_test (is_eligible_numerator w s t && 
         picked false = p
 
     by_test : (e : Bool) → (is_eligible_numerator w s t && bounds_differ b) ≡ e → HasCoefficient (if e then better_candidate record { variable = j; reduced_cost = nat_abs d; coefficient = nat_abs t } best else best)
-    by_test true e = chosen record { variable = j; reduced_cost = nat_abs d; coefficient = nat_abs t } best (entry_there w s t (both (is_eligible_numerator w s t) (bounds_differ b) e)) p
+    by_test true e = chosen record { variable = j; reduced_cost = nat_abs d; coefficient = nat_abs t } best (entry_there w s t (and_parts (is_eligible_numerator w s t) (bounds_differ b) e).0) p
     by_test false e = p
 
 -- ---- over all variables

@@ -5,7 +5,7 @@ use Rattle.std.specs.Option.{option_map, unwrap_or}
 use Rattle.std.proofs.lemmas.List.{length-append, length-replicate, length-map}
 use Rattle.fraction.specs.Lemmas.Rational.{lit_one}
 use Rattle.fraction.specs.Rational.{frac, whole, ℚ}
-use Rattle.integer_tableau.proofs.Comparing.{below_zero}
+use Rattle.fraction.specs.Lemmas.Order.{below_zero}
 use Rattle.integer_tableau.proofs.ExactPivots.{computed_each}
 use Rattle.integer_tableau.proofs.Sums.{value_fits, value_is}
 use Rattle.integer_tableau.specs.Consistent.{IsConsistent, row_width}

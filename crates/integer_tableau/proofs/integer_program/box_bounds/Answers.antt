@@ -1,6 +1,6 @@
 use Rattle.std.proofs.Common.{sym, ◌∙◌, ◌++◌, ◌∷◌, []}
 use Rattle.integer_tableau.specs.IntegerProgram.{column_bounds}
-use Rattle.integer_tableau.proofs.Lists.{next_mapped}
+use Rattle.tableau.specs.Lemmas.Programs.{next_mapped}
 use Rattle.integer_tableau.proofs.integer_program.box_bounds.Goals as goal
 
 pub loop-column-preserved : goal.loop-column-preserved

@@ -5,7 +5,7 @@ use Rattle.std.proofs.lemmas.List.{get_or_default, take_rest}
 use Rattle.integer_tableau.proofs.Answering.{column_are, combined_are, none_are}
 use Rattle.integer_tableau.proofs.Expanded.{light_rows}
 use Rattle.integer_tableau.proofs.FromCode.{is_there, statuses_as_many}
-use Rattle.integer_tableau.proofs.Lists.{if_ok}
+use Rattle.std.proofs.lemmas.Result.{IfOk-weaker}
 use Rattle.integer_tableau.specs.Combined.{combined_row}
 use Rattle.integer_tableau.specs.Numbers.{total_size}
 use Rattle.integer_tableau.specs.Range.{size_limit}
@@ -81,7 +81,7 @@ returns-then-row-columns c =
     let n = c.self.inside in
     let f : SFits w64 n.denominator = search rules in
     let there = is_there _ _ _ _ _ _ c.args.self.now c.self.invariant.0 c.self.view_is n.positions.items c.args.row refl c.requires.row_there in
-    if_ok _ _ c.coefficients.result (λ v h. h
+    IfOk-weaker c.coefficients.result _ _ (λ v h. h
     ∙ (λ i. coefficients (nat_abs (to_z-of_z w64 n.denominator f i)) (take_rest c.deref.result.now c.args.first i) c.index-then-row-columns.result.now)
     ∙ ap (λ ss. coefficients (nat_abs n.denominator) (drop c.args.first ss) c.index-then-row-columns.result.now) c.deref.ensures.value
     ∙ column_are _ _ _ _ _ _ c.args.self.now c.self.invariant.0 c.self.view_is refl c.args.row there c.args.first c.index-then-row-columns.result.now
@@ -96,7 +96,7 @@ returns-else-row-columns c =
     let there = is_there _ _ _ _ _ _ c.args.self.now c.self.invariant.0 c.self.view_is n.positions.items c.args.row refl c.requires.row_there in
     let i = c.args.row - c.len-columns.result in
     let place_there : i < length n.fixed.rows.items.value.items = omega (arith, there, n.rows.ok, c.len-columns.ensures, c.self.invariant.0.variables, c.if-row-columns.false) in
-    if_ok _ _ c.combined_coefficients.result (λ v h. h
+    IfOk-weaker c.combined_coefficients.result _ _ (λ v h. h
     ∙ (λ i. coefficients (nat_abs (to_z-of_z w64 n.denominator f i)) (drop c.args.first (c.deref-else-row-columns.ensures.value i))
     (combined_row (nat_abs (to_z-of_z w64 n.denominator f i)) (c.deref-else-row-columns.ensures.value i) (c.deref-else-row-columns-2.ensures.value i) c.row.result.now))
     ∙ combined_are _ _ _ _ _ _ c.args.self.now c.self.invariant.0 c.self.view_is refl c.args.row there c.args.first c.row.result.now i
