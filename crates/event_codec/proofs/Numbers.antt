@@ -97,7 +97,6 @@ two_words bs low high is low_len high_len len =
     from_is w128 15 refl bs len ∙ ap number_of is ∙ number-append low high
     ∙ (λ i. sym (from_is w64 7 refl low low_len) i + sym (from_is w64 7 refl high high_len) i * 256 ^ low_len i)
 
-
 pub record IsWide (w : Width) (limit : ℕ) : Type 0 where
   pub len : (n : ℕ) → length (to_le_bytes w n) ≡ byte_len w
   pub back : (bytes : List ℕ) → length bytes ≡ byte_len w → IsBytes bytes → to_le_bytes w (from_le_bytes w bytes) ≡ bytes
