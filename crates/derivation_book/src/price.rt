@@ -109,12 +109,7 @@ fn with_short_cost(total: Frac, wanted: Frac, combined: Frac, span: Span) -> Opt
 }
 
 /// The sum with what coefficients leave of a target at the first columns, as many as `with_short_cost` takes.
-fn with_short_columns(
-    side: Frac,
-    target: &[Term],
-    coefficients: &[Frac],
-    area: &IntBox,
-) -> Reached
+fn with_short_columns(side: Frac, target: &[Term], coefficients: &[Frac], area: &IntBox) -> Reached
     requires columns { length area.now ≡ length coefficients.now }
     requires rising { AreRising target.now }
     ensures rising { RiseFrom result.column (drop result.next target.now) }

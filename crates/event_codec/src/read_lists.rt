@@ -34,6 +34,7 @@ fn is_small(num: i128) -> bool
 }
 
 /// The fraction of these parts, if they are in lowest terms over a denominator of at least 1.
+#[inline(always)]
 fn lowest(num: i128, den: i128) -> Option<Frac>
     requires { nat_abs num < 2 ^ 127 }
     ensures { result ≡ (if is_lowest num den then Some (frac num (nat_abs den)) else None) }
@@ -54,6 +55,7 @@ fn lowest(num: i128, den: i128) -> Option<Frac>
 }
 
 /// The denominator behind a numerator that stands at the place, as a fraction.
+#[inline(always)]
 #[tactic(auto, unfolding(crate::specs::Reading::denominator_at))]
 fn denominator(cursor: &mut Cursor<'_>, at: usize, num: i128) -> Result<Frac, CodecFault>
     requires { nat_abs num < 2 ^ 127 }

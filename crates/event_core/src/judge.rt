@@ -222,12 +222,7 @@ impl Parts {
     }
 
     /// The answer to a closing of a node with this box, whoever holds it. The one error is want of memory.
-    fn judge_proof(
-        &self,
-        alloc: Global,
-        area: &IntBox,
-        proof: &Proof,
-    ) -> Result<Admit, AllocError>
+    fn judge_proof(&self, alloc: Global, area: &IntBox, proof: &Proof) -> Result<Admit, AllocError>
         requires { length area.now ≡ length self.now.state.problem.spans }
         ensures { IfOk result (λ a. a ≡ checked (is_legal_proof self.now.state.problem self.now.state.cuts area.now (cutoff self.now.state) proof.now) BadProof Yes) }
     {

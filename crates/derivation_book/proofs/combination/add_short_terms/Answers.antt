@@ -1,4 +1,4 @@
-use Rattle.std.proofs.Common.{◌≡◌, ◌∙◌, ℕ, ap, sym, subst, refl, arith, drop, length}
+use Rattle.std.proofs.Common.{◌≡◌, ◌∙◌, ap, sym, subst, refl, arith, drop, length}
 use Rattle.problem.specs.Rising.{AreRising}
 use Rattle.derivation_book.specs.Adding.{columns_added}
 use Rattle.derivation_book.specs.Lemmas.Columns.{still_rising, next_added}
