@@ -1,6 +1,6 @@
 -- The steps of an addition, each with what it leaves.
-use Rattle.std.proofs.Common.{◌≡◌, ℕ, ◌<◌, ◌/◌, ◌*◌, ℤ, pos, to_z, of_z, ap, ◌∙◌, arith, Bool, true, false, Some, None, refl}
-use Rattle.std.specs.Prelude.{nat_abs, ◌+ℤ◌, ◌*ℤ◌, if◌then◌else◌}
+use Rattle.std.proofs.Common.{◌≡◌, ℕ, ◌<◌, ◌^◌, ◌/◌, ◌*◌, ℤ, pos, to_z, of_z, ap, ◌∙◌, arith, Bool, true, false, Some, None, refl}
+use Rattle.std.specs.Prelude.{nat_abs, nat_lt, ◌+ℤ◌, ◌*ℤ◌, if◌then◌else◌}
 use Rattle.std.specs.Int.{w128}
 use Prim.Native.Nat.{◌∣◌}
 use Rattle.fraction.specs.Gcd.{gcd}
@@ -28,6 +28,14 @@ pub back_small : (w z : ℤ) → Some w ≡ small_integer z → to_z w128 (of_z 
 back_small w z e =
     let s = small_of w z e in
     ap (λ v. to_z w128 (of_z w128 v)) s.1 ∙ back z (grind (arith, s.0))
+
+-- so its bits are of a small number
+pub small_bits : (w z : ℤ) → Some w ≡ small_integer z → nat_abs (to_z w128 (of_z w128 w)) < 2 ^ 127
+small_bits w z e = let s = small_of w z e in rw (back_small w z e) (grind (arith, s.0))
+
+-- a natural number that was found small
+pub small_natural_of : (m n : ℕ) → Some m ≡ small_natural n → (n < 2 ^ 127) × (m ≡ n)
+small_natural_of m n e = let s = some_guard (nat_lt n (2 ^ 127)) n m e in (grind (arith, s.0), s.1)
 
 module _ (x y : ℚ) (n m : ℤ) (g u w : ℕ) (en : n ≡ x.num) (em : m ≡ y.num) (eg : g ≡ gcd x.den y.den) (eu : u ≡ y.den / g) (ew : w ≡ x.den / g) where
   by : u ≡ y.den / gcd x.den y.den
