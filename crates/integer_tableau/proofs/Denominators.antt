@@ -8,7 +8,7 @@ use Rattle.fraction.specs.Bounds.{Within}
 use Rattle.fraction.specs.Rational.{frac, whole}
 use Rattle.fraction.specs.Lemmas.Bounds.{Within-more}
 use Rattle.integer_tableau.proofs.Expanded.{value_of_column, value_of_row, which}
-use Rattle.integer_tableau.proofs.Fractions.{Within-frac}
+use Rattle.integer_tableau.specs.Lemmas.Fractions.{Within-frac}
 use Rattle.integer_tableau.proofs.Lists.{size_is}
 use Rattle.integer_tableau.proofs.Sums.{coefficient_is, numerator_within}
 use Rattle.integer_tableau.specs.Consistent.{IsConsistent}

@@ -1,6 +1,4 @@
 mod Exchanges
-mod Fractions
-mod Comparing
 mod RowsByVariable
 mod AllRows
 mod Sums

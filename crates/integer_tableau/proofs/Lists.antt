@@ -16,7 +16,7 @@ use Rattle.fraction.specs.Checked.{compare}
 use Rattle.fraction.specs.Lemmas.Bounds.{whole_parts}
 use Rattle.fraction.specs.Lemmas.Order.{compare_equal}
 use Rattle.fraction.specs.Rational.{frac, whole, ℚ}
-use Rattle.integer_tableau.proofs.Comparing.{above_whole, below_whole}
+use Rattle.integer_tableau.specs.Lemmas.Comparing.{above_whole, below_whole}
 use Rattle.integer_tableau.specs.Combined.{bound_size, total_bound_size}
 use Rattle.integer_tableau.specs.declared.integer_bounds.IntegerBounds.{IntegerBounds}
 use Rattle.integer_tableau.specs.Numbers.{number_at, total_size}

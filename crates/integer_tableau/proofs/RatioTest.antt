@@ -7,8 +7,8 @@ use Rattle.std.proofs.lemmas.Bool.{and_parts}
 use Rattle.fraction.specs.Checked.{abs_ℚ, div_checked}
 use Rattle.fraction.specs.Rational.{frac, whole, ℚ}
 use Rattle.fraction.specs.Lemmas.Order.{above_zero, below_zero}
-use Rattle.integer_tableau.proofs.Comparing.{less_quotient, ratio_exact}
-use Rattle.integer_tableau.proofs.Fractions.{IsNarrow}
+use Rattle.integer_tableau.specs.Lemmas.Comparing.{less_quotient, ratio_exact}
+use Rattle.integer_tableau.specs.Lemmas.Fractions.{IsNarrow}
 use Rattle.integer_tableau.proofs.Sums.{coefficient_is, numerator_within}
 use Rattle.integer_tableau.specs.Entering.{better_candidate, entering_by_numerators, is_eligible_numerator, with_candidate}
 use Rattle.integer_tableau.specs.IntegerTableau.{fraction_bounds, status, statuses_of}

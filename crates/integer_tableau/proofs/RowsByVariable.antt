@@ -8,7 +8,7 @@ use lib.IntN.{*ℤ_comm}
 use Rattle.std.proofs.lemmas.Bool.{cases_eq, cases_lt}
 use Rattle.std.proofs.lemmas.List.{same_lists, get_or-map, map-set, length-map, length-set, set-get_or, get_or_past}
 use Rattle.fraction.specs.Rational.{frac, whole, ℚ}
-use Rattle.integer_tableau.proofs.Fractions.{add_multiple_exact, frac-num_positive, less_over, negative_quotient_exact, zero_over}
+use Rattle.integer_tableau.specs.Lemmas.Fractions.{add_multiple_exact, frac-num_positive, less_over, negative_quotient_exact, zero_over}
 use Rattle.integer_tableau.specs.Numbers.{IsWithin, number_at}
 use Rattle.integer_tableau.specs.Range.{size_limit}
 use Rattle.integer_tableau.specs.Positions.{IsColumnOf, coefficient, coefficients}

@@ -10,7 +10,7 @@ use Rattle.tableau.specs.Tableau.{Tableau, row_of, status_of}
 use Rattle.tableau.specs.declared.status.BasisStatus.TheVariants.{Basic}
 use Rattle.integer_tableau.proofs.AllRows.{get_or-rows_of}
 use Rattle.integer_tableau.proofs.Expanded.{row_of_column, row_of_row, which}
-use Rattle.integer_tableau.proofs.Fractions.{zero_over}
+use Rattle.integer_tableau.specs.Lemmas.Fractions.{zero_over}
 use Rattle.integer_tableau.proofs.Sums.{coefficient_is, numerator_within}
 use Rattle.integer_tableau.proofs.ToFractions.{bounds_many, costs_many, nonbasic_values_many, rows_many, statuses_many, values_many}
 use Rattle.integer_tableau.specs.Combined.{IsCompact, combined, combined_row, expanded, row_if_basic}

@@ -9,7 +9,7 @@ use Rattle.fraction.specs.Checked.{add_checked, dot_checked, dot_from, mul_check
 use Rattle.fraction.specs.Lemmas.Integers.{diff-add, diff-mul, diff-neg, diff-same, is_diff}
 use Rattle.fraction.specs.Lemmas.Rational.{lit_one}
 use Rattle.fraction.specs.Rational.{frac, whole}
-use Rattle.integer_tableau.proofs.Fractions.{add_frac, mul_frac, zero_over}
+use Rattle.integer_tableau.specs.Lemmas.Fractions.{add_frac, mul_frac, zero_over}
 use Rattle.integer_tableau.proofs.RowsByVariable.{agree_but, map_exchanged, number_at-set_other}
 use Rattle.integer_tableau.specs.Numbers.{IsWithin, number_at, total_size}
 use Rattle.integer_tableau.specs.Range.{size_limit}

@@ -1,2 +1,4 @@
 -- Lemmas that other crates stand on. Contracts cite none of them.
 pub mod MapFrom
+pub mod Fractions
+pub mod Comparing

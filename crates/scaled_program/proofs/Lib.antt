@@ -1,5 +1,3 @@
-mod Fractions
-mod Comparing
 mod Numbers
 mod Rows
 mod NotCramped

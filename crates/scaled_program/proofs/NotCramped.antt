@@ -15,7 +15,7 @@ use Rattle.tableau.specs.Pivot.{eliminated, rows_eliminated}
 use Rattle.tableau.specs.Tableau.{Tableau, row_of}
 use Rattle.integer_tableau.specs.Range.{size_limit}
 use Rattle.integer_tableau.specs.Substitution.{quotient_numerator}
-use Rattle.scaled_program.proofs.Fractions.{add_frac, frac-num_positive, frac-size, less_over, mul_frac, negative_quotient_exact, zero_over}
+use Rattle.integer_tableau.specs.Lemmas.Fractions.{add_frac, frac-num_positive, frac-size, less_over, mul_frac, negative_quotient_exact, zero_over}
 
 -- ---- numbers over a denominator
 -- a multiple of 1/d, of size at most 2^62/d

@@ -14,8 +14,10 @@ use Rattle.fraction.specs.Rational.{ℚ, frac, inv_ℚ, whole, ◌*ℚ◌, ◌+�
 use Rattle.tableau.specs.Elimination.{zero_ℚ}
 use Rattle.integer_tableau.specs.Range.{size_limit}
 use Rattle.integer_tableau.specs.Scales.{scaled_by}
-use Rattle.scaled_program.proofs.Comparing.{above_zero, abs-frac, below_zero, less_frac, same_less}
-use Rattle.scaled_program.proofs.Fractions.{inv-frac, mul_frac}
+use Rattle.fraction.specs.Lemmas.Order.{above_zero, below_zero}
+use Rattle.integer_tableau.specs.Lemmas.Comparing.{abs-frac, less_frac}
+use Rattle.fraction.specs.Lemmas.Integers.{same_less}
+use Rattle.integer_tableau.specs.Lemmas.Fractions.{inv-frac, mul_frac}
 
 pub scaled_frac : (a b : ℕ) (z : ℤ) (d : ℕ) → 0 < b → 0 < d → scaled_by a b (frac z d) ≡ frac (z *ℤ pos a) (d * b)
 unfolding scaled_by

@@ -16,7 +16,8 @@ use Rattle.integer_tableau.specs.Range.{size_limit}
 use Rattle.integer_tableau.specs.Scales.{map_from, scale_at, scaled_by, unscaled_row}
 use Rattle.integer_tableau.specs.Small.{IsOver}
 use Rattle.scaled_program.specs.Sizes.{AreSmallTimes}
-use Rattle.scaled_program.proofs.Fractions.{frac-den_le, frac-num_le, less_over, zero_over}
+use Rattle.integer_tableau.specs.Lemmas.Fractions.{frac-den_le, less_over, zero_over}
+use Rattle.fraction.specs.Lemmas.Bounds.{frac-num_le}
 use Rattle.integer_tableau.specs.Lemmas.MapFrom.{append-map_from}
 
 -- ---- one number

@@ -22,7 +22,7 @@ use Rattle.integer_tableau.specs.Range.{size_limit}
 use Rattle.integer_tableau.specs.Scales.{Scales, all_bounds, scaled_by, unscaled, unscaled_bounds, unscaled_row, unscaled_rows, unscaled_value, unscaled_values}
 use Rattle.integer_tableau.specs.Small.{IsOver}
 use Rattle.scaled_program.specs.Sizes.{IsSmallAt}
-use Rattle.scaled_program.proofs.Comparing.{ratio_exact}
+use Rattle.integer_tableau.specs.Lemmas.Comparing.{ratio_exact}
 use Rattle.integer_tableau.specs.Lemmas.MapFrom.{get_or-map_from}
 use Rattle.scaled_program.proofs.NotCramped.{nonzero_over}
 use Rattle.scaled_program.proofs.Numbers.{ratio_scaled, scaled_above, scaled_below, scaled_equal, scaled_less, scaled_zero}

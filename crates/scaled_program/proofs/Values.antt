@@ -18,8 +18,8 @@ use Rattle.integer_tableau.specs.Range.{size_limit}
 use Rattle.integer_tableau.specs.Scales.{Scales, scaled_by, unscaled_row, unscaled_rows, unscaled_value, unscaled_values}
 use Rattle.integer_tableau.specs.Numbers.{total_size}
 use Rattle.integer_tableau.specs.Small.{IsOver}
-use Rattle.scaled_program.proofs.Comparing.{times_one}
-use Rattle.scaled_program.proofs.Fractions.{Within-frac, mul_frac, zero_over}
+use Rattle.integer_tableau.specs.Lemmas.Comparing.{times_one}
+use Rattle.integer_tableau.specs.Lemmas.Fractions.{Within-frac, mul_frac, zero_over}
 use Rattle.scaled_program.proofs.Numbers.{scaled_frac, scaled_product, scaled_sum, scaled_zero, size_times}
 
 one : 0 < 1

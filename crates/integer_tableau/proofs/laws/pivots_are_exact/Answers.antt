@@ -1,4 +1,4 @@
-use Rattle.integer_tableau.proofs.Fractions.{add_multiple_exact, negative_quotient_exact}
+use Rattle.integer_tableau.specs.Lemmas.Fractions.{add_multiple_exact, negative_quotient_exact}
 use Rattle.integer_tableau.proofs.laws.pivots_are_exact.Goals as goal
 
 pub returns : goal.returns

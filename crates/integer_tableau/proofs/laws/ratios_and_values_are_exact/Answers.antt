@@ -1,6 +1,6 @@
 use Rattle.std.proofs.Common.{◌-◌, arith}
 use Rattle.integer_tableau.specs.Range.{size_limit}
-use Rattle.integer_tableau.proofs.Comparing.{ratio_exact}
+use Rattle.integer_tableau.specs.Lemmas.Comparing.{ratio_exact}
 use Rattle.integer_tableau.proofs.Sums.{value_is}
 use Rattle.integer_tableau.proofs.laws.ratios_and_values_are_exact.Goals as goal
 

@@ -24,7 +24,7 @@ IsNarrow z = nat_abs z < 2 ^ 63
 pub frac-den_le : (z : ℤ) (d : ℕ) → 0 < d → (frac z d).den ≤ d
 frac-den_le z d o = le_of_dvd o (frac_den z d o)
 
-frac-size : (z : ℤ) (d : ℕ) → 0 < d → nat_abs (frac z d).num * d ≡ nat_abs z * (frac z d).den
+pub frac-size : (z : ℤ) (d : ℕ) → 0 < d → nat_abs (frac z d).num * d ≡ nat_abs z * (frac z d).den
 frac-size z d o = sym (unsigned_abs-mul (frac z d).num (pos d)) ∙ ap nat_abs (frac_is z d o) ∙ unsigned_abs-mul z (pos (frac z d).den)
 
 pub Within-frac : (z : ℤ) (d k : ℕ) → 0 < d → Within (d * k) (nat_abs z * k) (frac z d)

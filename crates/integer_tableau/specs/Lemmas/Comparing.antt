@@ -10,7 +10,7 @@ use Rattle.fraction.specs.Lemmas.Rational.{frac-≤ℚ, frac_same, lit_one, neg_
 use Rattle.fraction.specs.Rational.{frac, inv_ℚ, neg_ℚ, whole, ◌≤ℚ◌}
 use Rattle.fraction.specs.Lemmas.Integers.{same_less}
 use Rattle.fraction.specs.Lemmas.Order.{below_zero}
-use Rattle.integer_tableau.proofs.Fractions.{IsNarrow, below, inv-frac, mul_frac}
+use Rattle.integer_tableau.specs.Lemmas.Fractions.{IsNarrow, below, inv-frac, mul_frac}
 use Rattle.tableau.specs.Leaving.{is_above, is_below}
 
 -- ---- comparisons
@@ -28,7 +28,7 @@ less_frac a b c d p q =
     less_test ((frac a c).num *ℤ pos (frac b d).den) ((frac b d).num *ℤ pos (frac a c).den) ∙ same_less (a *ℤ pos d) (b *ℤ pos c) ((frac a c).num *ℤ pos (frac b d).den) ((frac b d).num *ℤ pos (frac a c).den)
     (λ h. frac-≤ℚ b a d c q p h) (λ h. ≤ℚ_frac b a d c q p h)
 
-times_one : (a : ℤ) → a *ℤ pos 1 ≡ a
+pub times_one : (a : ℤ) → a *ℤ pos 1 ≡ a
 times_one a = omega (arith, ints)
 
 -- outside a bound that is whole
