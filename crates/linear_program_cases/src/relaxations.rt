@@ -1,9 +1,12 @@
 // Answers of the dual simplex over boxes, with and without a cut.
 
+ghost use Rattle.std.specs.Prelude.{◌<◌};
+
 use anyhow::{Result, bail};
 use case_tools::{Spans, Sum, problem_of};
 use derivation_book::Book;
 use dual_simplex::{Answer, Relaxation, Solution};
+use fraction::Frac;
 use node_events::{Mult, RationalPoint};
 use problem::Problem;
 use problem_box::{IntBox, Span};
@@ -52,85 +55,145 @@ fn show_point<R: Print>(rt: &R, point: &RationalPoint) -> io::Result<()> {
     Ok(())
 }
 
+/// Prints the multipliers that refute a box.
+fn show_infeasible<R: Print>(rt: &R, mult: &Mult) -> io::Result<()> {
+    print!(rt; "infeasible by ")?;
+    show_multipliers(rt, mult)
+}
+
+/// Prints an optimum.
+fn show_optimal<R: Print>(
+    rt: &R,
+    value: Frac,
+    point: &RationalPoint,
+    mult: &Mult,
+) -> io::Result<()> {
+    print!(rt; "optimal {value} at")?;
+    show_point(rt, point)?;
+    print!(rt; " by ")?;
+    show_multipliers(rt, mult)
+}
+
 /// Prints an answer and ends the line.
 fn show_answer<R: Print>(rt: &R, answer: &Answer) -> io::Result<()> {
     match answer {
-        Answer::Infeasible { mult } => {
-            print!(rt; "infeasible by ")?;
-            show_multipliers(rt, mult)
-        }
-        Answer::Optimal { point, mult, value } => {
-            print!(rt; "optimal {value} at")?;
-            show_point(rt, point)?;
-            print!(rt; " by ")?;
-            show_multipliers(rt, mult)
-        }
+        Answer::Infeasible { mult } => show_infeasible(rt, mult),
+        Answer::Optimal { point, mult, value } => show_optimal(rt, *value, point, mult),
         Answer::Cramped { pivots } => println!(rt; "cramped after {pivots} pivots"),
         Answer::Stalled => println!(rt; "stalled"),
     }
 }
 
-/// Prints what the dual simplex answers over a box, and its pivots.
-fn show_solution<R: Print>(rt: &R, area: &IntBox, solution: &Solution) -> io::Result<()> {
+/// Prints the box, and how many pivots were made.
+fn show_pivots<R: Print>(rt: &R, area: &IntBox, solution: &Solution) -> io::Result<()> {
     let spans = Spans(area);
     match &solution.tableau {
         Some(tableau) => {
             let pivots = tableau.pivots();
-            print!(rt; "linear program over {spans}, {pivots} pivots: ")?;
+            print!(rt; "linear program over {spans}, {pivots} pivots: ")
         }
-        None => print!(rt; "linear program over {spans}, no tableau: ")?,
+        None => print!(rt; "linear program over {spans}, no tableau: "),
     }
-    show_answer(rt, &solution.answer)
 }
 
-/// Solves a problem's rows and all cuts of its book over a box, and prints the answer.
-fn solved<R: Print + Alloc<A = Global>>(
-    rt: &R,
-    problem: &Problem,
-    book: &Book,
-    area: &IntBox,
-) -> Result<Answer> {
+/// Prints what the dual simplex answers over a box, and its pivots.
+fn show_solution<R: Print>(rt: &R, area: &IntBox, solution: &Solution) -> Result<()> {
+    show_pivots(rt, area, solution)?;
+    Ok(show_answer(rt, &solution.answer)?)
+}
+
+/// What the dual simplex answers over a box, by a problem's rows and all cuts of its book.
+fn solution(alloc: Global, problem: &Problem, book: &Book, area: &IntBox) -> Result<Solution> {
     let cuts = book.len();
     if cuts > 1 || area.len() != problem.columns() {
         bail!("many cuts, or a box of another problem");
     }
-    let relaxation = Relaxation::new(rt.alloc(), problem, book, cuts)?;
-    let solution = relaxation.solve(rt.alloc(), problem, book, area)?;
-    show_solution(rt, area, &solution)?;
-    let Solution { answer, tableau: _ } = solution;
-    Ok(answer)
+    let relaxation = Relaxation::new(alloc, problem, book, cuts)?;
+    Ok(relaxation.solve(alloc, problem, book, area)?)
+}
+
+/// Prints the answer over a box.
+fn show_solved<R: Print + Alloc<A = Global>>(
+    rt: &R,
+    problem: &Problem,
+    book: &Book,
+    area: &IntBox,
+) -> Result<()> {
+    let solution = solution(rt.alloc(), problem, book, area)?;
+    show_solution(rt, area, &solution)
+}
+
+/// Prints the answer over the box in which y is 0.
+fn show_without_y<R: Print + Alloc<A = Global>>(
+    rt: &R,
+    problem: &Problem,
+    book: &Book,
+) -> Result<()> {
+    let area = without_y(rt.alloc())?;
+    show_solved(rt, problem, book, &area)
 }
 
 /// Prints the answers over a problem's own box, and over the one in which y is 0.
+fn show_both<R: Print + Alloc<A = Global>>(rt: &R, problem: &Problem, book: &Book) -> Result<()> {
+    show_solved(rt, problem, book, problem.root())?;
+    show_without_y(rt, problem, book)
+}
+
+/// Prints the answers on a model of two columns.
 fn show_boxes<R: Print + Alloc<A = Global>>(rt: &R, text: &[u8]) -> Result<()> {
     let problem = problem_of(rt.alloc(), text)?;
     let book = Book::make(rt.alloc());
-    solved(rt, &problem, &book, problem.root())?;
-    solved(rt, &problem, &book, &without_y(rt.alloc())?)?;
-    Ok(())
+    show_both(rt, &problem, &book)
 }
 
-/// Cuts by the multipliers of an optimum.
-fn cut_by(alloc: Global, problem: &Problem, book: &mut Book, answer: Answer) -> Result<()> {
-    let Answer::Optimal { mult, .. } = answer else {
-        bail!("no optimum");
-    };
+/// A copy of the multipliers of an optimum.
+fn multipliers(alloc: Global, answer: &Answer) -> Result<Mult> {
+    match answer {
+        Answer::Optimal { mult, .. } => Ok(mult.copy(alloc)?),
+        _ => bail!("no optimum"),
+    }
+}
+
+/// The multipliers of the optimum over a problem's own box.
+fn optimum(alloc: Global, problem: &Problem, book: &Book) -> Result<Mult> {
+    let solution = solution(alloc, problem, book, problem.root())?;
+    multipliers(alloc, &solution.answer)
+}
+
+/// Makes the cut of these multipliers.
+fn cut_by(alloc: Global, problem: &Problem, book: &mut Book, mult: Mult) -> Result<()>
+    requires { 0 < book.old.room }
+{
     let Some(row) = book.cg_row(alloc, problem, &mult)? else {
         bail!("no cut");
     };
-    book.reserve(1)?;
     book.add_cut(problem, mult, row);
     Ok(())
 }
 
+/// Makes the cut of the multipliers of the optimum.
+fn cut(alloc: Global, problem: &Problem, book: &mut Book) -> Result<()> {
+    book.reserve(1)?;
+    let mult = optimum(alloc, problem, book)?;
+    cut_by(alloc, problem, book, mult)
+}
+
 /// Prints the answer before and behind the cut of its multipliers.
+fn show_before_and_behind<R: Print + Alloc<A = Global>>(
+    rt: &R,
+    problem: &Problem,
+    book: &mut Book,
+) -> Result<()> {
+    show_solved(rt, problem, book, problem.root())?;
+    cut(rt.alloc(), problem, book)?;
+    show_solved(rt, problem, book, problem.root())
+}
+
+/// Prints the answers on the model of one column with and without its cut.
 fn show_cut<R: Print + Alloc<A = Global>>(rt: &R) -> Result<()> {
     let problem = problem_of(rt.alloc(), HALF)?;
     let mut book = Book::make(rt.alloc());
-    let answer = solved(rt, &problem, &book, problem.root())?;
-    cut_by(rt.alloc(), &problem, &mut book, answer)?;
-    solved(rt, &problem, &book, problem.root())?;
-    Ok(())
+    show_before_and_behind(rt, &problem, &mut book)
 }
 
 /// Prints answers on whole numbers and on fractions, with a cut, and of numbers that are too large.
