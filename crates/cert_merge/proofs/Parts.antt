@@ -1,7 +1,7 @@
 -- The lines of the problem part, one more at a time.
-use Rattle.std.specs.Prelude.{◌≡◌, ◌+◌, ℕ, zero, suc, List, [], ◌∷◌, ◌++◌, drop, slice_get, Option, Some, None, option_map, codes, refl}
-use Rattle.std.proofs.Common.{ap, sym, ◌∙◌, append_assoc, arith}
-use Rattle.std.proofs.lemmas.Option.{same_Some}
+use Rattle.std.specs.Prelude.{◌≡◌, ◌+◌, ℕ, List, [], ◌∷◌, ◌++◌, drop, slice_get, Option, Some, None, option_map, codes, refl}
+use Rattle.std.proofs.Common.{ap, sym, ◌∙◌, append_assoc}
+use Rattle.std.proofs.lemmas.Option.{same_Some, slice_get_within, get_or_from_slice_get}
 use Rattle.fraction.specs.Rational.{ℚ}
 use Rattle.problem_box.specs.declared.span.Span.{Span}
 use Rattle.problem.specs.declared.row.Row.{Row}
@@ -10,15 +10,11 @@ use Rattle.cert_rows.specs.declared.line.Why.{Why}
 use Rattle.cert_rows.specs.declared.line.Why.TheVariants.{Rnd}
 use Rattle.cert_rows.specs.Validity.{lower_row, upper_row}
 use Rattle.derivation_book.specs.declared.cut.Cut.{Cut}
+use Rattle.derivation_book.specs.Lemmas.OptionChains.{next_item}
 use Rattle.cert_merge.specs.Merged.{label_of, labelled, row_lines, bound_lines, cut_line, cut_lines}
 
-drop_got : {X : Type 0} (xs : List X) (i : ℕ) (x : X) → slice_get xs i ≡ Some x → drop i xs ≡ x ∷ drop (suc i) xs
-drop_got [] i x h = let e : ⊥ = cc in absurd e
-drop_got (y ∷ xs) zero x h = let e : y ≡ x = cc in ap (λ z. z ∷ xs) e
-drop_got (y ∷ xs) (suc i) x h = drop_got xs i x h
-
 dropped : {X : Type 0} (xs : List X) (i : ℕ) (x : X) → slice_get xs i ≡ Some x → drop i xs ≡ x ∷ drop (i + 1) xs
-dropped xs i x h = drop_got xs i x h ∙ ap (λ k. x ∷ drop k xs) (let z : suc i ≡ i + 1 = omega arith in z)
+dropped xs i x h = next_item xs i x (slice_get_within xs i x h) (sym (get_or_from_slice_get xs i x x h))
 
 pub next_row : (rs : List Row) (i : ℕ) (r : Row) (prefix : List CertRow) → slice_get rs i ≡ Some r
     → (prefix ++ (labelled (label_of (codes "R") i) r ∷ [])) ++ row_lines (i + 1) (drop (i + 1) rs) ≡ prefix ++ row_lines i (drop i rs)
