@@ -1,5 +1,5 @@
 -- The proofs of closed nodes, and the children of those that were split.
-use Rattle.std.specs.Prelude.{◌≡◌, ◌<◌, ◌+◌, ℕ, Bool, List, [], length, Option, Some, None, IsSome, option_map, slice_index, slice_index_or, refl}
+use Rattle.std.specs.Prelude.{◌≡◌, ◌<◌, ◌+◌, ℕ, Bool, List, [], length, Option, Some, None, IsSome, option_map, slice_index, slice_index_or, refl, is_some}
 use Rattle.std.proofs.Common.{sym, ap, ◌∙◌, subst, arith}
 use Rattle.std.proofs.lemmas.Option.{slice_get_within, same_Some}
 use Rattle.fraction.specs.Rational.{ℚ}
@@ -56,16 +56,12 @@ children_there t tree i c e = step (node_at t i).first_child refl e
         (subst (λ (p : ℕ × ℕ). p.0 < length t.nodes) z (reached_by t tree k _ a.left).there, subst (λ (p : ℕ × ℕ). p.1 < length t.nodes) z (reached_by t tree (k + 1) _ a.right).there)
 
 -- ---- a closed node by the table
-is_some : (o : Option Proof) (p : Proof) → o ≡ Some p → IsSome o
-is_some None p e = cc
-is_some (Some q) p e = refl
-
 module _ (s : State) (es : List Entry) (done : IsDone s es) (i : ℕ) (l : i < length s.nodes) (none : children_at (tree_of s) i ≡ None) (places : List ℕ) (all : length places ≡ length s.nodes) (closings : AreClosings es places) where
   at : proof_at es (slice_index places i) i ≡ proof_of es i
-  at = let h = done.proved i l none in closings i (omega (arith, l, all)) (is_some (proof_of es i) h.proof h.found)
+  at = let h = done.proved i l none in closings i (omega (arith, l, all)) (ap is_some h.found)
 
   pub closed_there : IsSome (proof_at es (slice_index places i) i)
-  closed_there = let h = done.proved i l none in is_some (proof_at es (slice_index places i) i) h.proof (at ∙ h.found)
+  closed_there = let h = done.proved i l none in ap is_some (at ∙ h.found)
 
   module _ (proof : Proof) (e : proof_at es (slice_index places i) i ≡ Some proof) where
     pub closed_legal : IsLegalAt s i proof

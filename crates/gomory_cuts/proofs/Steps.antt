@@ -1,5 +1,5 @@
 -- One item more in the loops of separation.
-use Rattle.std.proofs.Common.{◌≡◌, ℕ, zero, suc, ◌+◌, ◌-◌, ◌<◌, ◌≤◌, arith, refl, ap, sym, ◌∙◌, Bool, true, false, Option, Some, None, List, [], ◌∷◌, ◌++◌, length, get_or, drop, take}
+use Rattle.std.proofs.Common.{◌≡◌, ℕ, suc, ◌+◌, ◌-◌, ◌<◌, ◌≤◌, arith, refl, ap, sym, ◌∙◌, Bool, true, false, Option, Some, None, List, [], ◌∷◌, ◌++◌, length, get_or, drop, take}
 use Rattle.std.specs.Prelude.{slice_get, if◌then◌else◌, eqb}
 use Rattle.std.specs.Option.{option_and_then, option_map}
 use Rattle.std.proofs.lemmas.List.{drop_more, append_assoc, append-nil, drop_all, length-drop}
@@ -9,19 +9,13 @@ use Rattle.fraction.specs.Rational.{ℚ}
 use Rattle.problem.specs.declared.row.Row.{Row}
 use Rattle.problem.specs.Problem.{Problem}
 use Rattle.derivation_book.specs.declared.cut.Cut.{Cut}
+use Rattle.derivation_book.specs.Lemmas.OptionChains.{next_there}
 use Rattle.tableau.specs.Elimination.{entry}
 use Rattle.tableau.specs.Multipliers.{with_multiplier}
 use Rattle.tableau.specs.Tableau.{Tableau, status_of}
 use Rattle.gomory_cuts.specs.declared.sign.Sign.{Sign}
 use Rattle.gomory_cuts.specs.Multipliers.{multiplier, row_multipliers, filling, bound_number, fillings}
 use Rattle.gomory_cuts.specs.Separation.{cuts_at, cuts_from, is_same, is_found, with_cut, with_cuts}
-
--- an item that is there comes first in what is left
-there_first : {A : Type 0} (xs : List A) (i : ℕ) (x : A) → slice_get xs i ≡ Some x → drop i xs ≡ x ∷ drop (i + 1) xs
-there_first [] zero x e = absurd (let z : ⊥ = cc in z)
-there_first [] (suc i) x e = absurd (let z : ⊥ = cc in z)
-there_first (y ∷ xs) zero x e = let f : y ≡ x = cc in ap (λ y. y ∷ xs) f
-there_first (y ∷ xs) (suc i) x e = there_first xs i x e ∙ ap (λ k. x ∷ drop k (y ∷ xs)) (let z : suc (i + 1) ≡ suc i + 1 = omega arith in z)
 
 -- ---- one multiplier more, or none
 -- `all` with the multiplier u of row k behind it is `more`
@@ -48,7 +42,7 @@ with_nothing (Some us) = refl
 rows_step : (s : Sign) (row : List ℚ) (v k i : ℕ) (rs : List Row) (r : Row) → slice_get rs i ≡ Some r
     → row_multipliers s row (v + i) (k + i) (drop i rs) ≡ option_and_then (λ u. option_map (with_multiplier (k + i) u) (row_multipliers s row (v + (i + 1)) (k + (i + 1)) (drop (i + 1) rs))) (multiplier s r.sense (entry row (v + i)))
 rows_step s row v k i rs r e =
-    ap (row_multipliers s row (v + i) (k + i)) (there_first rs i r e)
+    ap (row_multipliers s row (v + i) (k + i)) (next_there rs i r e)
     ∙ (λ h. option_and_then (λ u. option_map (with_multiplier (k + i) u) (row_multipliers s row ((let z : v + i + 1 ≡ v + (i + 1) = omega arith in z) h) ((let z : k + i + 1 ≡ k + (i + 1) = omega arith in z) h) (drop (i + 1) rs))) (multiplier s r.sense (entry row (v + i))))
 
 pub one_row : (s : Sign) (row : List ℚ) (v k i : ℕ) (rs : List Row) (all more : List (ℕ × ℚ)) (r : Row) (u : ℚ) → slice_get rs i ≡ Some r → multiplier s r.sense (entry row (v + i)) ≡ Some u

@@ -6,7 +6,7 @@ use Rattle.std.specs.Bool.{one_answer}
 use Rattle.std.specs.declared.alloc.AllocError.{AllocError}
 use Rattle.std.proofs.Common.{sym, ap, ◌∙◌, subst, arith}
 use Rattle.std.proofs.lemmas.Int.{ints}
-use Rattle.std.proofs.lemmas.Bool.{eqb-true}
+use Rattle.std.proofs.lemmas.Bool.{and_parts, eqb-true}
 use Rattle.std.proofs.lemmas.Bool.Decides.{Decides-eqb}
 use Rattle.std.proofs.lemmas.Option.{same_Some, none-some}
 use Rattle.std.proofs.lemmas.List.Elements.{All-nil, All-cons, All-head, All-tail}
@@ -33,17 +33,13 @@ both_within [] j b h = cc
 both_within (s ∷ ss) zero b h = omega arith
 both_within (s ∷ ss) (suc j) b h = let l = both_within ss j b h in omega (arith, l)
 
-and_true : (a b : Bool) → (a && b) ≡ true → (a ≡ true) × (b ≡ true)
-and_true true b e = (refl, e)
-and_true false b e = cc
-
 both_at : (s : Span) (b : ℤ) → int_le s.lo b ≡ true → int_lt b s.hi ≡ true → (s.lo ≤ℤ b) × (b <ℤ s.hi)
 both_at s b p q = (grind (arith, ints), grind (arith, ints))
 
 pub both_tells : (o : Option Span) (b : ℤ) → has_both o b ≡ true → ForSome o (λ s. (s.lo ≤ℤ b) × (b <ℤ s.hi))
 both_tells None b h = cc
 both_tells (Some s) b h =
-    let k = and_true (int_le s.lo b) (int_lt b s.hi) h in
+    let k = and_parts (int_le s.lo b) (int_lt b s.hi) h in
     λ t e. subst (λ (u : Span). (u.lo ≤ℤ b) × (b <ℤ u.hi)) (same_Some s t e) (both_at s b k.0 k.1)
 
 -- ---- the first free column
@@ -66,7 +62,7 @@ pub free_at : (ss : List Span) (k : ℕ) → is_first_free ss k ≡ true → IsF
 free_at [] k e = cc
 free_at (s ∷ ss) zero e = record { span = s; there = refl; free = grind (arith, ints); before = All-nil (λ (t : Span). t.hi ≤ℤ t.lo) }
 free_at (s ∷ ss) (suc k) e =
-    let h = and_true (not (int_lt s.lo s.hi)) (is_first_free ss k) e in
+    let h = and_parts (not (int_lt s.lo s.hi)) (is_first_free ss k) e in
     let later = free_at ss k h.1 in
     record { span = later.span; there = later.there; free = later.free; before = All-cons (λ (t : Span). t.hi ≤ℤ t.lo) s (take k ss) (fixed_at s (flipped (int_lt s.lo s.hi) h.0)) later.before }
   where
@@ -91,7 +87,7 @@ first_only (s ∷ ss) (suc j) zero p q = absurd (clash (int_lt s.lo s.hi) (is_fi
     clash true b p q = cc
     clash false b p q = cc
 first_only (s ∷ ss) (suc j) (suc k) p q =
-    ap suc (first_only ss j k (and_true (not (int_lt s.lo s.hi)) (is_first_free ss j) p).1 (and_true (not (int_lt s.lo s.hi)) (is_first_free ss k) q).1)
+    ap suc (first_only ss j k (and_parts (not (int_lt s.lo s.hi)) (is_first_free ss j) p).1 (and_parts (not (int_lt s.lo s.hi)) (is_first_free ss k) q).1)
 
 -- where the first free column is known, the test compares with it
 pub first_tells : (ss : List Span) (k j : ℕ) → IsFirstFree ss k → nat_eq k j ≡ is_first_free ss j

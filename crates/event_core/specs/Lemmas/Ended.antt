@@ -2,6 +2,7 @@
 use Rattle.std.specs.Prelude.{◌≡◌, ◌<◌, ◌+◌, ℕ, zero, suc, Bool, true, false, not, cond, List, [], ◌∷◌, ◌++◌, length, Option, Some, None, slice_get, slice_index_or, slice_set, refl}
 use Rattle.std.specs.List.{count_by}
 use Rattle.std.proofs.Common.{sym, ap, subst, arith}
+use Rattle.std.proofs.lemmas.Bool.{not-true}
 use Rattle.std.proofs.lemmas.List.Sums.{sum_by-cons}
 use Rattle.node_tree.specs.declared.branch.Node.{Node}
 use Rattle.node_tree.specs.Nodes.{no_node}
@@ -53,15 +54,11 @@ leaves-length [] (n ∷ ns) h = absurd h
 leaves-length (e ∷ es) [] h = absurd h
 leaves-length (e ∷ es) (n ∷ ns) h = ap suc (leaves-length es ns h.1)
 
-not_true : (b : Bool) → not b ≡ true → b ≡ false
-not_true true h = cc
-not_true false h = refl
-
 pub leaf_at : (es : List Bool) (ns : List Node) (i : ℕ) → AreLeaves es ns → is_left es i ≡ true → (slice_index_or ns i no_node).first_child ≡ None
 leaf_at [] [] i h l = refl
 leaf_at [] (n ∷ ns) i h l = absurd h
 leaf_at (e ∷ es) [] i h l = absurd h
-leaf_at (e ∷ es) (n ∷ ns) zero h l = h.0 (not_true e l)
+leaf_at (e ∷ es) (n ∷ ns) zero h l = h.0 (not-true e l)
 leaf_at (e ∷ es) (n ∷ ns) (suc i) h l = leaf_at es ns i h.1 l
 
 pub leaves-ended : (es : List Bool) (ns : List Node) (i : ℕ) → AreLeaves es ns → AreLeaves (slice_set es i true) ns

@@ -2,7 +2,7 @@
 use Rattle.std.specs.Prelude.{◌≡◌, ◌≤◌, ◌+◌, ℕ, Bool, true, false, not, nat_eq, ◌&&◌, ◌||◌, cond, List, [], ◌∷◌, ◌++◌, length, All, refl}
 use Rattle.std.specs.List.{list_any}
 use Rattle.std.proofs.Common.{sym, ap, ◌∙◌, arith}
-use Rattle.std.proofs.lemmas.Bool.{eqb-true, eqb-false}
+use Rattle.std.proofs.lemmas.Bool.{or_parts, eqb-true, eqb-false}
 use Rattle.std.proofs.lemmas.List.Elements.{All-nil, All-cons, All-head, All-tail}
 use Rattle.event_core.specs.declared.entry.Holder.{Holder}
 use Rattle.event_core.specs.Holds.{without_hold}
@@ -66,10 +66,6 @@ AreApart-without_hold i (h ∷ hs) a = step (nat_eq h.node i) (AreApart-without_
     step false r = (any-without_hold (is_by h.worker) i hs a.0, any-without_hold (is_at h.node) i hs a.1, r)
 
 -- one more, of a worker and a node that have none
-or_false : (a b : Bool) → (a || b) ≡ false → (a ≡ false) × (b ≡ false)
-or_false true b e = cc
-or_false false b e = (refl, e)
-
 not_eq : (a b : ℕ) → nat_eq a b ≡ false → nat_eq b a ≡ false
 not_eq a b e = step (nat_eq b a) refl
   where
@@ -79,13 +75,13 @@ not_eq a b e = step (nat_eq b a) refl
 
 any-push : (p : Holder → Bool) (hs : List Holder) (k : Holder) → list_any p hs ≡ false → p k ≡ false → list_any p (hs ++ k ∷ []) ≡ false
 any-push p [] k e f = ap (λ c. c || false) f
-any-push p (h ∷ hs) k e f = let b = or_false (p h) (list_any p hs) e in ap (λ c. c || list_any p (hs ++ k ∷ [])) b.0 ∙ any-push p hs k b.1 f
+any-push p (h ∷ hs) k e f = let b = or_parts (p h) (list_any p hs) e in ap (λ c. c || list_any p (hs ++ k ∷ [])) b.0 ∙ any-push p hs k b.1 f
 
 pub AreApart-push : (hs : List Holder) (k : Holder) → AreApart hs → list_any (is_by k.worker) hs ≡ false → list_any (is_at k.node) hs ≡ false → AreApart (hs ++ k ∷ [])
 AreApart-push [] k a e f = (refl, refl, tt)
 AreApart-push (h ∷ hs) k a e f =
-    let b = or_false (is_by k.worker h) (list_any (is_by k.worker) hs) e in
-    let c = or_false (is_at k.node h) (list_any (is_at k.node) hs) f in (
+    let b = or_parts (is_by k.worker h) (list_any (is_by k.worker) hs) e in
+    let c = or_parts (is_at k.node h) (list_any (is_at k.node) hs) f in (
       any-push (is_by h.worker) hs k a.0 (not_eq h.worker k.worker b.0),
       any-push (is_at h.node) hs k a.1 (not_eq h.node k.node c.0),
       AreApart-push hs k a.2 b.1 c.1,

@@ -1,11 +1,11 @@
 -- Lemmas: the test of feasible points tells whether they are.
-use Rattle.std.specs.Prelude.{◌≡◌, ℤ, Bool, true, false, ◌&&◌, List, [], ◌∷◌, All, refl}
+use Rattle.std.specs.Prelude.{◌≡◌, ℤ, List, [], ◌∷◌, All, refl}
 use Rattle.std.specs.List.{list_all}
 use Rattle.std.specs.Bool.{Decides}
 use Rattle.std.specs.declared.cmp.Ordering.{Ordering}
 use Rattle.std.specs.declared.cmp.Ordering.TheVariants.{Less, Equal, Greater}
 use Rattle.std.proofs.Common.{sym}
-use Rattle.std.proofs.lemmas.Bool.{false≢true}
+use Rattle.std.proofs.lemmas.Bool.{and_parts, and_from, false≢true}
 use Rattle.std.proofs.lemmas.List.Elements.{All-nil, All-cons, All-head, All-tail}
 use Rattle.fraction.specs.Rational.{ℚ}
 use Rattle.fraction.specs.Checked.{compare}
@@ -35,27 +35,19 @@ stands_tells E v rhs Greater e = (λ f. absurd (false≢true f), λ h. absurd (n
 decides_satisfied : (x : List ℤ) (r : Row) → Decides (is_satisfied x r) (Satisfies x r)
 decides_satisfied x r = stands_tells r.sense (value r.terms x) r.rhs (compare (value r.terms x) r.rhs) refl
 
-and_true : (a b : Bool) → (a && b) ≡ true → (a ≡ true) × (b ≡ true)
-and_true true b e = (refl, e)
-and_true false b e = cc
-
-and_both : (a b : Bool) → a ≡ true → b ≡ true → (a && b) ≡ true
-and_both true b p q = q
-and_both false b p q = cc
-
 decides_rows : (x : List ℤ) (rs : List Row) → Decides (list_all (is_satisfied x) rs) (All (Satisfies x) rs)
 decides_rows x [] = (λ _. All-nil (Satisfies x), λ _. refl)
 decides_rows x (r ∷ rs) =
     let here = decides_satisfied x r in
     let rest = decides_rows x rs in (
-      λ e. let b = and_true (is_satisfied x r) (list_all (is_satisfied x) rs) e in All-cons (Satisfies x) r rs (here.0 b.0) (rest.0 b.1),
-      λ h. and_both (is_satisfied x r) (list_all (is_satisfied x) rs) (here.1 (All-head (Satisfies x) r rs h)) (rest.1 (All-tail (Satisfies x) r rs h)),
+      λ e. let b = and_parts (is_satisfied x r) (list_all (is_satisfied x) rs) e in All-cons (Satisfies x) r rs (here.0 b.0) (rest.0 b.1),
+      λ h. and_from (is_satisfied x r) (list_all (is_satisfied x) rs) (here.1 (All-head (Satisfies x) r rs h)) (rest.1 (All-tail (Satisfies x) r rs h)),
     )
 
 pub Decides-feasible : (p : Problem) (x : List ℤ) → Decides (is_feasible p x) (IsFeasible p x)
 Decides-feasible p x =
     let inside = Decides-in_box p.spans x in
     let rows = decides_rows x p.rows in (
-      λ e. let b = and_true (is_in_box p.spans x) (list_all (is_satisfied x) p.rows) e in record { in_box = inside.0 b.0; rows = rows.0 b.1 },
-      λ h. and_both (is_in_box p.spans x) (list_all (is_satisfied x) p.rows) (inside.1 h.in_box) (rows.1 h.rows),
+      λ e. let b = and_parts (is_in_box p.spans x) (list_all (is_satisfied x) p.rows) e in record { in_box = inside.0 b.0; rows = rows.0 b.1 },
+      λ h. and_from (is_in_box p.spans x) (list_all (is_satisfied x) p.rows) (inside.1 h.in_box) (rows.1 h.rows),
     )

@@ -1,12 +1,13 @@
 -- Lemmas: what is true of each state that legal events led to.
 use Rattle.std.specs.Prelude.{◌≡◌, ◌<◌, ◌≤◌, ◌+◌, ℕ, zero, suc, ℤ, Bool, true, false, not, nat_eq, ◌||◌, List, [], ◌∷◌, ◌++◌, length, All, Option, Some, None, slice_get, slice_set, refl}
 use Rattle.std.specs.Option.{option_map}
-use Rattle.std.proofs.Common.{sym, ap, ◌∙◌, subst, arith}
+use Rattle.std.proofs.Common.{subst, arith}
 use Rattle.std.proofs.lemmas.Bool.{eqb-false}
 use Rattle.std.proofs.lemmas.Option.{same_Some}
-use Rattle.std.proofs.lemmas.List.{append-nil, append_assoc, length_push}
+use Rattle.std.proofs.lemmas.List.{length_push}
 use Rattle.std.proofs.lemmas.List.Elements.{All-nil, All-weaker, All-push}
 use Rattle.fraction.specs.Rational.{ℚ}
+use Rattle.fraction.specs.Lemmas.Order.{less_at_most}
 use Rattle.problem.specs.declared.row.Row.{Row}
 use Rattle.problem.specs.Problem.{Problem}
 use Rattle.problem.specs.Feasible.{objective_at}
@@ -20,11 +21,12 @@ use Rattle.node_tree.specs.Lemmas.Splitting.{split_is_tree}
 use Rattle.node_events.specs.declared.reason.Reason.{Reason}
 use Rattle.node_events.specs.declared.event.Event.{Event}
 use Rattle.node_events.specs.declared.event.Event.TheVariants.{Claim, Release, Cut as CutEvent, Offer, Split, Close}
-use Rattle.derivation_book.specs.declared.cut.Cut.{Cut}
 use Rattle.derivation_book.specs.Rounded.{rounded_row}
-use Rattle.derivation_book.specs.Cuts.{AreCutsAfter, AreCutsOf}
+use Rattle.derivation_book.specs.Cuts.{AreCutsOf}
+use Rattle.derivation_book.specs.Lemmas.Rounded.{one_more}
+use Rattle.derivation_book.specs.Legal.{IsAtMost}
 use Rattle.incumbent.specs.declared.best.Best.{Best}
-use Rattle.incumbent.specs.Offers.{IsIncumbentOf, IsPointOf, IsImprovement, offered}
+use Rattle.incumbent.specs.Offers.{IsIncumbentOf, IsPointOf, IsImprovement, offered, IsBetter, cutoff_of}
 use Rattle.incumbent.specs.Lemmas.Offers.{Decides-better}
 use Rattle.event_core.specs.declared.entry.Holder.{Holder}
 use Rattle.event_core.specs.declared.entry.Entry.{Entry}
@@ -39,14 +41,13 @@ use Rattle.event_core.specs.Lemmas.Ended.{AreLeaves, leaves-length, leaf_at, lea
 use Rattle.event_core.specs.Lemmas.Points.{Decides-feasible}
 use Rattle.event_core.specs.Lemmas.Boxes.{both_within, both_tells}
 
--- ---- cuts
-one_cut : (p : Problem) (before cs : List Cut) (c : Cut) → AreCutsAfter p before cs → rounded_row p (before ++ cs) c.mult ≡ Some c.row → AreCutsAfter p before (cs ++ c ∷ [])
-one_cut p before [] c h e = (ap (λ ds. rounded_row p ds c.mult) (sym (append-nil before)) ∙ e, tt)
-one_cut p before (d ∷ cs) c h e = (h.0, one_cut p (before ++ d ∷ []) cs c h.1 (ap (λ ds. rounded_row p ds c.mult) (append_assoc before (d ∷ []) cs) ∙ e))
-
 -- ---- points
 pub improvement : (p : Problem) (i : Option Best) (s : State) (x : List ℤ) → s.problem ≡ p → s.incumbent ≡ i → IsImprovement p i x → IsIncumbentOf p (offered p x)
 improvement p i s x e f h = λ b q. subst (IsPointOf p) (same_Some _ b q) (record { feasible = h.feasible; value = refl })
+
+pub better_cutoff : (i : Option Best) (v : ℚ) → IsBetter i v → IsAtMost (Some v) (cutoff_of i)
+better_cutoff None v h = tt
+better_cutoff (Some b) v h = less_at_most v b.value (h b refl)
 
 -- ---- holds of open nodes
 abbrev pub HoldsOpen : List Bool → Holder → Type 0
@@ -126,7 +127,7 @@ kept_cut s mult None e f k = k
 kept_cut s mult (Some r) e f k = record {
   tree = k.tree;
   leaves = k.leaves;
-  cuts = one_cut s.problem [] s.cuts (record { row = r; mult = mult }) k.cuts e;
+  cuts = one_more s.problem [] s.cuts (record { row = r; mult = mult }) k.cuts e;
   few_cuts = (let n = length_push s.cuts (record { row = r; mult = mult }) in omega (arith, n, f));
   incumbent = k.incumbent;
   holds_open = k.holds_open;
