@@ -1,7 +1,7 @@
 -- The lines of the problem part, one more at a time.
 use Rattle.std.specs.Prelude.{◌≡◌, ◌+◌, ℕ, List, [], ◌∷◌, ◌++◌, drop, slice_get, Option, Some, None, option_map, codes, refl}
 use Rattle.std.proofs.Common.{ap, sym, ◌∙◌, append_assoc}
-use Rattle.std.proofs.lemmas.Option.{same_Some, slice_get_within, get_or_from_slice_get}
+use Rattle.std.proofs.lemmas.Option.{same_Some}
 use Rattle.fraction.specs.Rational.{ℚ}
 use Rattle.problem_box.specs.declared.span.Span.{Span}
 use Rattle.problem.specs.declared.row.Row.{Row}
@@ -10,16 +10,13 @@ use Rattle.cert_rows.specs.declared.line.Why.{Why}
 use Rattle.cert_rows.specs.declared.line.Why.TheVariants.{Rnd}
 use Rattle.cert_rows.specs.Validity.{lower_row, upper_row}
 use Rattle.derivation_book.specs.declared.cut.Cut.{Cut}
-use Rattle.derivation_book.specs.Lemmas.OptionChains.{next_item}
+use Rattle.derivation_book.specs.Lemmas.OptionChains.{next_there}
 use Rattle.cert_merge.specs.Merged.{label_of, labelled, row_lines, bound_lines, cut_line, cut_lines}
-
-dropped : {X : Type 0} (xs : List X) (i : ℕ) (x : X) → slice_get xs i ≡ Some x → drop i xs ≡ x ∷ drop (i + 1) xs
-dropped xs i x h = next_item xs i x (slice_get_within xs i x h) (sym (get_or_from_slice_get xs i x x h))
 
 pub next_row : (rs : List Row) (i : ℕ) (r : Row) (prefix : List CertRow) → slice_get rs i ≡ Some r
     → (prefix ++ (labelled (label_of (codes "R") i) r ∷ [])) ++ row_lines (i + 1) (drop (i + 1) rs) ≡ prefix ++ row_lines i (drop i rs)
 next_row rs i r prefix h =
-    append_assoc prefix (labelled (label_of (codes "R") i) r ∷ []) (row_lines (i + 1) (drop (i + 1) rs)) ∙ ap (λ t. prefix ++ row_lines i t) (sym (dropped rs i r h))
+    append_assoc prefix (labelled (label_of (codes "R") i) r ∷ []) (row_lines (i + 1) (drop (i + 1) rs)) ∙ ap (λ t. prefix ++ row_lines i t) (sym (next_there rs i r h))
 
 pub next_bounds : (ss : List Span) (j : ℕ) (s : Span) (prefix : List CertRow) → slice_get ss j ≡ Some s
     → ((prefix ++ (labelled (label_of (codes "L") j) (lower_row j s) ∷ [])) ++ (labelled (label_of (codes "U") j) (upper_row j s) ∷ [])) ++ bound_lines (j + 1) (drop (j + 1) ss)
@@ -27,7 +24,7 @@ pub next_bounds : (ss : List Span) (j : ℕ) (s : Span) (prefix : List CertRow) 
 next_bounds ss j s prefix h =
     append_assoc (prefix ++ (labelled (label_of (codes "L") j) (lower_row j s) ∷ [])) (labelled (label_of (codes "U") j) (upper_row j s) ∷ []) (bound_lines (j + 1) (drop (j + 1) ss))
     ∙ append_assoc prefix (labelled (label_of (codes "L") j) (lower_row j s) ∷ []) (labelled (label_of (codes "U") j) (upper_row j s) ∷ bound_lines (j + 1) (drop (j + 1) ss))
-    ∙ ap (λ t. prefix ++ bound_lines j t) (sym (dropped ss j s h))
+    ∙ ap (λ t. prefix ++ bound_lines j t) (sym (next_there ss j s h))
 
 -- ---- cuts
 -- a cut with its row and its multipliers
@@ -47,4 +44,4 @@ next_cut cs i l prefix h = step (slice_get cs i) refl h
     step None e q = cc
     step (Some c) e q =
         let z : cut_line i c ≡ l = same_Some (cut_line i c) l q in
-        append_assoc prefix (l ∷ []) (cut_lines (i + 1) (drop (i + 1) cs)) ∙ (λ k. prefix ++ (sym z k ∷ cut_lines (i + 1) (drop (i + 1) cs))) ∙ ap (λ t. prefix ++ cut_lines i t) (sym (dropped cs i c e))
+        append_assoc prefix (l ∷ []) (cut_lines (i + 1) (drop (i + 1) cs)) ∙ (λ k. prefix ++ (sym z k ∷ cut_lines (i + 1) (drop (i + 1) cs))) ∙ ap (λ t. prefix ++ cut_lines i t) (sym (next_there cs i c e))

@@ -11,7 +11,7 @@ use Rattle.fraction.specs.Rational.{ℚ, whole, frac, ◌+ℚ◌, ◌*ℚ◌}
 use Rattle.fraction.specs.Checked.{add_checked, mul_checked}
 use Rattle.fraction.specs.Lemmas.Integers.{is_diff, diff-pos, diff-mul, diff-same}
 use Rattle.fraction.specs.Lemmas.Rational.{lit_one, frac_den, frac_same, frac-*ℚ, divided}
-use Rattle.fraction.specs.Lemmas.Bounds.{was_some, value_from_add, value_from_mul, whole_parts, frac-num_le}
+use Rattle.fraction.specs.Lemmas.Bounds.{was_some, value_from_add, value_from_mul, whole_parts, frac-num_le, was_mapped}
 use Rattle.fraction.specs.Lemmas.Checked.{sum_has_fraction, product_has_fraction}
 use Rattle.fraction.specs.Lemmas.Whole.{IsAnInteger, integer_from_whole, integer-+, whole-+, whole-*}
 use Rattle.fraction.specs.Whole.{IsWhole}
@@ -25,7 +25,6 @@ use Rattle.derivation_book.specs.declared.place.Place.{Place}
 use Rattle.derivation_book.specs.declared.place.Place.TheVariants.{Lower, Upper}
 use Rattle.derivation_book.specs.Places.{row_in, no_span}
 use Rattle.derivation_book.specs.Sums.{with_product, sum_from, coefficient_at, side_at, combined_at, combined_side, combined_columns, Sums, sums_of, combined}
-use Rattle.derivation_book.specs.Lemmas.OptionChains.{was_mapped}
 use Rattle.derivation_book.specs.Lemmas.OneDenominator.{add_over, mul_over, zero_over}
 use Rattle.derivation_book.specs.OverOne.{IsTimes, IsScaled, AreScaled, IsWholeRow, NamesWholeRow, over, sums_over}
 

@@ -4,11 +4,11 @@ use Rattle.std.proofs.Common.{◌≡◌, ℕ, ◌+◌, ◌<◌, ap, sym, ◌∙�
 use Rattle.std.specs.Option.{option_map}
 use Rattle.std.proofs.lemmas.Option.{get_or_from_slice_get}
 use Rattle.std.proofs.lemmas.List.{take_more, map-append}
+use Rattle.fraction.specs.Lemmas.Bounds.{was_mapped}
 use Rattle.problem_box.specs.declared.span.Span.{Span}
 use Rattle.problem.specs.declared.row.Row.{Row}
 use Rattle.problem.specs.Problem.{Problem}
 use Rattle.derivation_book.specs.declared.cut.Cut.{Cut}
-use Rattle.derivation_book.specs.Lemmas.OptionChains.{was_mapped}
 use Rattle.tableau.specs.LinearProgram.{LinearProgram, relaxation, with_cut}
 use Rattle.tableau.specs.Lemmas.Programs.{relaxation-with_cut}
 use Rattle.dual_simplex.specs.Answers.{linear_program}

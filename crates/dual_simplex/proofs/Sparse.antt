@@ -10,14 +10,13 @@ use Rattle.fraction.specs.Checked.{add_checked, mul_checked, dot_from}
 use Rattle.fraction.specs.Lemmas.Checked.{zero_has_fraction}
 use Rattle.problem.specs.Linear.{Terms, coefficient}
 use Rattle.problem.specs.Rising.{RiseFrom}
-use Rattle.problem.specs.Lemmas.Rising.{before_first, at_first}
-use Rattle.problem.specs.Lemmas.Linear.{past_first}
+use Rattle.problem.specs.Lemmas.Rising.{rise_lower, before_first, at_first}
 use Rattle.derivation_book.specs.Sums.{with_product}
 use Rattle.derivation_book.specs.Lemmas.Held.{held_product, zero_with}
-use Rattle.derivation_book.specs.Lemmas.Columns.{later_rise}
 use Rattle.derivation_book.specs.Lemmas.OptionChains.{next_item}
 use Rattle.tableau.specs.Elimination.{zero_ℚ}
 use Rattle.tableau.specs.LinearProgram.{coefficients_from}
+use Rattle.tableau.specs.Lemmas.Started.{past_term}
 use Rattle.dual_simplex.specs.Relaxation.{RationalPoint, rational_at}
 use Rattle.dual_simplex.specs.PointSums.{checked_sum}
 
@@ -60,11 +59,6 @@ term_there s t ts x l = at (nat_lt t.0 (length x)) refl
     at true e = refl
     at false e = absurd (omega (arith, ltb-false _ _ e))
 
--- from a later column on, the coefficients are those of the other terms
-other_coefficients : (t : ℕ × ℚ) (ts : Terms) (j k : ℕ) → t.0 < j → coefficients_from j k (t ∷ ts) ≡ coefficients_from j k ts
-other_coefficients t ts j zero l = refl
-other_coefficients t ts j (suc k) l = λ i. past_first t ts j (λ e. omega (arith, l, e)) i ∷ other_coefficients t ts (j + 1) k (omega (arith, l)) i
-
 -- the sum over the k columns from j on
 abbrev sum_of_columns : RationalPoint → ℕ → ℕ → Terms → ℚ → Option ℚ
 sum_of_columns x j k ts s = dot_from s (coefficients_from j k ts) (drop j x)
@@ -92,8 +86,8 @@ module _ (x : RationalPoint) where
       at others [] q = passed others [] refl tt
       at others (t ∷ us) q = elim (cases_eq t.0 j) [
         | inl e ↦
-            let later : RiseFrom (j + 1) us = later_rise (j + 1) (suc t.0) us (omega (arith, e)) q.1 in
-            (λ i. option_and_then (λ u. dot_from u (other_coefficients t us (j + 1) k (omega (arith, e)) i) (drop (j + 1) x)) (with_product s (at_first t us j q.1 e i) (rational_at x j)))
+            let later : RiseFrom (j + 1) us = rise_lower (j + 1) (suc t.0) us (omega (arith, e)) q.1 in
+            (λ i. option_and_then (λ u. dot_from u (past_term t us (j + 1) k (omega (arith, e)) i) (drop (j + 1) x)) (with_product s (at_first t us j q.1 e i) (rational_at x j)))
             ∙ same_after s t.1 (rational_at x j) (sum_of_columns x (j + 1) k us) (λ u. sum_of_terms u us x) (λ u f. others u us later f)
             ∙ ap (λ n. option_and_then (λ u. sum_of_terms u us x) (with_product s t.1 (rational_at x n))) (sym e)
             ∙ sym (term_there s t us x (omega (arith, e, there)))

@@ -3,7 +3,7 @@ use Rattle.std.specs.Prelude.{◌⊎◌, cond}
 use Rattle.std.proofs.Common.{◌≡◌, ℕ, zero, suc, ◌+◌, ◌-◌, ◌*◌, ◌≤◌, arith, refl, ap, sym, ◌∙◌, subst, Bool, true, false, Option, Some, None, List, [], length, take, get_or, inl, inr}
 use Rattle.std.specs.Option.{option_map}
 use Rattle.fraction.specs.Rational.{ℚ}
-use Rattle.fraction.specs.Lemmas.Bounds.{was_some}
+use Rattle.fraction.specs.Lemmas.Bounds.{was_some, was_mapped}
 use Rattle.problem_box.specs.declared.span.Span.{Span}
 use Rattle.problem.specs.Linear.{Multipliers}
 use Rattle.problem.specs.Problem.{Problem}
@@ -18,10 +18,8 @@ use Rattle.tableau.specs.Pivot.{computed_values, revalued, rows_eliminated, elim
 use Rattle.tableau.specs.Place.{place}
 use Rattle.tableau.specs.Start.{started}
 use Rattle.tableau.specs.Run.{RunEnd, EndsAs, after_pivot, continued, step_at, run_from}
-use Rattle.tableau.specs.Lemmas.RowAlgebra.{some_map}
 use Rattle.tableau.specs.Lemmas.RunKeeps.{lost_cramped}
 use Rattle.tableau.specs.Multipliers.{point_of, mult_of_cost, mult_of_row}
-use Rattle.dual_simplex.specs.declared.answer.Answer.{Answer}
 use Rattle.dual_simplex.specs.declared.answer.Answer.TheVariants.{Infeasible, Optimal, Cramped, Stalled}
 use Rattle.dual_simplex.specs.PointSums.{sums_fit}
 use Rattle.dual_simplex.specs.Relaxation.{RationalPoint}
@@ -36,8 +34,8 @@ pivoted_counts r c t u e =
     let a = was_some (λ w. exchanged r c w t) (violation (bounds_of t r) (value_of t r)) u e in
     let b = was_some (λ v. revalued (basis_exchanged r c a.0 v)) (eliminated r c t) u a.2 in
     let f = was_some (λ rows. option_map (λ costs. record t { rows = rows; reduced_costs = costs }) (substituted c (get_or rows r []) t.reduced_costs)) (rows_eliminated r c t.rows) b.0 b.1 in
-    let g = some_map (λ costs. record t { rows = f.0; reduced_costs = costs }) (substituted c (get_or f.0 r []) t.reduced_costs) b.0 f.2 in
-    let v = some_map (λ values. record (basis_exchanged r c a.0 b.0) { values = values; pivots = b.0.pivots + 1 })
+    let g = was_mapped (λ costs. record t { rows = f.0; reduced_costs = costs }) (substituted c (get_or f.0 r []) t.reduced_costs) b.0 f.2 in
+    let v = was_mapped (λ values. record (basis_exchanged r c a.0 b.0) { values = values; pivots = b.0.pivots + 1 })
     (computed_values (basis_exchanged r c a.0 b.0).nonbasic_values (basis_exchanged r c a.0 b.0).statuses (basis_exchanged r c a.0 b.0).nonbasic_values (basis_exchanged r c a.0 b.0).rows) u b.2 in
     sym (ap (λ (t : Tableau). t.pivots) v.2) ∙ ap (λ n. n + 1) (sym (ap (λ (t : Tableau). t.pivots) g.2))
 

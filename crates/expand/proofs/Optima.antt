@@ -1,5 +1,5 @@
 -- What an optimum of the relaxation of a node gives: a proof, a point, or a split.
-use Rattle.std.specs.Prelude.{◌≡◌, ◌<◌, ◌≤◌, ◌+◌, ◌++◌, ℕ, zero, suc, ℤ, pos, ◌≤ℤ◌, int_le, int_lt, nat_abs, nat_eq, Bool, true, false, not, IsTrue, ◌&&◌, List, [], ◌∷◌, length, map, take, drop, All, Option, Some, None, slice_get, slice_index_or, refl}
+use Rattle.std.specs.Prelude.{◌≡◌, ◌<◌, ◌≤◌, ◌+◌, ◌++◌, ℕ, zero, suc, ℤ, pos, ◌≤ℤ◌, int_le, int_lt, nat_abs, nat_eq, Bool, true, false, not, IsTrue, ◌&&◌, List, [], ◌∷◌, length, map, take, All, Option, Some, None, slice_get, slice_index_or, refl}
 use Rattle.std.specs.Option.{ForSome}
 use Rattle.std.proofs.Common.{sym, ap, ◌∙◌, subst, inl, inr, arith}
 use Rattle.std.proofs.lemmas.Int.{ints}
@@ -7,7 +7,7 @@ use Rattle.std.proofs.lemmas.Bool.{false≢true}
 use Rattle.std.proofs.lemmas.Bool.Decides.{Decides-eqb}
 use Rattle.std.proofs.lemmas.List.Elements.{All-head, All-tail, All-weaker}
 use Rattle.std.proofs.lemmas.Option.{same_Some, none-some, slice_get_within, get_or_from_slice_get}
-use Rattle.std.proofs.lemmas.List.{take_more, take-append-drop, length-map, get_or-map}
+use Rattle.std.proofs.lemmas.List.{take_more, length-map, get_or-map}
 use Rattle.fraction.specs.Rational.{ℚ, whole, frac, floor, ceil, ◌≤ℚ◌}
 use Rattle.fraction.specs.Order.{◌<ℚ◌}
 use Rattle.fraction.specs.Whole.{IsWhole}
@@ -25,12 +25,11 @@ use Rattle.problem.specs.Limited.{IsModestSpan}
 use Rattle.problem.specs.Limits.{largest_bound}
 use Rattle.node_events.specs.declared.reason.Reason.{Reason}
 use Rattle.node_events.specs.declared.reason.Reason.TheVariants.{Fractional, Cramped, Stalled}
-use Rattle.node_events.specs.declared.proof.Proof.{Proof}
 use Rattle.node_events.specs.declared.proof.Proof.TheVariants.{Refute, Bound}
 use Rattle.derivation_book.specs.declared.cut.Cut.{Cut}
-use Rattle.derivation_book.specs.Legal.{IsAtMost, IsLegalProof, has_whole_objective, rounded_if, reaches, is_legal_proof}
+use Rattle.derivation_book.specs.Legal.{IsLegalProof, has_whole_objective, rounded_if, reaches, is_legal_proof}
 use Rattle.derivation_book.specs.Lemmas.Deciding.{decides-whole, decides-at_most, decides-legal}
-use Rattle.derivation_book.specs.Lemmas.Staying.{still_legal}
+use Rattle.derivation_book.specs.Lemmas.Staying.{by_first}
 use Rattle.dual_simplex.specs.declared.answer.Answer.TheVariants.{Infeasible}
 use Rattle.dual_simplex.specs.Relaxation.{RationalPoint, rational_at, rational_value, LiesInBox, SatisfiesRow}
 use Rattle.dual_simplex.specs.Answers.{answer}
@@ -159,11 +158,6 @@ module _ (p : Problem) (cs : List Cut) (box : List Span) (cutoff : Option ℚ) w
   middle_reason j z (Cramped k pivots) n m h = (decides-reason p cs box cutoff j z (Cramped k pivots)).1 record { nonempty = n; few_cuts = h.0; given = (h.1, m) }
   middle_reason j z (Stalled k) n m h = (decides-reason p cs box cutoff j z (Stalled k)).1 record { nonempty = n; few_cuts = h.0; given = (h.1, m) }
 
--- a proof by the first k cuts is one by all of them
-by_first : (p : Problem) (cs : List Cut) (k : ℕ) (box : List Span) (cutoff : Option ℚ) (proof : Proof) → IsAtMost cutoff cutoff → IsLegalProof p (take k cs) box cutoff proof → IsLegalProof p cs box cutoff proof
-by_first p cs k box cutoff proof same h =
-    subst (λ (ds : List Cut). IsLegalProof p ds box cutoff proof) (take-append-drop k cs) (still_legal p (take k cs) (drop k cs) box cutoff cutoff proof same h)
-
 -- the bound of an optimum is the proof's, rounded up where the objective is whole
 module _ (p : Problem) (cs : List Cut) (box : List Span) (k : ℕ) (x : RationalPoint) (mult : Multipliers) (v : ℚ) (optimum : IsOptimal p (take k cs) box x mult v) where
   bounds_at : (z : ℚ) → z ≤ℚ rounded_if (is_rounded p v) v → IsLegalProof p (take k cs) box (Some z) (Bound mult (is_rounded p v))
@@ -180,7 +174,7 @@ module _ (p : Problem) (cs : List Cut) (box : List Span) (k : ℕ) (x : Rational
   pub closes_at : (z : ℚ) → z ≤ℚ rounded_if (is_rounded p v) v → is_legal_proof p cs box (Some z) (Bound mult (is_rounded p v)) ≡ true
   closes_at z l =
       (decides-legal p cs box (Some z) (Bound mult (is_rounded p v))).1
-      (by_first p cs k box (Some z) (Bound mult (is_rounded p v)) (≤ℚ_refl z) (bounds_at z l))
+      (by_first p cs k box (Some z) (Bound mult (is_rounded p v)) (bounds_at z l))
 
   pub optimum_shut : (cutoff : Option ℚ) → reaches cutoff (is_rounded p v) (Some v) ≡ true → is_legal_proof p cs box cutoff (Bound mult (is_rounded p v)) ≡ true
   optimum_shut None h = cc

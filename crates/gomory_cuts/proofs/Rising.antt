@@ -7,17 +7,16 @@ use Rattle.std.proofs.lemmas.Bool.Decides.{Decides-int_eq}
 use Rattle.std.proofs.lemmas.List.{length-map}
 use Rattle.std.proofs.lemmas.List.Elements.{All-nil, All-cons, All-head, All-tail, All-append, All-weaker}
 use Rattle.fraction.specs.Rational.{ℚ, whole}
-use Rattle.fraction.specs.Lemmas.Bounds.{was_some, whole_parts}
+use Rattle.fraction.specs.Lemmas.Bounds.{was_some, whole_parts, was_mapped}
+use Rattle.problem.specs.Lemmas.Rising.{rise_lower}
 use Rattle.problem.specs.declared.row.Row.{Row}
 use Rattle.problem.specs.Problem.{Problem}
 use Rattle.problem.specs.Rising.{RiseFrom, AreNonzero}
 use Rattle.derivation_book.specs.declared.cut.Cut.{Cut}
 use Rattle.derivation_book.specs.Known.{known_lines, first_cut}
 use Rattle.derivation_book.specs.Sums.{combined_columns}
-use Rattle.derivation_book.specs.Lemmas.Columns.{later_rise}
 use Rattle.derivation_book.specs.Lemmas.Combining.{columns_length}
 use Rattle.derivation_book.specs.Lemmas.Numbering.{known_length}
-use Rattle.derivation_book.specs.Lemmas.OptionChains.{was_mapped}
 use Rattle.tableau.specs.Elimination.{entry}
 use Rattle.tableau.specs.Multipliers.{with_multiplier}
 use Rattle.tableau.specs.Tableau.{Tableau, row_of, status_of}
@@ -46,15 +45,15 @@ one_between : (k i j l : ℕ) (u : ℚ) (ms : List (ℕ × ℚ)) → k ≤ j →
 one_between k i j l u ms a b c h = at (int_eq u.num (pos 0)) refl
   where
     at : (z : Bool) → int_eq u.num (pos 0) ≡ z → AreBetween k l (if z then ms else (j, u) ∷ ms)
-    at true e = record { rising = later_rise k i ms (omega (arith, a, c)) h.rising; below = h.below; nonzero = h.nonzero }
+    at true e = record { rising = rise_lower k i ms (omega (arith, a, c)) h.rising; below = h.below; nonzero = h.nonzero }
     at false e = record {
-      rising = (a, later_rise (suc j) i ms c h.rising);
+      rising = (a, rise_lower (suc j) i ms c h.rising);
       below = All-cons (IsBelow l) (j, u) ms b h.below;
       nonzero = All-cons IsNonzero (j, u) ms (not_zero u e) h.nonzero;
     }
 
 both_rise : (k i : ℕ) (us vs : List (ℕ × ℚ)) → RiseFrom k us → All (IsBelow i) us → k ≤ i → RiseFrom i vs → RiseFrom k (us ++ vs)
-both_rise k i [] vs r b l s = later_rise k i vs l s
+both_rise k i [] vs r b l s = rise_lower k i vs l s
 both_rise k i (u ∷ us) vs r b l s = (r.0, both_rise (suc u.0) i us vs r.1 (All-tail (IsBelow i) u us b) (All-head (IsBelow i) u us b) s)
 
 both_between : (k i l : ℕ) (us vs : List (ℕ × ℚ)) → k ≤ i → i ≤ l → AreBetween k i us → AreBetween i l vs → AreBetween k l (us ++ vs)

@@ -5,12 +5,11 @@ use Rattle.std.specs.Option.{option_and_then, option_map}
 use Rattle.std.proofs.lemmas.List.{drop_more, append_assoc, append-nil, drop_all, length-drop}
 use Rattle.std.proofs.lemmas.Bool.{eq-eqb, ne_eqb, eqb-true}
 use Rattle.std.proofs.Math.Seq.{take-append_seam}
-use Rattle.std.proofs.lemmas.Option.{slice_get_within, get_or_from_slice_get}
 use Rattle.fraction.specs.Rational.{ℚ}
 use Rattle.problem.specs.declared.row.Row.{Row}
 use Rattle.problem.specs.Problem.{Problem}
 use Rattle.derivation_book.specs.declared.cut.Cut.{Cut}
-use Rattle.derivation_book.specs.Lemmas.OptionChains.{next_item}
+use Rattle.derivation_book.specs.Lemmas.OptionChains.{next_there}
 use Rattle.tableau.specs.Elimination.{entry}
 use Rattle.tableau.specs.Multipliers.{with_multiplier}
 use Rattle.tableau.specs.Tableau.{Tableau, status_of}
@@ -43,7 +42,7 @@ with_nothing (Some us) = refl
 rows_step : (s : Sign) (row : List ℚ) (v k i : ℕ) (rs : List Row) (r : Row) → slice_get rs i ≡ Some r
     → row_multipliers s row (v + i) (k + i) (drop i rs) ≡ option_and_then (λ u. option_map (with_multiplier (k + i) u) (row_multipliers s row (v + (i + 1)) (k + (i + 1)) (drop (i + 1) rs))) (multiplier s r.sense (entry row (v + i)))
 rows_step s row v k i rs r e =
-    ap (row_multipliers s row (v + i) (k + i)) (next_item rs i r (slice_get_within rs i r e) (sym (get_or_from_slice_get rs i r r e)))
+    ap (row_multipliers s row (v + i) (k + i)) (next_there rs i r e)
     ∙ (λ h. option_and_then (λ u. option_map (with_multiplier (k + i) u) (row_multipliers s row ((let z : v + i + 1 ≡ v + (i + 1) = omega arith in z) h) ((let z : k + i + 1 ≡ k + (i + 1) = omega arith in z) h) (drop (i + 1) rs))) (multiplier s r.sense (entry row (v + i))))
 
 pub one_row : (s : Sign) (row : List ℚ) (v k i : ℕ) (rs : List Row) (all more : List (ℕ × ℚ)) (r : Row) (u : ℚ) → slice_get rs i ≡ Some r → multiplier s r.sense (entry row (v + i)) ≡ Some u

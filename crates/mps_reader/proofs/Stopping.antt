@@ -1,15 +1,11 @@
 -- Answers of lines, and their faults.
-use Rattle.std.specs.Prelude.{◌≡◌, Option, Result, Ok, Err, OnOk, IfErr}
+use Rattle.std.specs.Prelude.{◌≡◌, Option, Result, Ok, Err, OnOk}
 use Rattle.std.proofs.Common.{ap, subst}
 use Rattle.mps_reader.specs.Faults.{◌<|>◌}
 use Rattle.mps_reader.specs.Tables.{Stops}
 use Rattle.mps_reader.specs.declared.kinds.Kind.{Kind}
 use Rattle.mps_reader.specs.declared.kinds.Stop.{Stop}
 use Rattle.mps_reader.specs.declared.kinds.Stop.TheVariants as stop
-
-pub on_ok : {T E P Q : Type 0} (r : Result T E) → (P → Q) → OnOk r P → OnOk r Q
-on_ok (Ok a) f p = f p
-on_ok (Err e) f p = tt
 
 pub on_ok2 : {T E P Q R : Type 0} (r : Result T E) → (P → Q → R) → OnOk r P → OnOk r Q → OnOk r R
 on_ok2 (Ok a) f p q = f p q
@@ -18,10 +14,6 @@ on_ok2 (Err e) f p q = tt
 pub on_ok3 : {T E P Q R S : Type 0} (r : Result T E) → (P → Q → R → S) → OnOk r P → OnOk r Q → OnOk r R → OnOk r S
 on_ok3 (Ok a) f p q s = f p q s
 on_ok3 (Err e) f p q s = tt
-
-pub if_err : {T E : Type 0} (r : Result T E) (P Q : E → Type 0) → ((e : E) → P e → Q e) → IfErr r P → IfErr r Q
-if_err (Ok a) P Q f p = tt
-if_err (Err e) P Q f p = f e p
 
 pub stops_same : (t : Stop) (a b : Option Kind) → a ≡ b → Stops t a → Stops t b
 stops_same t a b e h = subst (λ (o : Option Kind). Stops t o) e h

@@ -1,16 +1,15 @@
 -- What a disk keeps from the first moment of a call that opens its journal.
 use Rattle.std.specs.Prelude.{◌≡◌, ℕ, ◌≤◌, Bool, true, List, [], ◌∷◌, ◌++◌, length, Option, None, refl}
 use Rattle.std.proofs.Common.{sym, ◌∙◌, ap, subst}
-use Rattle.outside.specs.Images.{IsImage, AtRest, LeavesOnly, NoMomentPasses, resting}
+use Rattle.outside.specs.Images.{IsImage, AtRest, LeavesOnly, NoMomentPasses}
 use Rattle.outside.specs.declared.moment.Moment.{Moment}
 use Rattle.node_journal.specs.History.{SomeFrom, BeginsWith, IsPrefixOf, Keeps, ExtendsMoments, IsHistory, KeepsHistory}
 use Rattle.node_journal.specs.Records.{Intact, payloads_held, records}
 use Rattle.node_journal.specs.Whole.{payloads_in}
-use Rattle.node_journal.specs.Lemmas.Histories.{some_stands, remains_each, remains_stands}
+use Rattle.node_journal.specs.Lemmas.Histories.{get_seam, some_stands, remains_each, remains_stands}
 use Rattle.node_journal.specs.Lemmas.Opening.{kept_opened}
-use Rattle.node_journal.specs.Lemmas.Resting.{rested}
 use Rattle.resume.specs.Crashes.{LeavesHistory}
-use Rattle.resume.specs.Lemmas.Histories.{last_moment, keeps_joined}
+use Rattle.resume.specs.Lemmas.Histories.{keeps_joined}
 use Rattle.resume.proofs.Recovering.{untouched}
 
 -- at each moment a crash left what was there
@@ -53,11 +52,7 @@ begun_history past mid past' now between now' opened opened' ps fault empty run 
     first = unchanged past mid now between [] [] empty refl run some seen
 
     none : Keeps [] between
-    none c is = first.history.reads (length mid) between c first.begun (last_moment mid between) is
+    none c is = first.history.reads (length mid) between c first.begun (get_seam mid between []) is
 
 pub sound_history : (from : ℕ) (past : List Moment) (now : Moment) (ps : List (List ℕ)) (fault : Option ℕ) → fault ≡ None → KeepsHistory from past now ps fault → KeepsHistory from past now ps None
 sound_history from past now ps fault sound kept = subst (λ (f : Option ℕ). KeepsHistory from past now ps f) sound kept
-
--- a disk that was synced is at rest
-pub rests_at : (file : List ℕ) (now : Moment) → now ≡ resting file → AtRest now
-rests_at file now same = subst AtRest (sym same) (λ c is. rested file c is)

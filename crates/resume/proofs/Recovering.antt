@@ -17,7 +17,6 @@ use Rattle.node_pool.specs.Stored.{IsStored}
 use Rattle.resume.specs.Journals.{StandsFor}
 use Rattle.resume.specs.Crashes.{IsAsBefore, IsAsBeforeOrBegun}
 use Rattle.resume.proofs.Applying.{codable_stays}
-use Rattle.resume.specs.Models.{IsModelOf}
 
 -- events that were read are all journaled
 pub all_journaled : (es : List Entry) → AllByRecursion IsStored es → journaled es ≡ es
@@ -69,10 +68,6 @@ behind_scan model past mid past' now between now' stands run =
 
 pub still_rests : (past mid : List Moment) (now between : Moment) → NoMomentPasses past now mid between → AtRest now → AtRest between
 still_rests past mid now between stands rests = subst AtRest (sym stands.same) rests
-
--- the record of a model alone
-pub stands_alone : (p : Problem) (model : List ℕ) → IsModelOf model p → StandsFor p (model ∷ []) []
-stands_alone p model is = record { rest = []; parts = refl; model = is; read = record { written = refl; stored = tt; legal = tt; few = omega arith } }
 
 -- what holds of the value in an `Ok`, by two clauses
 pub if_both : {T E : Type 0} (r : Result T E) (P Q R : T → Type 0) → IfOk r P → IfOk r Q → ((x : T) → P x → Q x → R x) → IfOk r R

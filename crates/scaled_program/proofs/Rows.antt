@@ -5,9 +5,9 @@ use Rattle.std.specs.Ordering.{int_eq}
 use Rattle.std.specs.Option.{option_map}
 use Rattle.fraction.specs.Lemmas.Bounds.{was_some}
 use Rattle.fraction.specs.Rational.{ℚ, ◌*ℚ◌, ◌+ℚ◌}
-use Rattle.fraction.specs.Lemmas.Rational.{*ℚ_comm, +ℚ_comm}
+use Rattle.fraction.specs.Lemmas.Rational.{*ℚ_comm, +ℚ_comm, divided}
 use Rattle.tableau.specs.Elimination.{add_multiple, add_multiple_of_row, entry, negative_quotient, negative_quotients, solved_for, substituted, zero_ℚ}
-use Rattle.tableau.specs.Lemmas.RowAlgebra.{add_multiple_is, cancelled, divided, minus_one, negative_quotient_is, some_map}
+use Rattle.tableau.specs.Lemmas.RowAlgebra.{add_multiple_is, cancelled, minus_one, negative_quotient_is, some_map}
 use Rattle.integer_tableau.specs.Scales.{Scales, scaled_by, unscaled_row}
 use Rattle.integer_tableau.specs.Lemmas.MapFrom.{get_or-map_from, set-map_from}
 use Rattle.scaled_program.proofs.Numbers.{scaled_product, scaled_self, scaled_sum, scaled_zero}

@@ -17,16 +17,17 @@ use Rattle.event_codec.specs.Models.{model_code, IsUpper}
 use Rattle.event_core.specs.declared.entry.Entry.{Entry}
 use Rattle.node_journal.specs.Records.{Records, Intact, Foreign, BrokenAt, payloads_held, records}
 use Rattle.node_journal.specs.History.{Anything, BeginsWith, EachFrom, IsHistory, IsPrefixOf, KeepsHistory}
-use Rattle.node_journal.specs.Lemmas.Histories.{continued, history_begins, remains_stands, run_each, some_stands}
+use Rattle.node_journal.specs.Lemmas.Histories.{continued, get_seam, history_begins, remains_stands, run_each, some_stands}
 use Rattle.node_journal.specs.Whole.{payloads_in}
 use Rattle.node_pool.specs.Payloads.{model_in}
 use Rattle.resume.specs.Crashes.{IsAsBefore, IsAsBeforeOrBegun}
-use Rattle.resume.specs.Lemmas.Histories.{histories_joined, keeps_joined, last_moment}
+use Rattle.resume.specs.Lemmas.Histories.{histories_joined, keeps_joined}
 use Rattle.resume.specs.Models.{bound_of, IsTextOf, IsModelOf}
 use Rattle.resume.specs.Journals.{StandsFor, StandsForSome, IsFreshOrOf, IsFreshOrStands}
 use Rattle.resume.specs.declared.fault.ResumeFault.{ResumeFault}
 use Rattle.resume.specs.declared.fault.ResumeFault.TheVariants as fault
 use Rattle.resume.specs.Refusals.{is_disk, is_refusal}
+use Rattle.resume.specs.Lemmas.Standing.{stands_alone}
 use Rattle.solve_top.specs.Statuses.{refusal_of}
 use Rattle.solve_top.specs.declared.request.Request.{Request}
 use Rattle.solve_top.specs.declared.request.Request.TheVariants.{Solve, Resume, Show, Drill}
@@ -54,12 +55,9 @@ stands_same : (p : Problem) (b c : List ℕ) → records c ≡ records b → IsF
 stands_same p b c same (inl fresh) = inl (same ∙ fresh)
 stands_same p b c same (inr s) = inr (s.0, s.1, same ∙ s.2, s.3)
 
-model_stands : (p : Problem) (model : List ℕ) → IsModelOf model p → StandsFor p (model ∷ []) []
-model_stands p model is = record { rest = []; parts = refl; model = is; read = record { written = refl; stored = tt; legal = tt; few = omega arith } }
-
 stands_before : (p : Problem) (b model c : List ℕ) → IsModelOf model p → IsFreshOrStands p b → IsAsBeforeOrBegun (records b) model c → IsFreshOrStands p c
 stands_before p b model c is stands (inl same) = stands_same p b c same stands
-stands_before p b model c is stands (inr begun) = inr (model ∷ [], [], begun.1, model_stands p model is)
+stands_before p b model c is stands (inr begun) = inr (model ∷ [], [], begun.1, stands_alone p model is)
 
 -- the same, by this record of the model
 of_same : (p : Problem) (b c model : List ℕ) → records c ≡ records b → IsFreshOrOf model p b → IsFreshOrOf model p c
@@ -68,7 +66,7 @@ of_same p b c model same (inr s) = inr (s.0, s.1, same ∙ s.2, s.3, s.4)
 
 begun_before : (p : Problem) (b model c : List ℕ) → IsModelOf model p → IsFreshOrOf model p b → IsAsBeforeOrBegun (records b) model c → IsFreshOrOf model p c
 begun_before p b model c is held (inl same) = of_same p b c model same held
-begun_before p b model c is held (inr begun) = inr (model ∷ [], [], begun.1, refl, model_stands p model is)
+begun_before p b model c is held (inr begun) = inr (model ∷ [], [], begun.1, refl, stands_alone p model is)
 
 -- ---- payloads that begin those of a moment
 first_held : (ps : List (List ℕ)) (r : Records) → BeginsWith ps r → take (length ps) (payloads_held r) ≡ ps
@@ -113,11 +111,11 @@ module _ {D : Type 0} (tells : Bool) (past : D → List Moment) (now : D → Mom
   -- the moment before the call
   entry : slice_get ms (length (past a)) ≡ Some (now a)
   entry = then.extends (length (past a)) (now a)
-      (continued (past a) (now a) (past b) (now b) (IsAsBeforeOrBegun (records (now a).seen) model) (first.any_moment rests) (length (past a)) (now a) (last_moment (past a) (now a)))
+      (continued (past a) (now a) (past b) (now b) (IsAsBeforeOrBegun (records (now a).seen) model) (first.any_moment rests) (length (past a)) (now a) (get_seam (past a) (now a) []))
 
   -- the moment at which it was opened
   last_opened : slice_get ms (length (past b)) ≡ Some (now b)
-  last_opened = then.extends (length (past b)) (now b) (last_moment (past b) (now b))
+  last_opened = then.extends (length (past b)) (now b) (get_seam (past b) (now b) [])
 
   before_end : length (past b) ≤ length (past e)
   before_end = omega (arith, slice_get_within ms (length (past b)) (now b) last_opened, length-append (past e) (now e ∷ []))
@@ -128,7 +126,7 @@ module _ {D : Type 0} (tells : Bool) (past : D → List Moment) (now : D → Mom
   -- where the disk did not fail, it holds at the end what it held when it was opened, and more
   begins : take (length (payloads_in (now b))) (payloads_in (now e)) ≡ payloads_in (now b)
   begins = first_payloads (now e) (payloads_in (now b))
-      (then.history.lasting (length (past b)) (length (past e)) (now b) (now e) (payloads_in (now b)) first.begun before_end last_opened (last_moment (past e) (now e)) first.all (now e).seen there)
+      (then.history.lasting (length (past b)) (length (past e)) (now b) (now e) (payloads_in (now b)) first.begun before_end last_opened (get_seam (past e) (now e) []) first.all (now e).seen there)
 
   kept_since : ¬ Rises (record { before = count b; after = count e }) → KeepsHistory opened (past e) (now e) (payloads_in (now e)) None
   kept_since calm = record { begun = omega (arith, first.begun, before_end); history = then.history; prefixes = λ sound. then.prefixes calm }

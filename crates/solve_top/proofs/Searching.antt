@@ -4,7 +4,7 @@ use Rattle.std.specs.List.{AllByRecursion}
 use Rattle.std.proofs.Common.{arith, sym, ◌∙◌, ap, subst}
 use Rattle.std.proofs.lemmas.List.Elements.{All-head}
 use Rattle.outside.specs.Faults.{Rose, Counts}
-use Rattle.outside.specs.Images.{AtRest, resting}
+use Rattle.outside.specs.Images.{AtRest}
 use Rattle.outside.specs.declared.moment.Moment.{Moment}
 use Rattle.problem.specs.Problem.{Problem}
 use Rattle.event_core.specs.declared.entry.Entry.{Entry}
@@ -14,7 +14,6 @@ use Rattle.event_core.specs.Laws.{JournalsAreLegal}
 use Rattle.event_core.specs.Rooms.{Recorded}
 use Rattle.node_journal.specs.Records.{records}
 use Rattle.node_journal.specs.History.{EachFrom, ExtendsMoments, IsHistory, IsPrefixOf, KeepsHistory}
-use Rattle.node_journal.specs.Lemmas.Resting.{rested}
 use Rattle.node_journal.specs.Whole.{payloads_in}
 use Rattle.node_pool.specs.Payloads.{codes, codes_given, model_in, IsJournalOf, LeavesPrefixes}
 use Rattle.node_pool.specs.Stored.{IsStored}
@@ -132,9 +131,6 @@ pub counted : {D : Type 0} (count : D → ℕ) (a b e : D) → e ≡ b → (fail
 counted count a b e same failed by_disk is counts = rw (same, is) counts
 
 -- ---- its journal
-pub at_rest : (file : List ℕ) (m : Moment) → m ≡ resting file → AtRest m
-at_rest file m e = subst AtRest (sym e) (λ c is. rested file c is)
-
 pub kept_by : (opened : ℕ) (p : Problem) (d : DiskChange) (es : List Entry) (h : Option Halt) → ExtendsMoments (moments_before d) (moments_after d) → IsHistory opened (moments_after d)
     → (¬ Rises d.faults → EachFrom opened (moments_after d) (λ c. IsPrefixOf (payloads_in d.now_after) (records c))) → LeavesPrefixes opened d.past_after d.now_after es h → IsModelOf (model_in (payloads_in d.now_after)) p
     → (fs : List Entry) × (codes_given es h ≡ codes fs) × IsReadAs p (codes fs) fs → (¬ Rises d.faults → AtRest d.now_after) → IsKept opened p d

@@ -8,6 +8,7 @@ use Rattle.std.proofs.lemmas.List.Elements.{All-head, All-tail}
 use Rattle.fraction.specs.Rational.{ℚ}
 use Rattle.fraction.specs.Fits.{FitsFraction}
 use Rattle.fraction.specs.Checked.{mul_checked}
+use Rattle.problem.specs.Lemmas.Rising.{rise_lower}
 use Rattle.problem.specs.Linear.{Terms}
 use Rattle.problem.specs.Rising.{RiseFrom}
 use Rattle.tableau.specs.Elimination.{Coefficients, add_multiple, add_multiple_of_row}
@@ -15,7 +16,7 @@ use Rattle.tableau.specs.Sparse.{with_entry, nonzeros}
 use Rattle.tableau.specs.SparseSteps.{products_below, met, merged}
 use Rattle.fraction.specs.Lemmas.Checked.{zero_from_test}
 use Rattle.tableau.proofs.Zeros.{add_multiple-zero, add_multiple_to_zero}
-use Rattle.tableau.proofs.View.{nonzeros_rise, rise_lower}
+use Rattle.tableau.proofs.View.{nonzeros_rise}
 
 -- ---- the first of two entries
 -- nothing of the second row comes before variable k

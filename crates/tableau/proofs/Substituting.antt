@@ -8,6 +8,7 @@ use Rattle.std.proofs.lemmas.List.{length-set, set-get_or}
 use Rattle.std.proofs.lemmas.List.Elements.{All-nil, All-head, All-tail, All-set}
 use Rattle.fraction.specs.Rational.{ℚ}
 use Rattle.fraction.specs.Fits.{FitsFraction}
+use Rattle.problem.specs.Lemmas.Rising.{rise_lower}
 use Rattle.problem.specs.Linear.{Terms}
 use Rattle.problem.specs.Rising.{RiseFrom}
 use Rattle.tableau.specs.Elimination.{Coefficients, zero_ℚ, add_multiple_of_row, substituted, negative_quotient, negative_quotients}
@@ -18,7 +19,7 @@ use Rattle.tableau.specs.Sparse.{with_entry, nonzeros, HasFraction, IsSparse, wi
 use Rattle.tableau.specs.SparseSteps.{merged, entry_quotients}
 use Rattle.fraction.specs.Lemmas.Checked.{zero_from_test, zero_test, zero_has_fraction}
 use Rattle.tableau.proofs.Zeros.{zero-add_multiple, negative_quotient-zero}
-use Rattle.tableau.proofs.View.{nonzeros_rise, rise_lower, row_from, sparse_from, row_fits}
+use Rattle.tableau.proofs.View.{nonzeros_rise, row_from, sparse_from, row_fits}
 use Rattle.tableau.proofs.Merging.{merged_is, left_out}
 
 -- ---- a variable left out

@@ -8,22 +8,18 @@ use Rattle.std.proofs.Math.Seq.{drop-nil, take-nil}
 use Rattle.fraction.specs.Rational.{ℚ}
 use Rattle.fraction.specs.Fits.{FitsFraction}
 use Rattle.problem.specs.Linear.{Terms, coefficient}
-use Rattle.problem.specs.Lemmas.Linear.{past_first, beyond}
-use Rattle.problem.specs.Lemmas.Rising.{before_first, at_first}
+use Rattle.problem.specs.Lemmas.Linear.{beyond}
+use Rattle.problem.specs.Lemmas.Rising.{rise_lower, before_first, at_first}
 use Rattle.problem.specs.Rising.{RiseFrom, AreRising}
 use Rattle.tableau.specs.Elimination.{Coefficients, zero_ℚ}
 use Rattle.tableau.specs.LinearProgram.{coefficients_from}
 use Rattle.tableau.specs.Start.{padded}
-use Rattle.tableau.specs.Lemmas.Started.{length-coefficients}
+use Rattle.tableau.specs.Lemmas.Started.{length-coefficients, past_term}
 use Rattle.tableau.specs.Sparse.{with_entry, nonzeros, HasFraction, IsSparse, kept_below, before_variable, from_variable, first_coefficient}
 use Rattle.tableau.specs.SparseSteps.{IsPosition}
 use Rattle.fraction.specs.Lemmas.Checked.{zero_has_fraction, zero_from_test, zero_test}
 
 -- ---- rising terms
-pub rise_lower : (j k : ℕ) (ts : Terms) → j ≤ k → RiseFrom k ts → RiseFrom j ts
-rise_lower j k [] l h = tt
-rise_lower j k (t ∷ ts) l h = (omega (arith, h.0), h.1)
-
 pub nonzeros_rise : (j : ℕ) (ts : Coefficients) → RiseFrom j (nonzeros j ts)
 nonzeros_rise j [] = tt
 nonzeros_rise j (t ∷ ts) = at (int_eq t.num (pos 0)) (nonzeros_rise (j + 1) ts)
@@ -36,14 +32,6 @@ nonzeros_rise j (t ∷ ts) = at (int_eq t.num (pos 0)) (nonzeros_rise (j + 1) ts
     at false r = (omega arith, subst (λ k. RiseFrom k (nonzeros (j + 1) ts)) next r)
 
 -- ---- coefficients
-coefficients_same : (j k : ℕ) (ts us : Terms) → ((i : ℕ) → j ≤ i → coefficient ts i ≡ coefficient us i) → coefficients_from j k ts ≡ coefficients_from j k us
-coefficients_same j zero ts us h = refl
-coefficients_same j (suc k) ts us h = λ i. h j (omega arith) i ∷ coefficients_same (j + 1) k ts us (λ m l. h m (omega arith)) i
-
--- a term of an earlier column
-past_term : (j k : ℕ) (t : ℕ × ℚ) (ts : Terms) → t.0 < j → coefficients_from j k (t ∷ ts) ≡ coefficients_from j k ts
-past_term j k t ts l = coefficients_same j k (t ∷ ts) ts (λ i m. past_first t ts i (λ e. omega (arith, l, m, e)))
-
 pub row_of_nonzeros : (j : ℕ) (ts : Coefficients) → coefficients_from j (length ts) (nonzeros j ts) ≡ ts
 row_of_nonzeros j [] = refl
 row_of_nonzeros j (t ∷ ts) = at (int_eq t.num (pos 0)) refl (row_of_nonzeros (j + 1) ts)
@@ -55,7 +43,7 @@ row_of_nonzeros j (t ∷ ts) = at (int_eq t.num (pos 0)) refl (row_of_nonzeros (
         → coefficients_from j (suc (length ts)) (if b then nonzeros (j + 1) ts else (j, t) ∷ nonzeros (j + 1) ts) ≡ t ∷ ts
     at true e ih = λ i. (before_first (suc j) (nonzeros (j + 1) ts) j rest (omega arith) ∙ sym (zero_from_test t e)) i ∷ ih i
     at false e ih = λ i. at_first (j, t) (nonzeros (j + 1) ts) j rest refl i
-        ∷ (past_term (j + 1) (length ts) (j, t) (nonzeros (j + 1) ts) (omega arith) ∙ ih) i
+        ∷ (past_term (j, t) (nonzeros (j + 1) ts) (j + 1) (length ts) (omega arith) ∙ ih) i
 
 -- ---- entries of rising terms
 no_terms : (j k : ℕ) → nonzeros j (coefficients_from j k []) ≡ []
@@ -80,7 +68,7 @@ kept_is j (suc k) w (t ∷ ts) e h = elim (cases_eq t.0 j) [
       let rest : RiseFrom (j + 1) ts = subst (λ m. RiseFrom m ts) (let g : suc t.0 ≡ j + 1 = omega (arith, f) in g) h.1 in
       let first : coefficient (t ∷ ts) j ≡ t.1 = at_first t ts j h.1 f in
       let others : nonzeros (j + 1) (coefficients_from (j + 1) k (t ∷ ts)) ≡ kept_below w ts =
-      ap (nonzeros (j + 1)) (past_term (j + 1) k t ts (omega (arith, f))) ∙ kept_is (j + 1) k w ts (omega arith) rest in
+      ap (nonzeros (j + 1)) (past_term t ts (j + 1) k (omega (arith, f))) ∙ kept_is (j + 1) k w ts (omega arith) rest in
       (λ i. with_entry (sym f i) (first i) (others i)) ∙ sym (ap (λ b. if b then with_entry t.0 t.1 (kept_below w ts) else kept_below w ts) (lt-ltb t.0 w (omega (arith, f, e))))
   | inr f ↦
       let later : RiseFrom (j + 1) (t ∷ ts) = (omega (arith, h.0, f), h.1) in

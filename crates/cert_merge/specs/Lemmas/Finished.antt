@@ -5,8 +5,6 @@ use Rattle.std.proofs.Common.{sym, ap, ◌∙◌, subst, inl, inr, arith}
 use Rattle.std.proofs.lemmas.Bool.{eqb-true, eqb-false, false≢true, cases_lt}
 use Rattle.std.proofs.lemmas.List.{append-nil, append_assoc, length-set, get_or_append_left, get_or-append_right, get_or-set_other}
 use Rattle.fraction.specs.Rational.{ℚ}
-use Rattle.fraction.specs.Lemmas.Rational.{≤ℚ_refl}
-use Rattle.fraction.specs.Lemmas.Order.{less_at_most}
 use Rattle.problem_box.specs.declared.span.Span.{Span}
 use Rattle.problem.specs.declared.row.Row.{Row}
 use Rattle.problem.specs.Problem.{Problem}
@@ -26,9 +24,7 @@ use Rattle.derivation_book.specs.declared.cut.Cut.{Cut}
 use Rattle.derivation_book.specs.Rounded.{rounded_row}
 use Rattle.derivation_book.specs.Legal.{IsLegalProof, IsAtMost}
 use Rattle.derivation_book.specs.Lemmas.Deciding.{decides-legal}
-use Rattle.derivation_book.specs.Lemmas.Staying.{still_legal}
-use Rattle.incumbent.specs.declared.best.Best.{Best}
-use Rattle.incumbent.specs.Offers.{cutoff_of, IsBetter}
+use Rattle.derivation_book.specs.Lemmas.Staying.{still_legal, same_cutoff}
 use Rattle.event_core.specs.declared.entry.Entry.{Entry}
 use Rattle.event_core.specs.States.{State, first_state, tree_of, box_of, cutoff, is_open, open_count}
 use Rattle.event_core.specs.After.{after, after_cut}
@@ -37,7 +33,7 @@ use Rattle.event_core.specs.Sound.{IsSound}
 use Rattle.event_core.specs.Lemmas.Passing.{split_passed, close_passed}
 use Rattle.event_core.specs.Lemmas.Running.{from-problem}
 use Rattle.event_core.specs.Lemmas.Ended.{left_within, leaves-length, count-ended}
-use Rattle.event_core.specs.Lemmas.Sounding.{IsKept, first_kept, kept_after, kept_sound, legal_kept, is_improvement}
+use Rattle.event_core.specs.Lemmas.Sounding.{IsKept, first_kept, kept_after, kept_sound, legal_kept, is_improvement, better_cutoff}
 use Rattle.cert_merge.specs.Endings.{closing, proof_of}
 use Rattle.cert_merge.specs.Numbers.{IsNumbered}
 
@@ -70,15 +66,6 @@ still_proved s t es e i more p c b l n h = record {
       (subst (λ (cs : List Cut). IsLegalProof s.problem cs (box_of t i) (cutoff t) h.proof) (sym c)
       (subst (λ (ss : List Span). IsLegalProof s.problem (s.cuts ++ more) ss (cutoff t) h.proof) (sym b) (still_legal s.problem s.cuts more (box_of s i) (cutoff s) (cutoff t) h.proof l h.legal)));
 }
-
--- ---- cutoffs
-same_cutoff : (o : Option ℚ) → IsAtMost o o
-same_cutoff None = tt
-same_cutoff (Some v) = ≤ℚ_refl v
-
-better_cutoff : (v : ℚ) (i : Option Best) → IsBetter i v → IsAtMost (Some v) (cutoff_of i)
-better_cutoff v None h = tt
-better_cutoff v (Some b) h = less_at_most v b.value (h b refl)
 
 -- ---- all nodes
 -- each node that has ended was split, or is proved
@@ -189,7 +176,7 @@ proved_after s es w (Release i) k l h =
     unchanged s (after s w (Release i)) es (record { worker = w; event = Release i }) refl refl refl [] (sym (append-nil s.cuts)) (same_cutoff (cutoff s)) (λ n. refl) h
 proved_after s es w (CutEvent mult) k l h = kept_by_cut s es (record { worker = w; event = CutEvent mult }) mult (rounded_row s.problem s.cuts mult) (λ n. refl) h
 proved_after s es w (Offer x) k l h =
-    unchanged s (after s w (Offer x)) es (record { worker = w; event = Offer x }) refl refl refl [] (sym (append-nil s.cuts)) (better_cutoff (objective_at s.problem x) s.incumbent (is_improvement s w x l).better) (λ n. refl) h
+    unchanged s (after s w (Offer x)) es (record { worker = w; event = Offer x }) refl refl refl [] (sym (append-nil s.cuts)) (better_cutoff s.incumbent (objective_at s.problem x) (is_improvement s w x l).better) (λ n. refl) h
 proved_after s es w (Split i j b reason) k l h = split_proved s es w i j b reason k l h
 proved_after s es w (Close i proof) k l h = close_proved s es w i proof l h
 

@@ -8,20 +8,16 @@ use Rattle.std.proofs.lemmas.List.{drop_all}
 use Rattle.fraction.specs.Rational.{ℚ, whole}
 use Rattle.problem.specs.Linear.{coefficient}
 use Rattle.problem.specs.Lemmas.Linear.{past_first}
-use Rattle.problem.specs.Lemmas.Rising.{before_first, at_first}
+use Rattle.problem.specs.Lemmas.Rising.{rise_lower, before_first, at_first}
 use Rattle.problem.specs.Rising.{RiseFrom, AreRising}
 use Rattle.derivation_book.specs.Sums.{with_product}
 use Rattle.fraction.specs.Fits.{FitsFraction}
 use Rattle.derivation_book.specs.Adding.{columns_added}
-use Rattle.fraction.specs.Lemmas.Bounds.{was_some}
-use Rattle.derivation_book.specs.Lemmas.OptionChains.{was_mapped, in_two_steps, nothing_left, next_item}
+use Rattle.fraction.specs.Lemmas.Bounds.{was_some, was_mapped}
+use Rattle.derivation_book.specs.Lemmas.OptionChains.{in_two_steps, nothing_left, next_item}
 use Rattle.derivation_book.specs.Lemmas.Held.{held_product, with_zero}
 
 -- ---- coefficients
-pub later_rise : (k n : ℕ) (ts : List (ℕ × ℚ)) → k ≤ n → RiseFrom n ts → RiseFrom k ts
-later_rise k n [] l h = tt
-later_rise k n (t ∷ ts) l h = (omega (arith, h.0), h.1)
-
 -- the coefficient of a column at which terms begin, by their first term
 module _ (ts : List (ℕ × ℚ)) (i : ℕ) (t : ℕ × ℚ) (there : i < length ts) (is : t ≡ slice_index_or ts i t) (k : ℕ) (rising : RiseFrom k (drop i ts)) where
   first_is : drop i ts ≡ t ∷ drop (i + 1) ts
@@ -126,7 +122,7 @@ module _ (ss : List ℚ) (m : ℚ) (ts : List (ℕ × ℚ)) (i : ℕ) (t : ℕ �
   split = ap (columns_added ss 0 m) next ∙ term_by_term ss 0 m t (drop (i + 1) ts) held behind
 
   pub still_rising : AreRising (drop (i + 1) ts)
-  still_rising = later_rise 0 (suc t.0) (drop (i + 1) ts) (omega arith) behind
+  still_rising = rise_lower 0 (suc t.0) (drop (i + 1) ts) (omega arith) behind
 
   pub next_added : (p : ℕ × ℚ) (us : List ℚ) → p ≡ t → columns_added ss 0 m (p ∷ []) ≡ Some us → columns_added us 0 m (drop (i + 1) ts) ≡ columns_added ss 0 m (drop i ts)
   next_added p us e w =

@@ -7,8 +7,8 @@ use Rattle.fraction.specs.Rational.{ℚ, whole}
 use Rattle.cert_rows.specs.Lines.{CertLine, row_at}
 use Rattle.derivation_book.specs.Sums.{with_product, sum_from, coefficient_at, side_at, combined_at, combined_side, combined_columns, Sums, sums_of, combined}
 use Rattle.derivation_book.specs.Adding.{columns_added, row_added}
-use Rattle.fraction.specs.Lemmas.Bounds.{was_some}
-use Rattle.derivation_book.specs.Lemmas.OptionChains.{was_mapped, in_two_steps, nothing_left, next_item}
+use Rattle.fraction.specs.Lemmas.Bounds.{was_some, was_mapped}
+use Rattle.derivation_book.specs.Lemmas.OptionChains.{in_two_steps, nothing_left, next_item}
 
 -- sums of the columns from j on, with the multiples of all lines
 abbrev pub columns_from : List CertLine → List (ℕ × ℚ) → ℕ → List ℚ → Option (List ℚ)

@@ -1,18 +1,18 @@
 -- Lemmas: what isn't cramped is exact.
-use Rattle.std.specs.Prelude.{◌≡◌, ◌<◌, ◌+◌, ℕ, zero, suc, ℤ, pos, ◌*ℤ◌, Bool, true, false, cond, eqb, List, [], ◌∷◌, length, All, slice_index_or, Some, option_map, refl}
+use Rattle.std.specs.Prelude.{◌≡◌, ◌<◌, ◌+◌, ℕ, zero, suc, ℤ, pos, ◌*ℤ◌, Bool, true, false, cond, List, [], ◌∷◌, length, All, slice_index_or, Some, option_map, refl}
 use Rattle.std.proofs.Common.{sym, ap, ◌∙◌, subst, arith}
 use Rattle.std.proofs.lemmas.Int.{ints}
 use Rattle.std.proofs.lemmas.List.Elements.{All-nil, All-cons, All-head, All-tail, All-append}
 use Rattle.std.proofs.lemmas.Bool.Decides.{Decides-int_eq}
 use Rattle.fraction.specs.Rational.{ℚ, whole, ◌+ℚ◌, ◌*ℚ◌, neg_ℚ}
-use Rattle.fraction.specs.Lemmas.Rational.{ℚ_same, +ℚ_assoc, zero-+ℚ, mul-+ℚ, zero-*ℚ}
-use Rattle.fraction.specs.Lemmas.Ring.{+ℚ-zero, *ℚ-zero}
+use Rattle.fraction.specs.Lemmas.Rational.{ℚ_same, +ℚ_assoc, zero-+ℚ, zero-*ℚ}
+use Rattle.fraction.specs.Lemmas.Ring.{+ℚ-zero}
 use Rattle.fraction.specs.Checked.{add_checked, mul_checked, sub_checked}
-use Rattle.fraction.specs.Lemmas.Bounds.{value_from_mul, value_from_add, whole_parts, was_some}
+use Rattle.fraction.specs.Lemmas.Bounds.{value_from_mul, value_from_add, whole_parts, was_some, was_mapped}
 use Rattle.problem_box.specs.declared.span.Span.{Span}
-use Rattle.problem.specs.Linear.{at_column, coefficient, scaled}
-use Rattle.problem.specs.Lemmas.Linear.{coefficient-append, past_first}
-use Rattle.problem.specs.Lemmas.Rising.{before_first, at_first}
+use Rattle.problem.specs.Linear.{coefficient, scaled}
+use Rattle.problem.specs.Lemmas.Linear.{coefficient-append, past_first, coefficient-scaled}
+use Rattle.problem.specs.Lemmas.Rising.{rise_lower, before_first, at_first}
 use Rattle.problem.specs.Problem.{Problem}
 use Rattle.cert_rows.specs.Lines.{CertLine, row_at}
 use Rattle.cert_rows.specs.Combination.{combined_terms, combined_rhs}
@@ -21,8 +21,6 @@ use Rattle.derivation_book.specs.Known.{known_lines}
 use Rattle.derivation_book.specs.Sums.{with_product, sum_from, coefficient_at, side_at, combined_at, combined_columns, Sums, combined}
 use Rattle.derivation_book.specs.Rounded.{is_zero, nonzero_terms}
 use Rattle.derivation_book.specs.Price.{bound_for, with_bound, with_reduced_cost, with_columns, price, reduced_cost, bounds_price, exact_price}
-use Rattle.derivation_book.specs.Lemmas.OptionChains.{was_mapped}
-use Rattle.derivation_book.specs.Lemmas.Columns.{later_rise}
 use Rattle.derivation_book.specs.Lemmas.Rounded.{terms_rise, IsBelow}
 use Rattle.derivation_book.specs.Lemmas.Price.{has_sums}
 use Rattle.derivation_book.specs.Lemmas.Combining.{combined_length}
@@ -38,17 +36,6 @@ side_exact ls s [] t e = let k : s ≡ t = (cc) in sym k ∙ sym (+ℚ-zero s)
 side_exact ls s (m ∷ ms) t e =
     let w = was_some (λ u. sum_from (side_at ls) u ms) (with_product s m.1 (side_at ls m.0)) t e in
     side_exact ls w.0 ms t w.2 ∙ ap (λ u. u +ℚ combined_rhs ls ms) (product_exact s m.1 (side_at ls m.0) w.0 w.1) ∙ +ℚ_assoc _ _ _
-
-at_scaled : (m : ℚ) (k : ℕ) (a : ℚ) (j : ℕ) → at_column k (m *ℚ a) j ≡ m *ℚ at_column k a j
-at_scaled m k a j = step (eqb k j)
-  where
-    step : (b : Bool) → cond b (m *ℚ a) (whole (pos 0)) ≡ m *ℚ cond b a (whole (pos 0))
-    step true = refl
-    step false = sym (*ℚ-zero m)
-
-coefficient-scaled : (m : ℚ) (ts : List (ℕ × ℚ)) (j : ℕ) → coefficient (scaled m ts) j ≡ m *ℚ coefficient ts j
-coefficient-scaled m [] j = sym (*ℚ-zero m)
-coefficient-scaled m (t ∷ ts) j = (λ i. at_scaled m t.0 t.1 j i +ℚ coefficient-scaled m ts j i) ∙ sym (mul-+ℚ m _ _)
 
 pub coefficient_exact : (ls : List CertLine) (j : ℕ) (s : ℚ) (mult : List (ℕ × ℚ)) (t : ℚ) → sum_from (coefficient_at ls j) s mult ≡ Some t → t ≡ s +ℚ coefficient (combined_terms ls mult) j
 coefficient_exact ls j s [] t e = let k : s ≡ t = (cc) in sym k ∙ sym (+ℚ-zero s)
@@ -93,7 +80,7 @@ nonzero_coefficient j (a ∷ cs) zero = step (is_zero a) refl
 
     step : (b : Bool) → is_zero a ≡ b → coefficient (cond b (nonzero_terms (j + 1) cs) ((j, a) ∷ nonzero_terms (j + 1) cs)) (j + 0) ≡ a
     step true e = none ∙ sym (zero_is a e)
-    step false e = at_first (j, a) (nonzero_terms (j + 1) cs) (j + 0) (later_rise (suc j) (j + 1) (nonzero_terms (j + 1) cs) (omega arith) (terms_rise (j + 1) cs)) (omega arith)
+    step false e = at_first (j, a) (nonzero_terms (j + 1) cs) (j + 0) (rise_lower (suc j) (j + 1) (nonzero_terms (j + 1) cs) (omega arith) (terms_rise (j + 1) cs)) (omega arith)
 nonzero_coefficient j (a ∷ cs) (suc i) = step (is_zero a) (nonzero_terms (j + 1) cs) (nonzero_coefficient (j + 1) cs i)
   where
     moved : (ts : List (ℕ × ℚ)) → coefficient ts (j + 1 + i) ≡ coefficient ts (j + suc i)

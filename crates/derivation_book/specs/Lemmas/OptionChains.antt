@@ -1,13 +1,9 @@
 -- Lemmas: chains of steps that may fail.
-use Rattle.std.specs.Prelude.{◌≡◌, ℕ, suc, ◌+◌, ◌<◌, length, drop, slice_index_or, Bool, true, false, ◌&&◌, List, ◌∷◌, Option, Some, None, option_map, refl}
+use Rattle.std.specs.Prelude.{◌≡◌, ℕ, suc, ◌+◌, ◌<◌, length, drop, slice_get, slice_index_or, List, ◌∷◌, Option, Some, None, option_map, refl}
 use Rattle.std.specs.Option.{option_and_then}
 use Rattle.std.proofs.Common.{sym, ◌∙◌, arith}
 use Rattle.std.proofs.Math.Seq.{drop-cons}
-
--- what a step that didn't fail was given
-pub was_mapped : {A B : Type 0} (f : A → B) (o : Option A) (t : B) → option_map f o ≡ Some t → (v : A) × (o ≡ Some v) × (f v ≡ t)
-was_mapped f None t e = cc
-was_mapped f (Some v) t e = (v, refl, (cc))
+use Rattle.std.proofs.lemmas.Option.{slice_get_within, get_or_from_slice_get}
 
 -- steps one after another, in two orders
 pub nothing_left : {A B : Type 0} (o : Option A) → option_and_then {T = A} {U = B} (λ a. None) o ≡ None
@@ -28,3 +24,6 @@ pub next_item : {A : Type 0} (xs : List A) (i : ℕ) (x : A) → i < length xs �
 next_item xs i x l e =
     let k : suc i ≡ i + 1 = omega arith in
     drop-cons xs i x l ∙ (λ j. sym e j ∷ drop (k j) xs)
+
+pub next_there : {A : Type 0} (xs : List A) (i : ℕ) (x : A) → slice_get xs i ≡ Some x → drop i xs ≡ x ∷ drop (i + 1) xs
+next_there xs i x e = next_item xs i x (slice_get_within xs i x e) (sym (get_or_from_slice_get xs i x x e))

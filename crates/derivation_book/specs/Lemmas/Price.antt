@@ -10,8 +10,8 @@ use Rattle.problem.specs.Linear.{coefficient}
 use Rattle.cert_rows.specs.Lines.{CertLine}
 use Rattle.derivation_book.specs.Sums.{combined_side, combined_columns, Sums, sums_of, combined}
 use Rattle.derivation_book.specs.Price.{with_reduced_cost, with_columns}
-use Rattle.fraction.specs.Lemmas.Bounds.{was_some}
-use Rattle.derivation_book.specs.Lemmas.OptionChains.{was_mapped, next_item}
+use Rattle.fraction.specs.Lemmas.Bounds.{was_some, was_mapped}
+use Rattle.derivation_book.specs.Lemmas.OptionChains.{next_item}
 
 -- the parts of a combination
 pub record HasSums (ls : List CertLine) (mult : List (ℕ × ℚ)) (n : ℕ) (q : Sums) : Type 0 where

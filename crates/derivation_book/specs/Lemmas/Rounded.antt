@@ -10,6 +10,7 @@ use Rattle.std.proofs.lemmas.List.Elements.{All-nil, All-cons}
 use Rattle.std.proofs.lemmas.List.{append-nil, append_assoc}
 use Rattle.fraction.specs.Rational.{ℚ, whole}
 use Rattle.fraction.specs.Lemmas.Bounds.{whole_parts, was_some}
+use Rattle.problem.specs.Lemmas.Rising.{rise_lower}
 use Rattle.problem.specs.declared.row.Row.{Row}
 use Rattle.problem.specs.Problem.{Problem}
 use Rattle.problem.specs.Rising.{RiseFrom, AreRising, AreNonzero}
@@ -18,7 +19,6 @@ use Rattle.derivation_book.specs.Known.{known_lines}
 use Rattle.derivation_book.specs.Sums.{Sums, combined}
 use Rattle.derivation_book.specs.Rounded.{is_zero, is_usable, is_cut_coefficient, nonzero_terms, cut_row, rounded_sums, rounded_row}
 use Rattle.derivation_book.specs.Cuts.{AreCutsAfter}
-use Rattle.derivation_book.specs.Lemmas.Columns.{later_rise}
 
 -- ---- the terms that aren't 0
 zero_from : (a : ℚ) → is_zero a ≡ true → a.num ≡ pos 0
@@ -32,8 +32,8 @@ terms_rise j [] = tt
 terms_rise j (a ∷ cs) = step (is_zero a) (nonzero_terms (j + 1) cs) (terms_rise (j + 1) cs)
   where
     step : (b : Bool) (ts : List (ℕ × ℚ)) → RiseFrom (j + 1) ts → RiseFrom j (cond b ts ((j, a) ∷ ts))
-    step true ts h = later_rise j (j + 1) ts (omega arith) h
-    step false ts h = (omega arith, later_rise (suc j) (j + 1) ts (omega arith) h)
+    step true ts h = rise_lower j (j + 1) ts (omega arith) h
+    step false ts h = (omega arith, rise_lower (suc j) (j + 1) ts (omega arith) h)
 
 abbrev IsNonzero : ℕ × ℚ → Type 0
 IsNonzero t = t.1 ≡ whole (pos 0) → ⊥

@@ -1,11 +1,11 @@
 -- Lemmas: what is shown stays shown as cuts are added and as the cutoff falls.
-use Rattle.std.specs.Prelude.{◌≡◌, ◌<◌, ◌+◌, ℕ, zero, suc, pos, Bool, true, false, cond, List, [], ◌∷◌, ◌++◌, map, length, All, slice_index_or, Option, Some, None, option_map, refl}
+use Rattle.std.specs.Prelude.{◌≡◌, ◌<◌, ◌+◌, ℕ, zero, suc, pos, Bool, true, false, cond, List, [], ◌∷◌, ◌++◌, map, length, All, slice_index_or, take, drop, Option, Some, None, option_map, refl}
 use Rattle.std.specs.Option.{option_and_then}
 use Rattle.std.proofs.Common.{sym, ap, ◌∙◌, subst, arith}
 use Rattle.std.proofs.lemmas.List.Elements.{All-head, All-tail}
-use Rattle.std.proofs.lemmas.List.{append_assoc, map-append, length-append}
+use Rattle.std.proofs.lemmas.List.{append_assoc, map-append, length-append, take-append-drop}
 use Rattle.fraction.specs.Rational.{ℚ, whole, ◌≤ℚ◌}
-use Rattle.fraction.specs.Lemmas.Rational.{≤ℚ_trans}
+use Rattle.fraction.specs.Lemmas.Rational.{≤ℚ_trans, ≤ℚ_refl}
 use Rattle.problem_box.specs.declared.span.Span.{Span}
 use Rattle.problem.specs.declared.row.Sense.TheVariants.{G}
 use Rattle.problem.specs.declared.row.Row.{Row}
@@ -131,3 +131,13 @@ module _ (p : Problem) (cs more : List Cut) where
         priced = still_priced box p.objective mult h.multipliers.combined ∙ h.priced;
         reached = ≤ℚ_trans _ _ _ b.2 h.reached;
       }
+
+-- ---- the same cutoff
+pub same_cutoff : (cutoff : Option ℚ) → IsAtMost cutoff cutoff
+same_cutoff None = tt
+same_cutoff (Some z) = ≤ℚ_refl z
+
+-- a proof by the first k cuts is one by all of them
+pub by_first : (p : Problem) (cs : List Cut) (k : ℕ) (box : List Span) (cutoff : Option ℚ) (proof : Proof) → IsLegalProof p (take k cs) box cutoff proof → IsLegalProof p cs box cutoff proof
+by_first p cs k box cutoff proof h =
+    subst (λ (ds : List Cut). IsLegalProof p ds box cutoff proof) (take-append-drop k cs) (still_legal p (take k cs) (drop k cs) box cutoff cutoff proof (same_cutoff cutoff) h)

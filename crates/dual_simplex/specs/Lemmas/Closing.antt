@@ -1,18 +1,15 @@
 -- Lemmas: the multipliers of an answer are legal proofs.
-use Rattle.std.specs.Prelude.{◌≡◌, ℕ, List, take, drop, Bool, IsTrue, Option, Some, None, refl}
+use Rattle.std.specs.Prelude.{◌≡◌, ℕ, List, take, Bool, IsTrue, Option, Some, refl}
 use Rattle.std.proofs.Common.{subst}
-use Rattle.std.proofs.lemmas.List.{take-append-drop}
 use Rattle.fraction.specs.Rational.{ℚ, ◌≤ℚ◌}
-use Rattle.fraction.specs.Lemmas.Rational.{≤ℚ_refl}
 use Rattle.problem_box.specs.declared.span.Span.{Span}
 use Rattle.problem.specs.Linear.{Multipliers}
 use Rattle.problem.specs.Problem.{Problem}
 use Rattle.problem.specs.Feasible.{HasWholeObjective}
-use Rattle.node_events.specs.declared.proof.Proof.{Proof}
 use Rattle.node_events.specs.declared.proof.Proof.TheVariants.{Refute, Bound}
 use Rattle.derivation_book.specs.declared.cut.Cut.{Cut}
-use Rattle.derivation_book.specs.Legal.{IsLegalProof, IsAtMost, rounded_if}
-use Rattle.derivation_book.specs.Lemmas.Staying.{still_legal}
+use Rattle.derivation_book.specs.Legal.{IsLegalProof, rounded_if}
+use Rattle.derivation_book.specs.Lemmas.Staying.{by_first}
 use Rattle.dual_simplex.specs.declared.answer.Answer.TheVariants.{Infeasible, Optimal}
 use Rattle.dual_simplex.specs.Relaxation.{RationalPoint}
 use Rattle.dual_simplex.specs.Answers.{answer}
@@ -20,26 +17,17 @@ use Rattle.dual_simplex.specs.Meaning.{IsInfeasible, IsOptimal, AnswerHolds}
 use Rattle.dual_simplex.specs.Laws.{IsBoxOf}
 use Rattle.dual_simplex.specs.Lemmas.TrueAnswers.{answers_hold}
 
--- a proof by the first k cuts is one by all of them
-by_first : (p : Problem) (cs : List Cut) (k : ℕ) (box : List Span) (cutoff : Option ℚ) (proof : Proof) → IsAtMost cutoff cutoff → IsLegalProof p (take k cs) box cutoff proof → IsLegalProof p cs box cutoff proof
-by_first p cs k box cutoff proof same h =
-    subst (λ (ds : List Cut). IsLegalProof p ds box cutoff proof) (take-append-drop k cs) (still_legal p (take k cs) (drop k cs) box cutoff cutoff proof same h)
-
-same_cutoff : (cutoff : Option ℚ) → IsAtMost cutoff cutoff
-same_cutoff None = tt
-same_cutoff (Some z) = ≤ℚ_refl z
-
 pub infeasible_closes : (p : Problem) (cs : List Cut) (k : ℕ) (box : List Span) (mult : Multipliers) (cutoff : Option ℚ) → IsBoxOf p box → answer p (take k cs) box ≡ Infeasible mult
     → IsLegalProof p cs box cutoff (Refute mult)
 infeasible_closes p cs k box mult cutoff b e =
     let h : IsInfeasible p (take k cs) box mult = subst (AnswerHolds p (take k cs) box) e (answers_hold p (take k cs) box b) in
-    by_first p cs k box cutoff (Refute mult) (same_cutoff cutoff) h.refuting
+    by_first p cs k box cutoff (Refute mult) h.refuting
 
 pub optimal_closes : (p : Problem) (cs : List Cut) (k : ℕ) (box : List Span) (x : RationalPoint) (mult : Multipliers) (v limit : ℚ) (rounded : Bool) → IsBoxOf p box
     → answer p (take k cs) box ≡ Optimal x mult v → (IsTrue rounded → HasWholeObjective p) → limit ≤ℚ rounded_if rounded v → IsLegalProof p cs box (Some limit) (Bound mult rounded)
 optimal_closes p cs k box x mult v limit rounded b e whole reached =
     let h : IsOptimal p (take k cs) box x mult v = subst (AnswerHolds p (take k cs) box) e (answers_hold p (take k cs) box b) in
-    by_first p cs k box (Some limit) (Bound mult rounded) (≤ℚ_refl limit) record {
+    by_first p cs k box (Some limit) (Bound mult rounded) record {
       multipliers = h.multipliers;
       whole_objective = whole;
       limit = limit;

@@ -1,18 +1,17 @@
 -- Lemmas: the numbers of rows and cuts, and the multipliers under these numbers.
-use Rattle.std.specs.Prelude.{pos, eqb, All, if◌then◌else◌}
+use Rattle.std.specs.Prelude.{pos, All, if◌then◌else◌}
 use Rattle.std.proofs.Common.{◌≡◌, ℕ, zero, suc, ◌+◌, ◌*◌, ◌<◌, ◌≤◌, arith, refl, ap, sym, ◌∙◌, Bool, true, false, List, [], ◌∷◌, ◌++◌, length, get_or, map, inl, inr}
 use Rattle.std.specs.Ordering.{int_eq}
 use Rattle.std.proofs.lemmas.Int.{ints}
 use Rattle.std.proofs.lemmas.List.{length-map, length-append, get_or-map, get_or_append_left, get_or-append-add}
 use Rattle.std.proofs.lemmas.List.Elements.{All-nil, All-cons}
 use Rattle.fraction.specs.Rational.{ℚ, ◌+ℚ◌, ◌*ℚ◌}
-use Rattle.fraction.specs.Lemmas.Rational.{zero-+ℚ, zero-*ℚ, mul-+ℚ}
-use Rattle.fraction.specs.Lemmas.Ring.{*ℚ-zero}
+use Rattle.fraction.specs.Lemmas.Rational.{zero-+ℚ, zero-*ℚ}
 use Rattle.fraction.specs.Lemmas.Order.{zero_from_num}
 use Rattle.fraction.specs.Lemmas.Bounds.{dot_value}
 use Rattle.problem.specs.declared.row.Row.{Row}
-use Rattle.problem.specs.Linear.{Terms, Multipliers, coefficient, at_column, scaled}
-use Rattle.problem.specs.Lemmas.Linear.{coefficient-append}
+use Rattle.problem.specs.Linear.{Multipliers, coefficient, scaled}
+use Rattle.problem.specs.Lemmas.Linear.{coefficient-append, coefficient-scaled}
 use Rattle.problem.specs.Rows.{Rows}
 use Rattle.problem.specs.Problem.{Problem}
 use Rattle.cert_rows.specs.Lines.{CertLine, row_at, no_cert_line}
@@ -75,17 +74,6 @@ multiplied-numbered ls f (i ∷ is) (r ∷ rs) (m ∷ ms) h = at (int_eq m.num (
         → multiplied (λ i. f (row_at ls i)) (if x then numbered is ms else (i, m) ∷ numbered is ms) ≡ m *ℚ f r +ℚ dot_value ms (map f rs)
     at true e k = k ∙ sym ((λ j. (ap (λ z. z *ℚ f r) (zero_from_num m (grind (arith, ints))) ∙ zero-*ℚ (f r)) j +ℚ dot_value ms (map f rs)) ∙ zero-+ℚ _)
     at false e k = λ j. m *ℚ f (h.1 j) +ℚ k j
-
-at_scaled : (m : ℚ) (k : ℕ) (a : ℚ) (j : ℕ) → at_column k (m *ℚ a) j ≡ m *ℚ at_column k a j
-at_scaled m k a j = at (eqb k j)
-  where
-    at : (b : Bool) → (if b then m *ℚ a else zero_ℚ) ≡ m *ℚ (if b then a else zero_ℚ)
-    at true = refl
-    at false = sym (*ℚ-zero m)
-
-coefficient-scaled : (m : ℚ) (ts : Terms) (j : ℕ) → coefficient (scaled m ts) j ≡ m *ℚ coefficient ts j
-coefficient-scaled m [] j = sym (*ℚ-zero m)
-coefficient-scaled m (t ∷ ts) j = (λ i. at_scaled m t.0 t.1 j i +ℚ coefficient-scaled m ts j i) ∙ sym (mul-+ℚ m _ _)
 
 combined_coefficient : (ls : List CertLine) (ms : Multipliers) (j : ℕ) → coefficient (combined_terms ls ms) j ≡ multiplied (λ i. coefficient (row_at ls i).terms j) ms
 combined_coefficient ls [] j = refl

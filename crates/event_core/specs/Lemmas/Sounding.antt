@@ -7,6 +7,7 @@ use Rattle.std.proofs.lemmas.Option.{same_Some}
 use Rattle.std.proofs.lemmas.List.{length_push}
 use Rattle.std.proofs.lemmas.List.Elements.{All-nil, All-weaker, All-push}
 use Rattle.fraction.specs.Rational.{ℚ}
+use Rattle.fraction.specs.Lemmas.Order.{less_at_most}
 use Rattle.problem.specs.declared.row.Row.{Row}
 use Rattle.problem.specs.Problem.{Problem}
 use Rattle.problem.specs.Feasible.{objective_at}
@@ -23,8 +24,9 @@ use Rattle.node_events.specs.declared.event.Event.TheVariants.{Claim, Release, C
 use Rattle.derivation_book.specs.Rounded.{rounded_row}
 use Rattle.derivation_book.specs.Cuts.{AreCutsOf}
 use Rattle.derivation_book.specs.Lemmas.Rounded.{one_more}
+use Rattle.derivation_book.specs.Legal.{IsAtMost}
 use Rattle.incumbent.specs.declared.best.Best.{Best}
-use Rattle.incumbent.specs.Offers.{IsIncumbentOf, IsPointOf, IsImprovement, offered}
+use Rattle.incumbent.specs.Offers.{IsIncumbentOf, IsPointOf, IsImprovement, offered, IsBetter, cutoff_of}
 use Rattle.incumbent.specs.Lemmas.Offers.{Decides-better}
 use Rattle.event_core.specs.declared.entry.Holder.{Holder}
 use Rattle.event_core.specs.declared.entry.Entry.{Entry}
@@ -42,6 +44,10 @@ use Rattle.event_core.specs.Lemmas.Boxes.{both_within, both_tells}
 -- ---- points
 pub improvement : (p : Problem) (i : Option Best) (s : State) (x : List ℤ) → s.problem ≡ p → s.incumbent ≡ i → IsImprovement p i x → IsIncumbentOf p (offered p x)
 improvement p i s x e f h = λ b q. subst (IsPointOf p) (same_Some _ b q) (record { feasible = h.feasible; value = refl })
+
+pub better_cutoff : (i : Option Best) (v : ℚ) → IsBetter i v → IsAtMost (Some v) (cutoff_of i)
+better_cutoff None v h = tt
+better_cutoff (Some b) v h = less_at_most v b.value (h b refl)
 
 -- ---- holds of open nodes
 abbrev pub HoldsOpen : List Bool → Holder → Type 0

@@ -5,7 +5,7 @@ use Rattle.std.proofs.lemmas.Int.{ints, unsigned_abs-mul}
 use Rattle.std.proofs.Math.Nat.{mul-one, mul-le-mul, div-le_self, mul-div_cancel', mul-pos, div-mul_cancel, mul-le-mul_right, mul-le-mul_left, le_of_mul-le-mul_right, le_of_dvd, dvd_trans}
 use Prim.Native.Nat.{◌∣◌}
 use borrow.Author.Tests.{lt-ltb}
-use Rattle.std.specs.Option.{option_and_then}
+use Rattle.std.specs.Option.{option_map, option_and_then}
 use Rattle.fraction.specs.Lemmas.Gcd.{gcd-one, gcd_is, gcd_pos, lcm_dvd}
 use Rattle.fraction.specs.Gcd.{gcd}
 use Rattle.fraction.specs.Lemmas.Lowest.{abs-div}
@@ -117,6 +117,10 @@ some_of false v w e = cc
 pub was_some : {A B : Type 0} (f : A → Option B) (o : Option A) (t : B) → option_and_then f o ≡ Some t → (v : A) × (o ≡ Some v) × (f v ≡ Some t)
 was_some f None t e = cc
 was_some f (Some v) t e = (v, refl, e)
+
+pub was_mapped : {A B : Type 0} (f : A → B) (o : Option A) (t : B) → option_map f o ≡ Some t → (v : A) × (o ≡ Some v) × (f v ≡ t)
+was_mapped f None t e = cc
+was_mapped f (Some v) t e = (v, refl, cc)
 
 pub value_from_mul : (x y p : ℚ) → mul_checked x y ≡ Some p → x *ℚ y ≡ p
 unfolding mul_checked

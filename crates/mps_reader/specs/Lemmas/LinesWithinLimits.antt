@@ -4,9 +4,10 @@ use Rattle.std.specs.Option.{option_or}
 use Rattle.std.specs.List.{list_all}
 use Rattle.std.specs.Str.{bytes_eq}
 use Rattle.std.proofs.Common.{refl, sym, ap, ◌∙◌, subst, arith, append-nil}
-use Rattle.std.proofs.lemmas.Bool.{and_from, and_parts}
+use Rattle.std.proofs.lemmas.Bool.{and_from, and_parts, not-false}
 use Rattle.std.proofs.lemmas.List.Folds.{list_all-append}
 use Rattle.std.proofs.lemmas.List.Sums.{sum_by-append}
+use Rattle.std.proofs.lemmas.Option.{same_Some}
 use Rattle.fraction.specs.Rational.{ℚ, whole}
 use Rattle.mps_lines.specs.Lines.{Line}
 use Rattle.mps_lines.specs.Infinities.{infinite}
@@ -48,10 +49,6 @@ none_both (Some k) b h = cc
 pub none_when : (b : Bool) (k : Kind) → when b k ≡ None → b ≡ false
 none_when true k h = cc
 none_when false k h = refl
-
-not_false : (b : Bool) → not b ≡ false → b ≡ true
-not_false true h = refl
-not_false false h = cc
 
 is_none : {A : Type 0} (o : Option A) → o ≡ None → is_some o ≡ false
 is_none o h = ap is_some h
@@ -105,9 +102,6 @@ places_wider n m (t ∷ ts) l h = let a = and_parts (nat_lt t.1.0 n) _ h in and_
 places_push : (p : ℕ) (ts : List Placed) (row : List ℕ) (q : ℚ) → list_all (λ t. nat_lt t.1.0 (suc p)) ts ≡ true → list_all (λ t. nat_lt t.1.0 (suc p)) (ts ++ (row, (p, q)) ∷ []) ≡ true
 places_push p ts row q h = list_all-append (λ t. nat_lt t.1.0 (suc p)) ts ((row, (p, q)) ∷ []) ∙ and_from _ _ h (and_from _ _ (of_lt p (suc p) (omega arith)) refl)
 
-same_some : (a b : List ℕ) → Some a ≡ Some b → a ≡ b
-same_some a b h = cc
-
 -- one more entry: the terms of a row
 module _ (p : ℕ) (run : List (List ℕ × ℚ)) (ts : List Placed) (row : List ℕ) (q : ℚ) (m : is_modest q ≡ true) (fresh : is_some (value_under run row) ≡ false) where
   terms_more : (name : List ℕ) → limited_from (reach (value_under run name) (suc p)) 0 (terms_in name ts) ≡ true
@@ -134,7 +128,7 @@ keeps_same cs run (Some l) ts column row q h s f m =
     let n : suc (place cs column) ≡ length cs = omega (arith, ap (λ c. place cs c) e, h.last_is l refl) in
     record {
       few = h.few;
-      last_is = λ c k. ap (λ d. place cs d + 1) (sym (same_some column c k)) ∙ omega (arith, n);
+      last_is = λ c k. ap (λ d. place cs d + 1) (sym (same_Some column c k)) ∙ omega (arith, n);
       terms = λ name. subst (λ n. limited_from (reach (value_under (run ++ (row, q) ∷ []) name) n) 0 (terms_in name (ts ++ (row, (place cs column, q)) ∷ [])) ≡ true) n
           (terms_more (place cs column) run ts row q m f name (subst (λ n. limited_from (reach (value_under run name) n) 0 (terms_in name ts) ≡ true) (sym n) (h.terms name)));
       places = subst (λ n. list_all (λ t. nat_lt t.1.0 n) (ts ++ (row, (place cs column, q)) ∷ []) ≡ true) n
@@ -151,7 +145,7 @@ keeps_new cs run last ts column row q at h f l v m =
     let n : suc (length cs) ≡ length (cs ++ (column, at) ∷ []) = sym (length_push cs (column, at)) in
     record {
       few = omega (arith, l, n);
-      last_is = λ c k. ap (λ d. place (cs ++ (column, at) ∷ []) d + 1) (sym (same_some column c k)) ∙ omega (arith, n, p);
+      last_is = λ c k. ap (λ d. place (cs ++ (column, at) ∷ []) d + 1) (sym (same_Some column c k)) ∙ omega (arith, n, p);
       terms = λ name. subst (λ n. limited_from (reach (value_under ((row, q) ∷ []) name) n) 0 (terms_in name (ts ++ (row, (place (cs ++ (column, at) ∷ []) column, q)) ∷ [])) ≡ true) n
           (subst (λ p. limited_from (reach (value_under ((row, q) ∷ []) name) (suc (length cs))) 0 (terms_in name (ts ++ (row, (p, q)) ∷ [])) ≡ true) (sym p)
           (terms_more (length cs) [] ts row q m refl name (before name)));
@@ -254,7 +248,7 @@ data_more word s line h f = let a = none_both (when (limits_fields word && not (
     by (Some section.EndData) a f = h
     by (Some section.ObjSense) a f = record { rows = h.rows; columns = h.columns; sides = h.sides }
     by (Some section.Rows) a f = record { rows = rows_more (rows_of s.rows) line.fields h.rows f; columns = h.columns; sides = h.sides }
-    by (Some section.Columns) a f = record { rows = h.rows; columns = columns_more (rows_of s.rows) s.columns line.number (marker line.fields) line.fields h.columns (not_false _ a) f; sides = h.sides }
+    by (Some section.Columns) a f = record { rows = h.rows; columns = columns_more (rows_of s.rows) s.columns line.number (marker line.fields) line.fields h.columns (not-false _ a) f; sides = h.sides }
     by (Some section.Rhs) a f = record { rows = h.rows; columns = h.columns; sides = sides_more (rows_of s.rows) s.rhs (sides line.fields) h.sides f }
     by (Some section.Ranges) a f = record { rows = h.rows; columns = h.columns; sides = h.sides }
     by (Some section.Bounds) a f = record { rows = h.rows; columns = h.columns; sides = h.sides }

@@ -24,6 +24,17 @@ pub coefficient-append : (ts us : List (ℕ × ℚ)) (j : ℕ) → coefficient (
 coefficient-append [] us j = sym (zero-+ℚ _)
 coefficient-append (t ∷ ts) us j = ap (λ v. at_column t.0 t.1 j +ℚ v) (coefficient-append ts us j) ∙ sym (+ℚ_assoc _ _ _)
 
+at_scaled : (m : ℚ) (k : ℕ) (a : ℚ) (j : ℕ) → at_column k (m *ℚ a) j ≡ m *ℚ at_column k a j
+at_scaled m k a j = step (eqb k j)
+  where
+    step : (b : Bool) → cond b (m *ℚ a) (whole (pos 0)) ≡ m *ℚ cond b a (whole (pos 0))
+    step true = refl
+    step false = sym (*ℚ-zero m)
+
+pub coefficient-scaled : (m : ℚ) (ts : List (ℕ × ℚ)) (j : ℕ) → coefficient (scaled m ts) j ≡ m *ℚ coefficient ts j
+coefficient-scaled m [] j = sym (*ℚ-zero m)
+coefficient-scaled m (t ∷ ts) j = (λ i. at_scaled m t.0 t.1 j i +ℚ coefficient-scaled m ts j i) ∙ sym (mul-+ℚ m _ _)
+
 -- ---- the coefficient of one term more
 pub at_other : (k : ℕ) (a : ℚ) (j : ℕ) → (k ≡ j → ⊥) → at_column k a j ≡ whole (pos 0)
 at_other k a j h = step (eqb k j) refl

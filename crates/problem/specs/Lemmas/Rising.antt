@@ -8,6 +8,11 @@ use Rattle.fraction.specs.Lemmas.Ring.{+ℚ-zero}
 use Rattle.problem.specs.Lemmas.Linear.{at_same, past_first}
 use Rattle.problem.specs.Rising.{RiseFrom}
 
+-- what rises from a column rises from an earlier one
+pub rise_lower : (j k : ℕ) (ts : List (ℕ × ℚ)) → j ≤ k → RiseFrom k ts → RiseFrom j ts
+rise_lower j k [] l h = tt
+rise_lower j k (t ∷ ts) l h = (omega (arith, h.0), h.1)
+
 -- rising columns below n are at most n in number
 pub length-rising : (n k : ℕ) (ts : List (ℕ × ℚ)) → k ≤ n → RiseFrom k ts → All (λ t. t.0 < n) ts → k + length ts ≤ n
 length-rising n k [] l h b = omega arith

@@ -9,10 +9,6 @@ use Rattle.node_journal.specs.History.{first_of, count_of, BeginsWith, IsPrefixO
 use Rattle.node_journal.specs.Records.{Records, Intact, Foreign, BrokenAt, records}
 use Rattle.node_journal.specs.Lemmas.Histories.{side, get_seam}
 
--- the last moment
-pub last_moment : (past : List Moment) (now : Moment) → slice_get (past ++ now ∷ []) (length past) ≡ Some now
-last_moment past now = get_seam past now []
-
 fewer : (n : ℕ) (s : Records) → count_of (first_of n s) ≤ count_of s
 fewer n (Intact ps) = omega (arith, length-take n ps)
 fewer n Foreign = omega arith
@@ -57,7 +53,7 @@ module _ (from since : ℕ) (past past' : List Moment) (now now' : Moment) (ps :
 
   -- behind the first history each crash leaves all of its payloads
   later : (j : ℕ) (n : Moment) (d : List ℕ) → length past ≤ j → slice_get (past' ++ now' ∷ []) j ≡ Some n → IsImage n d → BeginsWith ps (records d)
-  later j n d le at is = next.lasting (length past) j now n ps begun le (extends (length past) now (last_moment past now)) at all d is
+  later j n d le at is = next.lasting (length past) j now n ps begun le (extends (length past) now (get_seam past now [])) at all d is
 
   prefix : (i : ℕ) (m : Moment) (c : List ℕ) → from ≤ i → i ≤ length past → slice_get (past' ++ now' ∷ []) i ≡ Some m → IsImage m c → IsPrefixOf ps (records c)
   prefix i m c ge le at is = first.prefixes refl i m c ge (old i m le at) is
@@ -84,8 +80,8 @@ module _ (from since : ℕ) (past past' : List Moment) (now now' : Moment) (ps :
   lasting i j m n qs ge le ati atj keeps = elim (side i (length past)) [
     | inl li ↦ elim (side j (length past)) [
       | inl lj ↦ first.history.lasting i j m n qs ge le (old i m li ati) (old j n lj atj) keeps
-      | inr gt ↦ next.lasting (length past) j now n qs begun (omega (arith, gt)) (extends (length past) now (last_moment past now)) atj
-          (first.history.lasting i (length past) m now qs ge li (old i m li ati) (last_moment past now) keeps)
+      | inr gt ↦ next.lasting (length past) j now n qs begun (omega (arith, gt)) (extends (length past) now (get_seam past now [])) atj
+          (first.history.lasting i (length past) m now qs ge li (old i m li ati) (get_seam past now []) keeps)
     ]
     | inr gt ↦ next.lasting i j m n qs (omega (arith, begun, gt)) le ati atj keeps
   ]
@@ -94,8 +90,8 @@ module _ (from since : ℕ) (past past' : List Moment) (now now' : Moment) (ps :
   remaining qs i j m n ge le ati atj may = elim (side i (length past)) [
     | inl li ↦ elim (side j (length past)) [
       | inl lj ↦ first.history.remaining qs i j m n ge le (old i m li ati) (old j n lj atj) may
-      | inr gt ↦ next.remaining qs (length past) j now n begun (omega (arith, gt)) (extends (length past) now (last_moment past now)) atj
-          (first.history.remaining qs i (length past) m now ge li (old i m li ati) (last_moment past now) may)
+      | inr gt ↦ next.remaining qs (length past) j now n begun (omega (arith, gt)) (extends (length past) now (get_seam past now [])) atj
+          (first.history.remaining qs i (length past) m now ge li (old i m li ati) (get_seam past now []) may)
     ]
     | inr gt ↦ next.remaining qs i j m n (omega (arith, begun, gt)) le ati atj may
   ]
@@ -114,7 +110,7 @@ prefix_longer ps qs r begins is = is ∙ ap Intact (ap (λ (l : List (List ℕ))
 pub keeps_joined : (from since : ℕ) (past past' : List Moment) (now now' : Moment) (ps : List (List ℕ)) → KeepsHistory from past now ps None → Keeps ps now → ExtendsMoments (past ++ now ∷ []) (past' ++ now' ∷ [])
     → since ≤ length past → (qs : List (List ℕ)) (fault : Option ℕ) → KeepsHistory since past' now' qs fault → (fault ≡ None → take (length ps) qs ≡ ps) → KeepsHistory from past' now' qs fault
 keeps_joined from since past past' now now' ps first all extends begun qs fault next begins = record {
-  begun = omega (arith, first.begun, slice_get_within (past' ++ now' ∷ []) (length past) now (extends (length past) now (last_moment past now)), length-append past' (now' ∷ []));
+  begun = omega (arith, first.begun, slice_get_within (past' ++ now' ∷ []) (length past) now (extends (length past) now (get_seam past now [])), length-append past' (now' ∷ []));
   history = histories_joined from since past past' now now' ps first all extends begun next.history;
   prefixes = λ sound i m c ge at is. elim (side i (length past)) [
     | inl le ↦ prefix_longer ps qs (records c) (begins sound) (first.prefixes refl i m c ge (old from since past past' now now' ps first all extends begun next.history i m le at) is)

@@ -40,6 +40,10 @@ few_more s budget e b few within = step (is_split e) ((keeps_frame s None e).nod
     step true n w = let room : length s.nodes + 2 ≤ budget = grind (arith, w) in omega (arith, n, room, b)
     step false n w = omega (arith, n, few)
 
+-- the record of a model alone
+pub stands_alone : (p : Problem) (model : List ℕ) → IsModelOf model p → StandsFor p (model ∷ []) []
+stands_alone p model is = record { rest = []; parts = refl; model = is; read = record { written = refl; stored = tt; legal = tt; few = omega arith } }
+
 -- ---- the first of the events that were read
 pub stored_take : (k : ℕ) (es : List Entry) → AllByRecursion IsStored es → AllByRecursion IsStored (take k es)
 stored_take zero es all = tt

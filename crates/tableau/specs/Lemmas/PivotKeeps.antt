@@ -4,7 +4,7 @@ use Rattle.std.specs.Prelude.{◌⊎◌, if◌then◌else◌}
 use Rattle.std.specs.Option.{option_map, unwrap_or}
 use Rattle.std.proofs.lemmas.Bool.{cases_eq}
 use Rattle.std.proofs.lemmas.List.{length-set, get_or-set_same, get_or-set_other}
-use Rattle.fraction.specs.Lemmas.Bounds.{dot_value, was_some}
+use Rattle.fraction.specs.Lemmas.Bounds.{dot_value, was_some, was_mapped}
 use Rattle.fraction.specs.Lemmas.Rational.{zero-*ℚ, zero-+ℚ, divided}
 use Rattle.fraction.specs.Lemmas.Ring.{*ℚ-zero, +ℚ-zero}
 use Rattle.fraction.specs.Rational.{ℚ, ◌*ℚ◌, ◌+ℚ◌}
@@ -13,7 +13,7 @@ use Rattle.tableau.specs.Invariants.{AreAtBounds, HasSameObjective, HasSameSolut
 use Rattle.tableau.specs.Leaving.{is_above, is_below, unbounded, violated_bound, violation}
 use Rattle.tableau.specs.Lemmas.Pivoted.{IsPivoted, length-substituted}
 use Rattle.tableau.specs.Lemmas.Places.{not_both_statuses}
-use Rattle.tableau.specs.Lemmas.RowAlgebra.{add_multiple_is, length-negative_quotients, minus_one, negative_quotient_is, row_says, solved_for_parts, solved_for_says, some_map, substituted_keeps}
+use Rattle.tableau.specs.Lemmas.RowAlgebra.{add_multiple_is, length-negative_quotients, minus_one, negative_quotient_is, row_says, solved_for_parts, solved_for_says, substituted_keeps}
 use Rattle.tableau.specs.LinearProgram.{LinearProgram}
 use Rattle.tableau.specs.Pivot.{status_after}
 use Rattle.tableau.specs.Tableau.{Tableau, bounds_of, nonbasic_value_of, row_of, status_of, value_of}
@@ -28,7 +28,7 @@ negative_quotient_at : (p : ℚ) (ts ds : List ℚ) (j : ℕ) → negative_quoti
 negative_quotient_at p [] ds j e l = absurd (omega arith)
 negative_quotient_at p (t ∷ ts) ds j e l =
     let a = was_some (λ d. option_map (λ ds. d ∷ ds) (negative_quotients p ts)) (negative_quotient p t) ds e in
-    let b = some_map (λ ds. a.0 ∷ ds) (negative_quotients p ts) ds a.2 in
+    let b = was_mapped (λ ds. a.0 ∷ ds) (negative_quotients p ts) ds a.2 in
     rw (← b.2) (at j a.0 b.0 a.1 (λ j l. negative_quotient_at p ts b.0 j b.1 l) l)
   where
     at : (j : ℕ) (d : ℚ) (ds : List ℚ) → negative_quotient p t ≡ Some d → ((j : ℕ) → j < length ts → negative_quotient p (get_or ts j zero_ℚ) ≡ Some (get_or ds j zero_ℚ)) → j < suc (length ts)
@@ -41,7 +41,7 @@ add_multiple_at q [] ss ds j k e l = absurd (omega arith)
 add_multiple_at q (t ∷ ts) [] ds j k e l = absurd (omega arith)
 add_multiple_at q (t ∷ ts) (s ∷ ss) ds j k e l =
     let a = was_some (λ d. option_map (λ ds. d ∷ ds) (add_multiple_of_row q ts ss)) (add_multiple q t s) ds e in
-    let b = some_map (λ ds. a.0 ∷ ds) (add_multiple_of_row q ts ss) ds a.2 in
+    let b = was_mapped (λ ds. a.0 ∷ ds) (add_multiple_of_row q ts ss) ds a.2 in
     rw (← b.2) (at j a.0 b.0 a.1 (λ j l. add_multiple_at q ts ss b.0 j (omega arith) b.1 l) l)
   where
     at : (j : ℕ) (d : ℚ) (ds : List ℚ) → add_multiple q t s ≡ Some d → ((j : ℕ) → j < length ts → add_multiple q (get_or ts j zero_ℚ) (get_or ss j zero_ℚ) ≡ Some (get_or ds j zero_ℚ)) → j < suc (length ts)

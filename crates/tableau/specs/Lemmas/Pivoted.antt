@@ -1,5 +1,5 @@
 -- Lemmas: what a pivot leaves, read variable by variable.
-use Rattle.fraction.specs.Lemmas.Bounds.{was_some}
+use Rattle.fraction.specs.Lemmas.Bounds.{was_some, was_mapped}
 use Rattle.std.proofs.Common.{◌≡◌, ℕ, zero, suc, ◌+◌, ◌-◌, ◌<◌, arith, refl, ap, sym, ◌∙◌, subst, Some, List, [], ◌∷◌, ◌++◌, length, get_or, set, take, drop, inl, inr}
 use Rattle.std.specs.Option.{option_map}
 use Rattle.std.specs.List.{swap}
@@ -9,7 +9,6 @@ use Rattle.std.proofs.lemmas.List.Edits.{swap_is, length-swap}
 use Rattle.fraction.specs.Rational.{ℚ}
 use Rattle.tableau.specs.Elimination.{add_multiple, add_multiple_of_row, all_substituted, others_substituted, solved_for, substituted, zero_ℚ}
 use Rattle.tableau.specs.Leaving.{violated_bound, violation}
-use Rattle.tableau.specs.Lemmas.RowAlgebra.{some_map}
 use Rattle.tableau.specs.Pivot.{basis_exchanged, computed_value, computed_values, eliminated, exchanged, pivoted, revalued, rows_eliminated, status_after}
 use Rattle.tableau.specs.Tableau.{HasSize, Tableau, bounds_of, nonbasic_value_of, row_of, status_of, value_of}
 use Rattle.tableau.specs.declared.bounds.Direction.{Direction}
@@ -42,14 +41,14 @@ pub length-all_substituted : (c : ℕ) (new : List ℚ) (rows rs : List (List �
 length-all_substituted c new [] rs e = let f : [] ≡ rs = cc in ap length (sym f)
 length-all_substituted c new (row ∷ rows) rs e =
     let a = was_some (λ r. option_map (λ rs. r ∷ rs) (all_substituted c new rows)) (substituted c new row) rs e in
-    let b = some_map (λ rs. a.0 ∷ rs) (all_substituted c new rows) rs a.2 in
+    let b = was_mapped (λ rs. a.0 ∷ rs) (all_substituted c new rows) rs a.2 in
     rw (← b.2) (ap suc (length-all_substituted c new rows b.0 b.1))
 
 pub substituted_at : (c : ℕ) (new : List ℚ) (rows rs : List (List ℚ)) (i : ℕ) → all_substituted c new rows ≡ Some rs → i < length rows → substituted c new (get_or rows i []) ≡ Some (get_or rs i [])
 substituted_at c new [] rs i e l = absurd (omega arith)
 substituted_at c new (row ∷ rows) rs i e l =
     let a = was_some (λ r. option_map (λ rs. r ∷ rs) (all_substituted c new rows)) (substituted c new row) rs e in
-    let b = some_map (λ rs. a.0 ∷ rs) (all_substituted c new rows) rs a.2 in
+    let b = was_mapped (λ rs. a.0 ∷ rs) (all_substituted c new rows) rs a.2 in
     rw (← b.2) (at i a.0 b.0 a.1 (λ i l. substituted_at c new rows b.0 i b.1 l) l)
   where
     at : (i : ℕ) (r : List ℚ) (rs : List (List ℚ)) → substituted c new row ≡ Some r → ((i : ℕ) → i < length rows → substituted c new (get_or rows i []) ≡ Some (get_or rs i [])) → i < suc (length rows)
@@ -67,7 +66,7 @@ pub others_are : (r c : ℕ) (rows rs : List (List ℚ)) → r < length rows →
 others_are r c rows rs l e =
     let new = get_or rows r [] in
     let a = was_some (λ front. option_map (λ back. front ++ (new ∷ back)) (all_substituted c new (drop (r + 1) rows))) (all_substituted c new (take r rows)) rs e in
-    let b = some_map (λ back. a.0 ++ (new ∷ back)) (all_substituted c new (drop (r + 1) rows)) rs a.2 in
+    let b = was_mapped (λ back. a.0 ++ (new ∷ back)) (all_substituted c new (drop (r + 1) rows)) rs a.2 in
     rw (← b.2) (at a.0 b.0 (length-all_substituted c new _ a.0 a.1 ∙ length-take-le r rows (omega arith)) (length-all_substituted c new _ b.0 b.1 ∙ length-drop (r + 1) rows) a.1 b.1)
   where
     at : (front back : List (List ℚ)) → length front ≡ r → length back ≡ length rows - (r + 1)
@@ -100,7 +99,7 @@ length-add_multiple q [] ss ds e = let f : [] ≡ ds = cc in ap length (sym f)
 length-add_multiple q (t ∷ ts) [] ds e = let f : t ∷ ts ≡ ds = cc in ap length (sym f)
 length-add_multiple q (t ∷ ts) (s ∷ ss) ds e =
     let a = was_some (λ d. option_map (λ ds. d ∷ ds) (add_multiple_of_row q ts ss)) (add_multiple q t s) ds e in
-    let b = some_map (λ ds. a.0 ∷ ds) (add_multiple_of_row q ts ss) ds a.2 in
+    let b = was_mapped (λ ds. a.0 ∷ ds) (add_multiple_of_row q ts ss) ds a.2 in
     rw (← b.2) (ap suc (length-add_multiple q ts ss b.0 b.1))
 
 pub length-substituted : (c : ℕ) (new row ds : List ℚ) → substituted c new row ≡ Some ds → length ds ≡ length row
@@ -114,7 +113,7 @@ length-computed n xs (s ∷ ss) (q ∷ qs) [] vs a b d e = absurd (omega arith)
 length-computed zero xs (s ∷ ss) (q ∷ qs) (row ∷ rows) vs a b d e = absurd (omega arith)
 length-computed (suc n) xs (s ∷ ss) (q ∷ qs) (row ∷ rows) vs a b d e =
     let f = was_some (λ v. option_map (λ vs. v ∷ vs) (computed_values xs ss qs rows)) (computed_value xs s q row) vs e in
-    let g = some_map (λ vs. f.0 ∷ vs) (computed_values xs ss qs rows) vs f.2 in
+    let g = was_mapped (λ vs. f.0 ∷ vs) (computed_values xs ss qs rows) vs f.2 in
     rw (← g.2) (ap suc (length-computed n xs ss qs rows g.0 (omega arith) (omega arith) (omega arith) g.1))
 
 pub computed_value_at : (xs : List ℚ) (ss : List BasisStatus) (qs : List ℚ) (rows : List (List ℚ)) (vs : List ℚ) (i : ℕ)
@@ -126,7 +125,7 @@ computed_value_at xs (s ∷ ss) [] rows vs i a b e l = absurd (omega arith)
 computed_value_at xs (s ∷ ss) (q ∷ qs) [] vs i a b e l = absurd (omega arith)
 computed_value_at xs (s ∷ ss) (q ∷ qs) (row ∷ rows) vs i a b e l =
     let f = was_some (λ v. option_map (λ vs. v ∷ vs) (computed_values xs ss qs rows)) (computed_value xs s q row) vs e in
-    let g = some_map (λ vs. f.0 ∷ vs) (computed_values xs ss qs rows) vs f.2 in
+    let g = was_mapped (λ vs. f.0 ∷ vs) (computed_values xs ss qs rows) vs f.2 in
     rw (← g.2) (at i f.0 g.0 f.1 (λ i l. computed_value_at xs ss qs rows g.0 i (omega arith) (omega arith) g.1 l) l)
   where
     at : (i : ℕ) (v : ℚ) (vs : List ℚ) → computed_value xs s q row ≡ Some v → ((i : ℕ) → i < length qs → computed_value xs (get_or ss i Basic) (get_or qs i zero_ℚ) (get_or rows i []) ≡ Some (get_or vs i zero_ℚ)) → i < suc (length qs)
@@ -153,9 +152,9 @@ pivoted_is n r c t u s lr lc d e =
     let a = was_some (λ w. exchanged r c w t) (violation (bounds_of t r) (value_of t r)) u e in
     let b = was_some (λ v. revalued (basis_exchanged r c a.0 v)) (eliminated r c t) u a.2 in
     let f = was_some (λ rows. option_map (λ costs. record t { rows = rows; reduced_costs = costs }) (substituted c (get_or rows r []) t.reduced_costs)) (rows_eliminated r c t.rows) b.0 b.1 in
-    let g = some_map (λ costs. record t { rows = f.0; reduced_costs = costs }) (substituted c (get_or f.0 r []) t.reduced_costs) b.0 f.2 in
+    let g = was_mapped (λ costs. record t { rows = f.0; reduced_costs = costs }) (substituted c (get_or f.0 r []) t.reduced_costs) b.0 f.2 in
     let h = was_some (λ new. others_substituted r c (set t.rows r new)) (solved_for r c (row_of t r)) f.0 f.1 in
-    let v = some_map (λ values. record (basis_exchanged r c a.0 b.0) { values = values; pivots = b.0.pivots + 1 })
+    let v = was_mapped (λ values. record (basis_exchanged r c a.0 b.0) { values = values; pivots = b.0.pivots + 1 })
     (computed_values (basis_exchanged r c a.0 b.0).nonbasic_values (basis_exchanged r c a.0 b.0).statuses (basis_exchanged r c a.0 b.0).nonbasic_values (basis_exchanged r c a.0 b.0).rows) u b.2 in
     (a.0, from a.0 f.0 h.0 g.0 b.0 v.0 u a.1 h.1 h.2 g.1 g.2 v.1 v.2)
   where

@@ -6,7 +6,7 @@ use Rattle.std.proofs.lemmas.Grind.{common_steps}
 use Rattle.std.proofs.lemmas.List.{length-set, get_or-set_other}
 use Rattle.std.specs.Ordering.{int_eq}
 use Rattle.fraction.specs.Checked.{add_checked, mul_checked}
-use Rattle.fraction.specs.Lemmas.Bounds.{dot_value, value_from_add, value_from_mul, was_some}
+use Rattle.fraction.specs.Lemmas.Bounds.{dot_value, value_from_add, value_from_mul, was_some, was_mapped}
 use Rattle.fraction.specs.Lemmas.Rational.{*ℚ_assoc, *ℚ_comm, +ℚ_assoc, +ℚ_comm, lit_one, mul-inv_ℚ, neg-+ℚ, neg_ℚ-frac, one-*ℚ, zero-*ℚ, zero-+ℚ, divided}
 use Rattle.fraction.specs.Lemmas.Ring.{+ℚ-mul, ring_ℚ, +ℚ-zero, *ℚ-zero}
 use Rattle.fraction.specs.Rational.{inv_ℚ, neg_ℚ, whole, ℚ, ◌*ℚ◌, ◌+ℚ◌}
@@ -21,10 +21,6 @@ pub cancelled : (a b d : ℚ) → a +ℚ d ≡ zero_ℚ → d +ℚ b ≡ zero_�
 cancelled a b d e f = sym (+ℚ-zero a) ∙ ap (λ z. a +ℚ z) (sym f) ∙ sym (+ℚ_assoc a d b) ∙ ap (λ z. z +ℚ b) e ∙ zero-+ℚ b
 
 -- ---- operations that aren't cramped are exact
-pub some_map : {A B : Type 0} (f : A → B) (o : Option A) (t : B) → option_map f o ≡ Some t → (v : A) × (o ≡ Some v) × (f v ≡ t)
-some_map f None t e = cc
-some_map f (Some v) t e = (v, refl, cc)
-
 pub add_multiple_is : (q t s d : ℚ) → add_multiple q t s ≡ Some d → d ≡ t +ℚ q *ℚ s
 add_multiple_is q t s d e =
     let a = was_some (λ p. add_checked t p) (mul_checked q s) d e in
@@ -64,7 +60,7 @@ dot-add_multiple q [] (s ∷ ss) ds x l e = absurd (omega arith)
 dot-add_multiple q (t ∷ ts) [] ds x l e = absurd (omega arith)
 dot-add_multiple q (t ∷ ts) (s ∷ ss) ds x l e =
     let a = was_some (λ d. option_map (λ ds. d ∷ ds) (add_multiple_of_row q ts ss)) (add_multiple q t s) ds e in
-    let b = some_map (λ ds. a.0 ∷ ds) (add_multiple_of_row q ts ss) ds a.2 in
+    let b = was_mapped (λ ds. a.0 ∷ ds) (add_multiple_of_row q ts ss) ds a.2 in
     rw (← b.2) (at t s a.0 ts ss b.0 x (add_multiple_is q t s a.0 a.1) (λ x. dot-add_multiple q ts ss b.0 x (omega arith) b.1))
   where
     sums : (t s y u v : ℚ) → (t +ℚ q *ℚ s) *ℚ y +ℚ (u +ℚ q *ℚ v) ≡ (t *ℚ y +ℚ u) +ℚ q *ℚ (s *ℚ y +ℚ v)
@@ -79,7 +75,7 @@ pub dot-negative_quotients : (p : ℚ) (ts ds x : List ℚ) → 0 < nat_abs p.nu
 dot-negative_quotients p [] ds x h e = let f : [] ≡ ds = cc in rw (← f) (ap (λ z. z +ℚ zero_ℚ) (zero-*ℚ p) ∙ zero-+ℚ zero_ℚ)
 dot-negative_quotients p (t ∷ ts) ds x h e =
     let a = was_some (λ d. option_map (λ ds. d ∷ ds) (negative_quotients p ts)) (negative_quotient p t) ds e in
-    let b = some_map (λ ds. a.0 ∷ ds) (negative_quotients p ts) ds a.2 in
+    let b = was_mapped (λ ds. a.0 ∷ ds) (negative_quotients p ts) ds a.2 in
     rw (← b.2) (at t a.0 ts b.0 x (negative_quotient_is p t a.0 h a.1) (λ x. dot-negative_quotients p ts b.0 x h b.1))
   where
     parts : (d t y u v : ℚ) → (d *ℚ y +ℚ u) *ℚ p +ℚ (t *ℚ y +ℚ v) ≡ (d *ℚ p +ℚ t) *ℚ y +ℚ (u *ℚ p +ℚ v)
@@ -106,7 +102,7 @@ pub length-negative_quotients : (p : ℚ) (ts ds : List ℚ) → negative_quotie
 length-negative_quotients p [] ds e = let f : [] ≡ ds = cc in ap length (sym f)
 length-negative_quotients p (t ∷ ts) ds e =
     let a = was_some (λ d. option_map (λ ds. d ∷ ds) (negative_quotients p ts)) (negative_quotient p t) ds e in
-    let b = some_map (λ ds. a.0 ∷ ds) (negative_quotients p ts) ds a.2 in
+    let b = was_mapped (λ ds. a.0 ∷ ds) (negative_quotients p ts) ds a.2 in
     rw (← b.2) (ap suc (length-negative_quotients p ts b.0 b.1))
 
 -- the row of r, in which r itself has no part, solved for c: with D the sum before the division, E that of the new row

@@ -4,7 +4,7 @@ use Rattle.std.specs.Prelude.{pos, int_lt, if◌then◌else◌}
 use Rattle.std.specs.Option.{unwrap_or}
 use Rattle.std.proofs.lemmas.Bool.{cases_lt}
 use Rattle.std.proofs.lemmas.List.{length-map, length-append, length-replicate, get_or_append_left, get_or-append_right, get_or-map}
-use Rattle.fraction.specs.Lemmas.Bounds.{dot_value}
+use Rattle.fraction.specs.Lemmas.Bounds.{dot_value, was_mapped}
 use Rattle.fraction.specs.Lemmas.Rational.{zero-*ℚ, zero-+ℚ}
 use Rattle.fraction.specs.Rational.{ℚ, ◌*ℚ◌, ◌+ℚ◌}
 use Rattle.problem.specs.Linear.{Terms}
@@ -12,12 +12,12 @@ use Rattle.problem.specs.Rows.{Rows}
 use Rattle.problem.specs.Problem.{Problem}
 use Rattle.problem.specs.declared.row.Row.{Row}
 use Rattle.problem.specs.declared.row.Sense.TheVariants.{E}
+use Rattle.problem.specs.Lemmas.Linear.{past_first}
 use Rattle.problem_box.specs.declared.span.Span.{Span}
 use Rattle.tableau.specs.Elimination.{entry, zero_ℚ}
 use Rattle.tableau.specs.Invariants.{HasDualSign, IsAtBound, IsCanonicalRow, IsNonbasic, IsTableauOf}
 use Rattle.tableau.specs.Leaving.{unbounded}
 use Rattle.tableau.specs.Lemmas.Pivoted.{computed_value_at, length-computed}
-use Rattle.tableau.specs.Lemmas.RowAlgebra.{some_map}
 use Rattle.tableau.specs.Lemmas.Signs.{below_from, not_below_from}
 use Rattle.tableau.specs.LinearProgram.{LinearProgram, coefficients_from, numbers_from, program_of, relaxation, row_bounds, row_numbers, span_bounds, variables}
 use Rattle.tableau.specs.WellFormed.{IsBoxed, IsWellFormed}
@@ -116,7 +116,7 @@ pub record IsSlackBasis (p : LinearProgram) (t : Tableau) : Type 0 where
 
 pub started_is : (p : LinearProgram) (t : Tableau) → IsWellFormed p → started p ≡ Some t → IsSlackBasis p t
 started_is p t h e =
-    let a = some_map (λ values. record (slack_basis p) { values = values }) (computed_values (slack_basis p).nonbasic_values (slack_basis p).statuses (slack_basis p).nonbasic_values (slack_basis p).rows) t e in
+    let a = was_mapped (λ values. record (slack_basis p) { values = values }) (computed_values (slack_basis p).nonbasic_values (slack_basis p).statuses (slack_basis p).nonbasic_values (slack_basis p).rows) t e in
     subst (IsSlackBasis p) a.2 (made a.0 a.1)
   where
     made : (values : List ℚ) → computed_values (slack_basis p).nonbasic_values (slack_basis p).statuses (slack_basis p).nonbasic_values (slack_basis p).rows ≡ Some values → IsSlackBasis p (record (slack_basis p) { values = values })
@@ -222,6 +222,11 @@ no_row = record { sense = E; rhs = zero_ℚ; terms = [] }
 pub length-coefficients : (j k : ℕ) (ts : List (ℕ × ℚ)) → length (coefficients_from j k ts) ≡ k
 length-coefficients j zero ts = refl
 length-coefficients j (suc k) ts = omega (arith, length-coefficients (j + 1) k ts)
+
+-- from a later column on, the coefficients are those of the other terms
+pub past_term : (t : ℕ × ℚ) (ts : List (ℕ × ℚ)) (j k : ℕ) → t.0 < j → coefficients_from j k (t ∷ ts) ≡ coefficients_from j k ts
+past_term t ts j zero l = refl
+past_term t ts j (suc k) l = λ i. past_first t ts j (λ e. omega (arith, l, e)) i ∷ past_term t ts (j + 1) k (omega (arith, l)) i
 
 pub program_is_well_formed : (objective : Terms) (rows : Rows) (numbers : List ℕ) (spans : List Span) → length numbers ≡ length rows → IsWellFormed (program_of objective rows numbers spans)
 program_is_well_formed objective rows numbers spans e = record {

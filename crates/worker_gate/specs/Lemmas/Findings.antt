@@ -1,11 +1,9 @@
 -- Lemmas: what was found of a node, while others do something.
-use Rattle.std.specs.Prelude.{◌≡◌, ◌<◌, ◌≤◌, ℕ, true, List, [], ◌∷◌, ◌++◌, length, Option, Some, None, refl}
+use Rattle.std.specs.Prelude.{◌≡◌, ◌<◌, ◌≤◌, ℕ, true, List, [], ◌∷◌, ◌++◌, length, Option, Some, None}
 use Rattle.std.proofs.Common.{sym, ap, ◌∙◌, subst, arith}
 use Rattle.std.proofs.lemmas.List.{append-nil, length-append, take-append-le}
 use Rattle.std.proofs.lemmas.List.Elements.{All-weaker}
 use Rattle.fraction.specs.Rational.{ℚ}
-use Rattle.fraction.specs.Lemmas.Rational.{≤ℚ_refl}
-use Rattle.fraction.specs.Lemmas.Order.{less_at_most}
 use Rattle.problem_box.specs.declared.span.Span.{Span}
 use Rattle.problem.specs.declared.row.Row.{Row}
 use Rattle.problem.specs.Linear.{Multipliers, Point}
@@ -21,29 +19,18 @@ use Rattle.derivation_book.specs.declared.cut.Cut.{Cut}
 use Rattle.derivation_book.specs.Rounded.{rounded_row}
 use Rattle.derivation_book.specs.Legal.{is_legal_proof, IsAtMost}
 use Rattle.derivation_book.specs.Lemmas.Deciding.{decides-legal}
-use Rattle.derivation_book.specs.Lemmas.Staying.{still_rounded, still_legal}
+use Rattle.derivation_book.specs.Lemmas.Staying.{still_rounded, still_legal, same_cutoff}
 use Rattle.dual_simplex.specs.Answers.{answer}
 use Rattle.dual_simplex.specs.Meaning.{IsOptimal}
-use Rattle.incumbent.specs.declared.best.Best.{Best}
-use Rattle.incumbent.specs.Offers.{cutoff_of, IsBetter}
 use Rattle.event_core.specs.States.{State, tree_of, box_of, cutoff}
 use Rattle.event_core.specs.After.{after, after_cut}
 use Rattle.event_core.specs.Histories.{IsLegal}
 use Rattle.event_core.specs.Lemmas.Passing.{split_passed}
 use Rattle.event_core.specs.Lemmas.Ended.{left_within, leaves-length}
-use Rattle.event_core.specs.Lemmas.Sounding.{IsKept, is_improvement}
+use Rattle.event_core.specs.Lemmas.Sounding.{IsKept, is_improvement, better_cutoff}
 use Rattle.expand.specs.declared.finding.Finding.{Finding}
 use Rattle.expand.specs.declared.finding.Finding.TheVariants.{Cuts, Shut, Whole, Solved, Loose}
 use Rattle.expand.specs.Findings.{HasRow, IsOfRun, IsTrueFinding}
-
--- ---- cutoffs
-pub same_cutoff : (c : Option ℚ) → IsAtMost c c
-same_cutoff None = tt
-same_cutoff (Some z) = ≤ℚ_refl z
-
-better_cutoff : (i : Option Best) (v : ℚ) → IsBetter i v → IsAtMost (Some v) (cutoff_of i)
-better_cutoff None v h = tt
-better_cutoff (Some b) v h = less_at_most v b.value (h b refl)
 
 -- ---- more cuts, and a smaller cutoff
 module _ (p : Problem) (cs more : List Cut) (box : List Span) (old lower : Option ℚ) (at_most : IsAtMost lower old) where

@@ -2,8 +2,8 @@ use Rattle.std.proofs.Common.{sym, subst, arith}
 use Rattle.std.specs.Prelude.{slice_get}
 use Rattle.std.proofs.lemmas.List.Elements.{All-more}
 use Rattle.std.proofs.lemmas.Option.{get_or_from_slice_get}
+use Rattle.fraction.specs.Lemmas.Bounds.{was_mapped}
 use Rattle.derivation_book.specs.declared.cut.Cut.{Cut}
-use Rattle.derivation_book.specs.Lemmas.OptionChains.{was_mapped}
 use Rattle.dual_simplex.specs.Sizes.{IsIntegerRow}
 use Rattle.dual_simplex.proofs.sizes.are_small_cuts.Goals as goal
 

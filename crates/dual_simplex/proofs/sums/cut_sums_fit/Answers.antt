@@ -1,9 +1,9 @@
 use Rattle.std.specs.Prelude.{is_some}
 use Rattle.std.proofs.Common.{sym, ap, ◌∙◌, arith}
 use Rattle.std.specs.Prelude.{slice_get}
+use Rattle.fraction.specs.Lemmas.Bounds.{was_mapped}
 use Rattle.problem.specs.declared.row.Row.{Row}
 use Rattle.derivation_book.specs.declared.cut.Cut.{Cut}
-use Rattle.derivation_book.specs.Lemmas.OptionChains.{was_mapped}
 use Rattle.dual_simplex.specs.PointSums.{checked_sum}
 use Rattle.dual_simplex.specs.Lemmas.EachOne.{failed_at, passed_at}
 use Rattle.dual_simplex.proofs.sums.cut_sums_fit.Goals as goal

@@ -1,8 +1,8 @@
 use Rattle.std.proofs.Common.{sym, ap, ◌∙◌, arith}
 use Rattle.std.specs.Prelude.{slice_get}
+use Rattle.fraction.specs.Lemmas.Bounds.{was_mapped}
 use Rattle.problem.specs.declared.row.Row.{Row}
 use Rattle.derivation_book.specs.declared.cut.Cut.{Cut}
-use Rattle.derivation_book.specs.Lemmas.OptionChains.{was_mapped}
 use Rattle.dual_simplex.specs.Lemmas.EachOne.{failed_at, passed_at}
 use Rattle.event_core.specs.Relaxed.{satisfies_row}
 use Rattle.event_core.proofs.relaxed.satisfies_cuts.Goals as goal

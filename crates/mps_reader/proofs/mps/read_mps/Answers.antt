@@ -1,9 +1,8 @@
 use Rattle.std.proofs.Common.{◌≡◌, ◌≤◌, Ok, arith, length, ◌∙◌}
-use Rattle.std.proofs.lemmas.Result.{IfOk-weaker}
+use Rattle.std.proofs.lemmas.Result.{IfOk-weaker, IfErr-weaker}
 use Rattle.mps_reader.specs.Refusals.{IsRefusedWith}
 use Rattle.mps_reader.proofs.Refusals.{read_is, refused_at_end, refused_by, too_long}
 use Rattle.mps_reader.specs.Reading.{Reads, finish, text_limit}
-use Rattle.mps_reader.proofs.Stopping.{if_err}
 use Rattle.mps_reader.proofs.mps.read_mps.Goals as goal
 use Rattle.mps_reader.specs.TextTables.{IsFaultOf}
 
@@ -30,5 +29,5 @@ returns-clause-refused g c =
     let upper = c.args.upper in
     let h = c.in-Ok.ensures.read in
     let l : length text ≤ text_limit = omega arith in
-    if_err c.problem_of.result (λ f. IsFaultOf f (finish upper (Ok h.s))) (λ f. IsRefusedWith text upper f)
+    IfErr-weaker c.problem_of.result (λ f. IsFaultOf f (finish upper (Ok h.s))) (λ f. IsRefusedWith text upper f)
     (λ f e. refused_at_end text upper h.s f (read_is text c.in-Ok.tables h upper l) e) (c.problem_of.ensures.err h.s h.tables)

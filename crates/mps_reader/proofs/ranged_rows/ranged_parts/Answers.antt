@@ -1,5 +1,5 @@
-use Rattle.std.proofs.Common.{◌≡◌, ◌++◌, ◌+◌, ◌<◌, ◌∷◌, ℕ, List, [], length, arith, refl, sym, ap, subst, ◌∙◌, drop, get_or}
-use Rattle.std.proofs.lemmas.List.{drop-set-lt}
+use Rattle.std.proofs.Common.{◌≡◌, ◌++◌, ◌+◌, ◌<◌, ◌∷◌, ℕ, List, length, arith, sym, ap, subst, ◌∙◌, drop, get_or}
+use Rattle.std.proofs.lemmas.List.{drop-set-lt, nil_from_length}
 use Rattle.std.specs.Option.{option_or}
 use Rattle.problem.specs.Rising.{AreNonzero, AreRising}
 use Rattle.fraction.specs.Rational.{ℚ}
@@ -12,10 +12,6 @@ use Rattle.mps_reader.proofs.TableLemmas.{length-table}
 use Rattle.mps_reader.specs.Tables.{table}
 use Rattle.mps_reader.specs.declared.kinds.RowType.{RowType}
 use Rattle.mps_reader.proofs.ranged_rows.ranged_parts.Goals as goal
-
-empty_of : {A : Type 0} (xs : List A) → length xs ≡ 0 → xs ≡ []
-empty_of [] h = refl
-empty_of (x ∷ xs) h = absurd (omega (arith, h))
 
 pub take_terms-requires : goal.take_terms-requires
 take_terms-requires g c =
@@ -68,11 +64,11 @@ returns-clause-rows g c =
     let left = drop c.loop-index.index c.loop-index.left in
     let n : length left ≡ 0 = omega (arith, c.loop-index.invariant.count, c.loop-index-test.false, c.len-index-end.ensures, length-table c.args.rows.now.entries) in
     (rows_done c.args.sides.now c.args.ranges.now (table c.args.rows.now.entries) c.args.terms c.loop-index.parts.rows.items c.loop-index.parts.objective c.loop-index.index left
-    c.loop-index.invariant (empty_of left n)).0
+    c.loop-index.invariant (nil_from_length left n)).0
 
 pub returns-clause-objective : goal.returns-clause-objective
 returns-clause-objective g c =
     let left = drop c.loop-index.index c.loop-index.left in
     let n : length left ≡ 0 = omega (arith, c.loop-index.invariant.count, c.loop-index-test.false, c.len-index-end.ensures, length-table c.args.rows.now.entries) in
     (rows_done c.args.sides.now c.args.ranges.now (table c.args.rows.now.entries) c.args.terms c.loop-index.parts.rows.items c.loop-index.parts.objective c.loop-index.index left
-    c.loop-index.invariant (empty_of left n)).1
+    c.loop-index.invariant (nil_from_length left n)).1

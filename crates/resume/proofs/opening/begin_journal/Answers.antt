@@ -4,8 +4,9 @@ use Rattle.node_journal.specs.declared.fault.AppendFault.{AppendFault}
 use Rattle.node_journal.specs.declared.fault.AppendFault.TheVariants.{Memory}
 use Rattle.node_journal.specs.Records.{Intact, records}
 use Rattle.node_journal.specs.Views.{payloads_of}
+use Rattle.node_journal.specs.Lemmas.Resting.{at_rest}
 use Rattle.resume.specs.Crashes.{IsAsBeforeOrBegun, LeavesHistory}
-use Rattle.resume.proofs.KeptHistories.{unchanged, begun_history, leaves, leaves_failed, sound_history, rests_at}
+use Rattle.resume.proofs.KeptHistories.{unchanged, begun_history, leaves, leaves_failed, sound_history}
 use Rattle.resume.proofs.Recovering.{recovered, added, still_rests}
 use Rattle.resume.proofs.opening.begin_journal.Goals as goal
 
@@ -37,7 +38,7 @@ pub returns-in-Err-clause-history_err : goal.returns-in-Err-clause-history_err
 returns-in-Err-clause-history_err g c told rests ps holds = leaves_failed _ _ _ (unchanged _ _ _ _ ps ps holds refl (c.in-Err.ensures.any_moment_err told rests) (c.in-Err.ensures.offers_err told) (g.met.D.Disk.seen_is_image c.in-Err.disk told)).history
 
 pub returns-in-Ok-appended-clause-rests : goal.returns-in-Ok-appended-clause-rests
-returns-in-Ok-appended-clause-rests g c told = rests_at _ _ (c.in-Ok-appended.ensures.acknowledged told)
+returns-in-Ok-appended-clause-rests g c told = at_rest _ _ (c.in-Ok-appended.ensures.acknowledged told)
 
 pub returns-in-Ok-appended-clause-history : goal.returns-in-Ok-appended-clause-history
 returns-in-Ok-appended-clause-history g c told rests =
@@ -64,4 +65,4 @@ returns-in-Err-Memory-clause-rests_err g c told rests other =
     let memory : c.in-Err-Memory.field-0 ≡ Memory = rw c.in-Err-Memory.is at c.in-Err-Memory.field-0-is in
     let failed = subst (λ (f : AppendFault). IsErrOf c.append-appended.result f) memory c.in-Err-Memory.is in
     subst (λ d. AtRest (g.D.Disk.now d)) (sym c.into_disk-in-Err-Memory.ensures)
-    (still_rests _ _ _ _ (c.append-appended.ensures.memory_stands failed) (rests_at _ _ (c.in-Ok.ensures.rests told)))
+    (still_rests _ _ _ _ (c.append-appended.ensures.memory_stands failed) (at_rest _ _ (c.in-Ok.ensures.rests told)))

@@ -6,11 +6,12 @@ use Rattle.event_core.specs.declared.entry.Entry.{Entry}
 use Rattle.node_journal.specs.History.{KeepsHistory}
 use Rattle.node_journal.specs.Whole.{payloads_in}
 use Rattle.node_journal.specs.Views.{payloads_of}
+use Rattle.node_journal.specs.Lemmas.Resting.{at_rest}
 use Rattle.node_pool.specs.Payloads.{IsJournalOf}
 use Rattle.node_pool.specs.Stored.{IsStored}
 use Rattle.resume.specs.Crashes.{LeavesHistory}
 use Rattle.resume.specs.Refusals.{is_disk}
-use Rattle.resume.proofs.KeptHistories.{unchanged, leaves, leaves_failed, rests_at}
+use Rattle.resume.proofs.KeptHistories.{unchanged, leaves, leaves_failed}
 use Rattle.resume.proofs.Recovering.{all_journaled, counted, is_journal, ok_part}
 use Rattle.resume.proofs.opening.continue_journal.Goals as goal
 
@@ -44,7 +45,7 @@ returns-in-Ok-clause-history_err g c told rests ps holds =
 pub returns-in-Ok-clause-rests_err : goal.returns-in-Ok-clause-rests_err
 returns-in-Ok-clause-rests_err g c told rests =
     IfErr-weaker c.make_pool.result (λ e. e.1 ≡ c.in-Ok.journal.disk) (λ e. is_disk e.0 ≡ false → AtRest (g.D.Disk.now e.1))
-    (λ e same other. subst (λ d. AtRest (g.D.Disk.now d)) (sym same) (rests_at _ _ (c.in-Ok.ensures.rests told))) c.make_pool.ensures.back
+    (λ e same other. subst (λ d. AtRest (g.D.Disk.now d)) (sym same) (at_rest _ _ (c.in-Ok.ensures.rests told))) c.make_pool.ensures.back
 
 pub returns-in-Err-clause-history_err : goal.returns-in-Err-clause-history_err
 returns-in-Err-clause-history_err g c told rests ps holds = leaves_failed _ _ _ (unchanged _ _ _ _ ps ps holds refl (c.in-Err.ensures.any_moment_err told rests) (c.in-Err.ensures.offers_err told) (g.met.D.Disk.seen_is_image c.in-Err.disk told)).history

@@ -13,9 +13,10 @@ use Rattle.node_journal.specs.Views.{payloads_of}
 use Rattle.node_journal.specs.Whole.{payloads_in}
 use Rattle.resume.specs.Journals.{StandsFor, IsFreshOrOf, IsReadFrom}
 use Rattle.resume.specs.Crashes.{IsAsBefore, IsAsBeforeOrBegun}
+use Rattle.resume.specs.Lemmas.Standing.{stands_alone}
 use Rattle.resume.proofs.Models.{own_model, small_model}
 use Rattle.resume.proofs.KeptHistories.{untouched_history}
-use Rattle.resume.proofs.Recovering.{untouched, behind_scan, still_rests, stands_alone, if_both, if_err_all}
+use Rattle.resume.proofs.Recovering.{untouched, behind_scan, still_rests, if_both, if_err_all}
 use Rattle.resume.proofs.opening.open_pool.Goals as goal
 
 pub returns-in-Err-clause-any_moment_err : goal.returns-in-Err-clause-any_moment_err

@@ -1,5 +1,5 @@
 use Rattle.std.proofs.Common.{◌≡◌, ◌∙◌, None}
-use Rattle.solve_top.proofs.Searching.{at_rest}
+use Rattle.node_journal.specs.Lemmas.Resting.{at_rest}
 use Rattle.solve_top.proofs.search.part.Goals as goal
 
 pub returns-clause-rests : goal.returns-clause-rests

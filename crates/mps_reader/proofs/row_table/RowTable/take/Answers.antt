@@ -1,9 +1,9 @@
 use Rattle.std.proofs.Common.{arith, ◌≡◌, None, Some, ℕ, refl, sym, ap, ◌∙◌, set, get_or}
 use Rattle.std.specs.Option.{option_map}
+use Rattle.std.proofs.lemmas.Result.{on_ok_weaker}
 use Rattle.fraction.specs.Rational.{ℚ}
 use Rattle.mps_reader.specs.RowState.{RowState, bare_row, with_number, with_term}
 use Rattle.mps_reader.proofs.RowTable.{entry_set, kept_again, kept_at, row_seen, within_entries}
-use Rattle.mps_reader.proofs.Stopping.{on_ok}
 use Rattle.mps_reader.specs.RowTable.{state_at, state_of}
 use Rattle.mps_reader.specs.declared.row_table.RowEntry.TheVariants as entry
 use Rattle.mps_reader.proofs.row_table.RowTable.take.Goals as goal
@@ -21,7 +21,7 @@ returns-in-Some c =
     let old = c.index_mut.result.now in
     let r = c.take.new.self in
     let k = kept_at c.self.inside.kept.items c.self.inside.entries.items c.args.self.now c.args.index c.self.view_is c.requires c.index.result.now c.index.ensures _ c.deref.ensures.value c.in-Some.spot c.in-Some.ensures.within c.in-Some.ensures.entry c.in-Some.ensures.row old c.index_mut.ensures.value in
-    on_ok c.take.result (λ t. kept_again i r (c.take.ensures.row ∙ k.own) kept c.in-Some.spot old k.there k.own c.self.inside.entries.items k.entry k.within ∙ ap (λ rs. set rs i (state_of r)) c.self.view_is
+    on_ok_weaker c.take.result (λ t. kept_again i r (c.take.ensures.row ∙ k.own) kept c.in-Some.spot old k.there k.own c.self.inside.entries.items k.entry k.within ∙ ap (λ rs. set rs i (state_of r)) c.self.view_is
     ∙ ap (set c.args.self.now i) ((λ j. record { terms = Some (t j); named_by = c.take.ensures.named_by j }) ∙ ap (with_number c.args.place c.args.number) (sym k.row)))
     c.take.ensures.terms
 

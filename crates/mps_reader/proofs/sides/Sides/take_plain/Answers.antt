@@ -1,9 +1,10 @@
 use Rattle.std.proofs.Common.{sym, subst, ◌∙◌}
+use Rattle.std.proofs.lemmas.Result.{IfErr-weaker}
 use Rattle.mps_reader.specs.Faults.{side_line_fault}
 use Rattle.mps_reader.specs.Sections.{pairs_of, sides, sides_of}
 use Rattle.mps_reader.specs.SideLines.{HasSides, some_sides_fault}
 use Rattle.mps_reader.proofs.SideLines.{plain_line}
-use Rattle.mps_reader.proofs.Stopping.{if_err, on_ok2, stops_same}
+use Rattle.mps_reader.proofs.Stopping.{on_ok2, stops_same}
 use Rattle.mps_reader.specs.Tables.{Stops, table, texts}
 use Rattle.mps_reader.proofs.sides.Sides.take_plain.Goals as goal
 
@@ -17,7 +18,7 @@ returns g c earlier h =
       on_ok2 c.take_pairs.result
           (λ t k. (p.judged ∙ t.0, subst (λ ps. HasSides ranged rows c.take_pairs.new.self ps) (sym p.more) t.1, k ∙ h.group ∙ sym p.named_is))
           k.0 c.take_pairs.ensures.group,
-      if_err c.take_pairs.result (λ t. Stops t (some_sides_fault ranged rows (sides_of earlier) (pairs_of (texts fields)))) (λ t. Stops t (side_line_fault ranged rows earlier (sides (texts fields))))
+      IfErr-weaker c.take_pairs.result (λ t. Stops t (some_sides_fault ranged rows (sides_of earlier) (pairs_of (texts fields)))) (λ t. Stops t (side_line_fault ranged rows earlier (sides (texts fields))))
           (λ t k. stops_same t (some_sides_fault ranged rows (sides_of earlier) (pairs_of (texts fields))) (side_line_fault ranged rows earlier (sides (texts fields))) (sym p.judged) k)
           k.1,
     )
