@@ -7,12 +7,11 @@ use Rattle.std.proofs.lemmas.Bool.{cases_eq}
 use Rattle.std.proofs.lemmas.List.{ext_get_or, length-set, get_or-set_same, get_or-set_other}
 use Rattle.std.proofs.lemmas.List.Edits.{swap_is, length-swap}
 use Rattle.std.proofs.Math.Nat.{mul-pos}
-use Rattle.fraction.specs.Lemmas.Bounds.{was_some}
+use Rattle.fraction.specs.Lemmas.Bounds.{was_some, was_mapped}
 use Rattle.fraction.specs.Rational.{ℚ}
 use Rattle.tableau.specs.Elimination.{entry, others_substituted, solved_for, substituted, zero_ℚ}
 use Rattle.tableau.specs.Leaving.{violated_bound, violation, unbounded}
 use Rattle.tableau.specs.Lemmas.Pivoted.{others_are, AreSubstituted}
-use Rattle.tableau.specs.Lemmas.RowAlgebra.{some_map}
 use Rattle.tableau.specs.Pivot.{basis_exchanged, computed_values, eliminated, exchanged, pivoted, revalued, rows_eliminated, status_after}
 use Rattle.tableau.specs.Place.{IsPivotThere}
 use Rattle.tableau.specs.Tableau.{HasSize, Tableau, bounds_of, row_of, value_of}
@@ -175,7 +174,7 @@ record IsEliminatedTo (r c : ℕ) (t v : Tableau) : Type 0 where
 eliminated_to : (r c : ℕ) (t v : Tableau) → eliminated r c t ≡ Some v → IsEliminatedTo r c t v
 eliminated_to r c t v e =
     let f = was_some (λ rows. option_map (λ costs. record t { rows = rows; reduced_costs = costs }) (substituted c (get_or rows r []) t.reduced_costs)) (rows_eliminated r c t.rows) v e in
-    let g = some_map (λ costs. record t { rows = f.0; reduced_costs = costs }) (substituted c (get_or f.0 r []) t.reduced_costs) v f.2 in
+    let g = was_mapped (λ costs. record t { rows = f.0; reduced_costs = costs }) (substituted c (get_or f.0 r []) t.reduced_costs) v f.2 in
     let h = was_some (λ new. others_substituted r c (set t.rows r new)) (solved_for r c (row_of t r)) f.0 f.1 in
     record { rows = f.0; new = h.0; costs = g.0; solved = h.1; others = h.2; on_costs = g.1; is = g.2 }
 
@@ -189,7 +188,7 @@ made r c t u e =
     from w h v x e =
         let f : revalued (basis_exchanged r c w (record t { rows = x.rows; reduced_costs = x.costs })) ≡ Some u = ap (λ v. revalued (basis_exchanged r c w v)) x.is ∙ e in
         let y = basis_exchanged r c w (record t { rows = x.rows; reduced_costs = x.costs }) in
-        let v = some_map (λ values. record y { values = values; pivots = y.pivots + 1 }) (computed_values y.nonbasic_values y.statuses y.nonbasic_values y.rows) u f in
+        let v = was_mapped (λ values. record y { values = values; pivots = y.pivots + 1 }) (computed_values y.nonbasic_values y.statuses y.nonbasic_values y.rows) u f in
         record { direction = w; rows = x.rows; new = x.new; costs = x.costs; values = v.0; violated = h; solved = x.solved; others = x.others; on_costs = x.on_costs; computed = v.1; is = v.2 }
 
 module _ (n d : ℕ) (σ : Scales) (s : ℕ) (t u : Tableau) (r c : ℕ) (small : IsSmallAt d σ s t) (small' : IsSmall σ s u) (size : HasSize n t) (lr : r < n) (lc : c < n) (apart : r ≡ c → ⊥)

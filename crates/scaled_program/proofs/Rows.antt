@@ -3,11 +3,11 @@ use Rattle.std.proofs.Common.{◌≡◌, ℕ, ◌+◌, ◌<◌, arith, ap, sym, 
 use Rattle.std.specs.Prelude.{pos, nat_abs, if◌then◌else◌}
 use Rattle.std.specs.Ordering.{int_eq}
 use Rattle.std.specs.Option.{option_map}
-use Rattle.fraction.specs.Lemmas.Bounds.{was_some}
+use Rattle.fraction.specs.Lemmas.Bounds.{was_some, was_mapped}
 use Rattle.fraction.specs.Rational.{ℚ, ◌*ℚ◌, ◌+ℚ◌}
 use Rattle.fraction.specs.Lemmas.Rational.{*ℚ_comm, +ℚ_comm, divided}
 use Rattle.tableau.specs.Elimination.{add_multiple, add_multiple_of_row, entry, negative_quotient, negative_quotients, solved_for, substituted, zero_ℚ}
-use Rattle.tableau.specs.Lemmas.RowAlgebra.{add_multiple_is, cancelled, minus_one, negative_quotient_is, some_map}
+use Rattle.tableau.specs.Lemmas.RowAlgebra.{add_multiple_is, cancelled, minus_one, negative_quotient_is}
 use Rattle.integer_tableau.specs.Scales.{Scales, scaled_by, unscaled_row}
 use Rattle.integer_tableau.specs.Lemmas.MapFrom.{get_or-map_from, set-map_from}
 use Rattle.scaled_program.proofs.Numbers.{scaled_product, scaled_self, scaled_sum, scaled_zero}
@@ -35,10 +35,10 @@ module _ (σ : Scales) (s k : ℕ) (os : 0 < s) (ok : 0 < k) where
       let e : t ∷ ts ≡ ds = cc in let f : unscaled_row σ s i (t ∷ ts) ≡ es = cc in sym f ∙ ap (unscaled_row σ s i) e
   added_rows q i (t ∷ ts) (x ∷ xs) ds es h g =
       let a = was_some (λ d. option_map (λ ds. d ∷ ds) (add_multiple_of_row q ts xs)) (add_multiple q t x) ds h in
-      let b = some_map (λ ds. a.0 ∷ ds) (add_multiple_of_row q ts xs) ds a.2 in
+      let b = was_mapped (λ ds. a.0 ∷ ds) (add_multiple_of_row q ts xs) ds a.2 in
       let a' = was_some (λ d. option_map (λ ds. d ∷ ds) (add_multiple_of_row (scaled_by k s q) (unscaled_row σ s (i + 1) ts) (unscaled_row σ k (i + 1) xs)))
       (add_multiple (scaled_by k s q) (scaled_by (σ i) s t) (scaled_by (σ i) k x)) es g in
-      let b' = some_map (λ ds. a'.0 ∷ ds) (add_multiple_of_row (scaled_by k s q) (unscaled_row σ s (i + 1) ts) (unscaled_row σ k (i + 1) xs)) es a'.2 in
+      let b' = was_mapped (λ ds. a'.0 ∷ ds) (add_multiple_of_row (scaled_by k s q) (unscaled_row σ s (i + 1) ts) (unscaled_row σ k (i + 1) xs)) es a'.2 in
       sym b'.2
       ∙ (λ z. added q t x a.0 a'.0 (σ i) a.1 a'.1 z ∷ added_rows q (i + 1) ts xs b.0 b'.0 b.1 b'.1 z)
       ∙ ap (unscaled_row σ s i) b.2
@@ -64,9 +64,9 @@ module _ (σ : Scales) (s k : ℕ) (os : 0 < s) (ok : 0 < k) (p : ℚ) (there : 
   quotients i [] ds es h g = let e : [] ≡ ds = cc in let f : [] ≡ es = cc in sym f ∙ ap (unscaled_row σ k i) e
   quotients i (t ∷ ts) ds es h g =
       let a = was_some (λ d. option_map (λ ds. d ∷ ds) (negative_quotients p ts)) (negative_quotient p t) ds h in
-      let b = some_map (λ ds. a.0 ∷ ds) (negative_quotients p ts) ds a.2 in
+      let b = was_mapped (λ ds. a.0 ∷ ds) (negative_quotients p ts) ds a.2 in
       let a' = was_some (λ d. option_map (λ ds. d ∷ ds) (negative_quotients (scaled_by k s p) (unscaled_row σ s (i + 1) ts))) (negative_quotient (scaled_by k s p) (scaled_by (σ i) s t)) es g in
-      let b' = some_map (λ ds. a'.0 ∷ ds) (negative_quotients (scaled_by k s p) (unscaled_row σ s (i + 1) ts)) es a'.2 in
+      let b' = was_mapped (λ ds. a'.0 ∷ ds) (negative_quotients (scaled_by k s p) (unscaled_row σ s (i + 1) ts)) es a'.2 in
       sym b'.2 ∙ (λ z. quotient t a.0 a'.0 (σ i) a.1 a'.1 z ∷ quotients (i + 1) ts b.0 b'.0 b.1 b'.1 z) ∙ ap (unscaled_row σ k i) b.2
 
 marked : (σ : Scales) (r : ℕ) (row : List ℚ) → 0 < σ r → set (unscaled_row σ (σ r) 0 row) r minus_one ≡ unscaled_row σ (σ r) 0 (set row r minus_one)

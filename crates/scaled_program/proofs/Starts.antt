@@ -3,11 +3,11 @@ use Rattle.std.proofs.Common.{◌≡◌, ℕ, ◌+◌, ◌<◌, arith, refl, ap,
 use Rattle.std.specs.Prelude.{pos, int_lt, if◌then◌else◌}
 use Rattle.std.specs.Option.{option_map, unwrap_or}
 use Rattle.std.proofs.lemmas.List.{length-replicate}
+use Rattle.fraction.specs.Lemmas.Bounds.{was_mapped}
 use Rattle.fraction.specs.Rational.{ℚ}
 use Rattle.tableau.specs.declared.bounds.Bounds.{Bounds}
 use Rattle.tableau.specs.declared.status.BasisStatus.TheVariants.{Basic, AtLower, AtUpper}
 use Rattle.tableau.specs.Elimination.{zero_ℚ}
-use Rattle.tableau.specs.Lemmas.RowAlgebra.{some_map}
 use Rattle.tableau.specs.LinearProgram.{LinearProgram}
 use Rattle.tableau.specs.Pivot.{computed_values}
 use Rattle.tableau.specs.Start.{padded, slack_basis, start_status, start_value, start_values, started}
@@ -96,7 +96,7 @@ module _ (σ : Scales) (s : ℕ) (o : (i : ℕ) → 0 < σ i) (os : 0 < s) where
 pub start_unscaled : (σ : Scales) (s : ℕ) (p : LinearProgram) (t : Tableau) → IsSmall σ s t → started p ≡ Some t → started (unscaled_program σ s p) ≡ Some (unscaled σ s t)
 start_unscaled σ s p t small e =
     let b = slack_basis p in
-    let v = some_map (λ values. record b { values = values }) (computed_values b.nonbasic_values b.statuses b.nonbasic_values b.rows) t e in
+    let v = was_mapped (λ values. record b { values = values }) (computed_values b.nonbasic_values b.statuses b.nonbasic_values b.rows) t e in
     from v.0 v.1 (subst (IsSmallAt small.denominator σ s) (sym v.2) small.at_denominator) ∙ ap (λ t. Some (unscaled σ s t)) v.2
   where
     from : (values : List ℚ) → (let b = slack_basis p in computed_values b.nonbasic_values b.statuses b.nonbasic_values b.rows ≡ Some values) → IsSmallAt small.denominator σ s (record (slack_basis p) { values = values })
@@ -112,5 +112,5 @@ start_unscaled σ s p t small e =
 pub start_columns : (p : LinearProgram) (t : Tableau) → started p ≡ Some t → length p.costs ≡ t.columns
 start_columns p t e =
     let b = slack_basis p in
-    let v = some_map (λ values. record b { values = values }) (computed_values b.nonbasic_values b.statuses b.nonbasic_values b.rows) t e in
+    let v = was_mapped (λ values. record b { values = values }) (computed_values b.nonbasic_values b.statuses b.nonbasic_values b.rows) t e in
     ap (λ (t : Tableau). t.columns) v.2

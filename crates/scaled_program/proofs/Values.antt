@@ -6,11 +6,10 @@ use Rattle.std.proofs.lemmas.Int.{unsigned_abs-mul}
 use Rattle.std.proofs.Math.Nat.{mul-le-mul, mul-one, mul-pos}
 use Rattle.fraction.specs.Bounds.{Within}
 use Rattle.fraction.specs.Checked.{add_checked, dot_from, mul_checked}
-use Rattle.fraction.specs.Lemmas.Bounds.{Within-+ℚ, add_fits_within, add_is, value_from_add, value_from_mul, was_some}
+use Rattle.fraction.specs.Lemmas.Bounds.{Within-+ℚ, add_fits_within, add_is, value_from_add, value_from_mul, was_some, was_mapped}
 use Rattle.fraction.specs.Lemmas.Rational.{frac-*ℚ, lit_one}
 use Rattle.fraction.specs.Rational.{ℚ, frac, whole, ◌*ℚ◌, ◌+ℚ◌}
 use Rattle.tableau.specs.Elimination.{entry, zero_ℚ}
-use Rattle.tableau.specs.Lemmas.RowAlgebra.{some_map}
 use Rattle.tableau.specs.Pivot.{computed_value, computed_values}
 use Rattle.tableau.specs.declared.status.BasisStatus.{BasisStatus}
 use Rattle.tableau.specs.declared.status.BasisStatus.TheVariants.{Basic, AtLower, AtUpper}
@@ -117,7 +116,7 @@ module _ (σ : Scales) (d : ℕ) (od : 0 < d) (o : (j : ℕ) → (0 < σ j) × (
   values_unscaled i (s ∷ ss) (y ∷ ys) [] vs h e = ap (option_map (unscaled_values σ i)) e
   values_unscaled i (s ∷ ss) (y ∷ ys) (row ∷ rows) vs h e =
       let f = was_some (λ v. option_map (λ vs. v ∷ vs) (computed_values (map whole zs) ss ys rows)) (computed_value (map whole zs) s y row) vs e in
-      let g = some_map (λ vs. f.0 ∷ vs) (computed_values (map whole zs) ss ys rows) vs f.2 in
+      let g = was_mapped (λ vs. f.0 ∷ vs) (computed_values (map whole zs) ss ys rows) vs f.2 in
       ap (option_and_then (λ v. option_map (λ vs. v ∷ vs) (computed_values (unscaled_values σ 0 (map whole zs)) ss (unscaled_values σ (i + 1) ys) (unscaled_rows σ (i + 1) rows)))) (value_unscaled i s y row f.0 (h 0) f.1)
       ∙ ap (option_map (λ vs. unscaled_value σ i f.0 ∷ vs)) (values_unscaled (i + 1) ss ys rows g.0 (λ i j. h (suc i) j) g.1)
       ∙ ap (λ vs. Some (unscaled_values σ i vs)) g.2
