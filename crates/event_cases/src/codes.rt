@@ -63,7 +63,7 @@ fn digits_of(alloc: Global, text: &str) -> Result<String, AllocError> {
 }
 
 /// The bytes of a text in hexadecimal digits.
-fn bytes_of(alloc: Global, text: &str) -> Result<Vec<u8>> {
+pub(crate) fn bytes_of(alloc: Global, text: &str) -> Result<Vec<u8>> {
     let digits = digits_of(alloc, text)?;
     Ok(hex::decode(alloc, digits.as_bytes())?)
 }
@@ -87,7 +87,7 @@ fn show_spelled<R: Print + Alloc<A = Global>>(rt: &R, event: &Event, bytes: &[u8
 }
 
 /// Prints why a payload spells no event.
-fn show_fault<R: Print>(rt: &R, text: &str, fault: CodecError) -> Result<()> {
+pub(crate) fn show_fault<R: Print>(rt: &R, text: &str, fault: CodecError) -> Result<()> {
     match fault {
         CodecError::Fault(fault) => println!(rt; "payload {text}: {fault:?}")?,
         CodecError::Memory => bail!("no memory"),

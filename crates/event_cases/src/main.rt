@@ -5,6 +5,7 @@ mod answers;
 mod codes;
 mod cuts;
 mod events;
+mod groups;
 mod incumbents;
 mod printing;
 
@@ -18,6 +19,7 @@ const _: () = prove!(size_of::<Entry>() <= 64);
 fn main(rt: HostRuntime) -> Result<()> {
     events::show(&rt)?;
     codes::show(&rt)?;
+    groups::show(&rt)?;
     incumbents::show(&rt)?;
     cuts::show(&rt)?;
     answers::show(&rt)
