@@ -158,11 +158,12 @@ fn event_of(alloc: Global, plan: Plan) -> Result<Event> {
 }
 
 /// The answer to an event of worker 0, which is applied where it is admitted.
-fn answer(alloc: Global, state: &mut State, event: Event) -> Result<Admit, AllocError> {
-    let answer = state.admits(alloc, Some(0), &event)?;
+fn answer(alloc: Global, state: &mut State, event: &Event) -> Result<Admit, AllocError> {
+    let answer = state.admits(alloc, Some(0), event)?;
     if answer == Admit::Yes && state.tree().len() <= 1000 {
-        state.reserve(alloc, &event)?;
-        state.apply(Some(0), event);
+        state.reserve(alloc, event)?;
+        let copy = event.copy(alloc)?;
+        state.apply(Some(0), copy);
     }
     Ok(answer)
 }
@@ -170,7 +171,7 @@ fn answer(alloc: Global, state: &mut State, event: Event) -> Result<Admit, Alloc
 /// The answer to a plan of worker 0, which is applied where it is admitted.
 fn answered(alloc: Global, state: &mut State, plan: Plan) -> Result<Admit> {
     let event = event_of(alloc, plan)?;
-    Ok(answer(alloc, state, event)?)
+    Ok(answer(alloc, state, &event)?)
 }
 
 /// Prints the event of a plan.
@@ -269,20 +270,33 @@ fn state_of(alloc: Global, text: &[u8]) -> Result<State> {
     Ok(State::new(alloc, problem)?)
 }
 
-/// Prints the answers on the first model.
-fn show_one_column<R: Print + Alloc<A = Global>>(rt: &R) -> Result<()> {
-    let mut state = state_of(rt.alloc(), ONE_COLUMN)?;
-    show_cuts_and_offers(rt, &mut state)
+/// Which model is searched.
+#[derive(Clone, Copy)]
+enum Model {
+    OneColumn,
+    TwoColumns,
 }
 
-/// Prints the answers on the second model.
-fn show_two_columns<R: Print + Alloc<A = Global>>(rt: &R) -> Result<()> {
-    let mut state = state_of(rt.alloc(), TWO_COLUMNS)?;
-    show_search(rt, &mut state)
+/// Prints the answers on a model in its first state.
+fn show_answers<R: Print + Alloc<A = Global>>(
+    rt: &R,
+    model: Model,
+    state: &mut State,
+) -> Result<()> {
+    match model {
+        Model::OneColumn => show_cuts_and_offers(rt, state),
+        Model::TwoColumns => show_search(rt, state),
+    }
+}
+
+/// Prints the answers on a model of this text.
+fn show_model<R: Print + Alloc<A = Global>>(rt: &R, model: Model, text: &[u8]) -> Result<()> {
+    let mut state = state_of(rt.alloc(), text)?;
+    show_answers(rt, model, &mut state)
 }
 
 /// Prints the answers on both models.
 pub(crate) fn show<R: Print + Alloc<A = Global>>(rt: &R) -> Result<()> {
-    show_one_column(rt)?;
-    show_two_columns(rt)
+    show_model(rt, Model::OneColumn, ONE_COLUMN)?;
+    show_model(rt, Model::TwoColumns, TWO_COLUMNS)
 }

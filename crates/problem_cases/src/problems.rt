@@ -33,17 +33,11 @@ fn show_row<R: Print>(rt: &R, row: &Row) -> Result<()> {
     Ok(())
 }
 
-/// Names of one column.
-fn names(alloc: Global) -> Result<Names, AllocError> {
+/// A copy of names of one column.
+fn names_copy(alloc: Global) -> Result<Names, AllocError> {
     let name = String::from_str(alloc, "x")?;
     let names = vec![in alloc; name]?;
-    Ok(Names::make(names))
-}
-
-/// Prints a copy of names.
-fn show_names_copy<R: Print + Alloc<A = Global>>(rt: &R, names: &Names) -> Result<()> {
-    let copy = names.copy(rt.alloc())?;
-    show_names(rt, &copy)
+    Names::make(names).copy(alloc)
 }
 
 /// Prints a point.
@@ -53,16 +47,10 @@ fn show_numbers<R: Print>(rt: &R, point: &Point) -> Result<()> {
     Ok(())
 }
 
-/// A point of two columns.
-fn point(alloc: Global) -> Result<Point, AllocError> {
+/// A copy of a point of two columns.
+fn point_copy(alloc: Global) -> Result<Point, AllocError> {
     let numbers = vec![in alloc; 3, -4]?;
-    Ok(Point::make(numbers))
-}
-
-/// Prints a copy of a point.
-fn show_point_copy<R: Print + Alloc<A = Global>>(rt: &R, point: &Point) -> Result<()> {
-    let copy = point.copy(rt.alloc())?;
-    show_numbers(rt, &copy)
+    Point::make(numbers).copy(alloc)
 }
 
 /// Terms of which one has a coefficient of more than 64 bits.
@@ -72,20 +60,15 @@ fn wide_terms(alloc: Global) -> Result<Terms, AllocError> {
     Ok(terms)
 }
 
-/// A row of these terms.
-fn wide_row(alloc: Global) -> Result<Row, AllocError> {
+/// A copy of a row of these terms.
+fn row_copy(alloc: Global) -> Result<Row, AllocError> {
     let terms = wide_terms(alloc)?;
-    Ok(Row {
+    let row = Row {
         sense: Sense::L,
         rhs: Frac::of(4),
         terms,
-    })
-}
-
-/// Prints a copy of a row.
-fn show_row_copy<R: Print + Alloc<A = Global>>(rt: &R, row: &Row) -> Result<()> {
-    let copy = row.copy(rt.alloc())?;
-    show_row(rt, &copy)
+    };
+    row.copy(alloc)
 }
 
 /// Prints what a problem says of a point.
@@ -136,40 +119,40 @@ fn show_problem<R: Print>(rt: &R, problem: &Problem) -> Result<()> {
     Ok(show_points(rt, problem)?)
 }
 
+/// A copy of the model's problem.
+fn problem_copy(alloc: Global) -> Result<Problem> {
+    let problem = problem_of(alloc, MODEL)?;
+    Ok(problem.copy(alloc)?)
+}
+
+/// Prints a copy of names.
+fn show_names_copy<R: Print + Alloc<A = Global>>(rt: &R) -> Result<()> {
+    let copy = names_copy(rt.alloc())?;
+    show_names(rt, &copy)
+}
+
+/// Prints a copy of a point.
+fn show_point_copy<R: Print + Alloc<A = Global>>(rt: &R) -> Result<()> {
+    let copy = point_copy(rt.alloc())?;
+    show_numbers(rt, &copy)
+}
+
+/// Prints a copy of a row.
+fn show_row_copy<R: Print + Alloc<A = Global>>(rt: &R) -> Result<()> {
+    let copy = row_copy(rt.alloc())?;
+    show_row(rt, &copy)
+}
+
 /// Prints a copy of a problem.
-fn show_problem_copy<R: Print + Alloc<A = Global>>(rt: &R, problem: &Problem) -> Result<()> {
-    let copy = problem.copy(rt.alloc())?;
+fn show_problem_copy<R: Print + Alloc<A = Global>>(rt: &R) -> Result<()> {
+    let copy = problem_copy(rt.alloc())?;
     show_problem(rt, &copy)
-}
-
-/// Prints a copy of names that were made.
-fn show_some_names<R: Print + Alloc<A = Global>>(rt: &R) -> Result<()> {
-    let names = names(rt.alloc())?;
-    show_names_copy(rt, &names)
-}
-
-/// Prints a copy of a point that was made.
-fn show_some_point<R: Print + Alloc<A = Global>>(rt: &R) -> Result<()> {
-    let point = point(rt.alloc())?;
-    show_point_copy(rt, &point)
-}
-
-/// Prints a copy of a row that was made.
-fn show_some_row<R: Print + Alloc<A = Global>>(rt: &R) -> Result<()> {
-    let row = wide_row(rt.alloc())?;
-    show_row_copy(rt, &row)
-}
-
-/// Prints a copy of the problem that was read.
-fn show_model<R: Print + Alloc<A = Global>>(rt: &R) -> Result<()> {
-    let problem = problem_of(rt.alloc(), MODEL)?;
-    show_problem_copy(rt, &problem)
 }
 
 /// Prints the calls on problems and their parts.
 pub(crate) fn show<R: Print + Alloc<A = Global>>(rt: &R) -> Result<()> {
-    show_some_names(rt)?;
-    show_some_point(rt)?;
-    show_some_row(rt)?;
-    show_model(rt)
+    show_names_copy(rt)?;
+    show_point_copy(rt)?;
+    show_row_copy(rt)?;
+    show_problem_copy(rt)
 }
