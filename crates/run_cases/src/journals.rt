@@ -1,293 +1,354 @@
-//! Commands over journals: begun, gone on with, shown, refused, and on disks that fail.
+//! Commands over journals: begun, gone on with, shown, refused, and on disks and streams that fail.
 
-use crate::command::Answered;
+use crate::command::{Answered, Command, SOUND, Stream, USUAL};
 use crate::models::{EMPTY, FAR, ODD, ONE};
+use crate::shown::{More, Plan, show_on, show_plan, show_plans, show_with_disk};
 use anyhow::Result;
-use outside::{MemDisk, MemSink, MemSource};
-use std::alloc::Global;
+use outside::MemDisk;
+use std::alloc::{AllocError, Global};
 
-const SOLVE: &str = "solve m j c";
+/// A search with an optimum.
+const SOLVE: Command<'static> = Command {
+    line: "solve m j c",
+    model: ONE,
+    ..USUAL
+};
 
-const SOLVE_WITHOUT_CUTS: &str = "solve m j c --cuts 0";
+/// A search that goes on without cuts.
+const RESUME: Command<'static> = Command {
+    line: "resume j c --cuts 0",
+    ..USUAL
+};
 
-/// Prints the last bytes of a disk in hexadecimal.
-fn show_end<R: Print>(rt: &R, title: &str, disk: &MemDisk, count: usize) -> Result<()> {
-    let bytes = disk.bytes();
-    let start = bytes.len().saturating_sub(count);
-    print!(rt; "{title}:")?;
-    for byte in &bytes[start..] {
-        print!(rt; " {byte:02x}")?;
-    }
-    println!(rt; "")?;
-    Ok(())
-}
+/// The figures of a journal.
+const SHOW: Command<'static> = Command {
+    line: "show j",
+    ..USUAL
+};
+
+/// A stream that fails at once.
+const FAILS_AT_ONCE: Stream<'static> = Stream {
+    failing: &[0],
+    ..SOUND
+};
 
 /// A journal of one event, whose bytes are known.
-fn show_event<R: Print + Alloc<A = Global>>(rt: &R) -> Result<()> {
-    let alloc = rt.alloc();
-    let ran = Answered::usual(alloc, SOLVE, EMPTY, MemDisk::new(alloc))?;
-    ran.show(rt, "an empty box")?;
-    show_end(rt, "its journal ends with", &ran.disk, 16)
-}
+const ONE_EVENT: Plan<'static> = Plan {
+    title: "an empty box",
+    command: Command {
+        model: EMPTY,
+        ..SOLVE
+    },
+    more: More::End,
+};
 
-/// Searches that are spent, and the one that goes on from the first of them.
-fn show_spent<R: Print + Alloc<A = Global>>(rt: &R) -> Result<()> {
-    let alloc = rt.alloc();
-    for nodes in [3, 4, 5] {
-        let words = format!(in alloc; "solve m j c --cuts 0 --nodes {nodes}")?;
-        let ran = Answered::usual(alloc, words.as_str(), ODD, MemDisk::new(alloc))?;
-        ran.show(rt, words.as_str())?;
-    }
-    let first = Answered::usual(
-        alloc,
-        "solve m j c --cuts 0 --nodes 1",
-        ODD,
-        MemDisk::new(alloc),
-    )?;
-    first.show(rt, "spent at one node")?;
-    let kept = first.disk.bytes().to_vec(alloc)?;
-    let shown = Answered::usual(alloc, "show j", "", MemDisk::from_bytes(alloc, &kept)?)?;
-    shown.show(rt, "shown")?;
-    let other = Answered::usual(
-        alloc,
-        "resume j c --cuts 0 --nodes 3",
-        "",
-        MemDisk::from_bytes(alloc, &kept)?,
-    )?;
-    other.show(rt, "resumed to three nodes")?;
-    let resumed = Answered::usual(alloc, "resume j c --cuts 0", "", first.disk)?;
-    resumed.show(rt, "resumed")?;
-    resumed.show_certificate(rt, "resumed")
-}
+/// Searches that begin a journal.
+const BEGUN: [&str; 3] = [
+    "solve m j c --cuts 0 --nodes 3",
+    "solve m j c --cuts 0 --nodes 4",
+    "solve m j c --cuts 0 --nodes 5",
+];
 
-/// What a crash might leave of a disk: what was kept, what a read gives, and bytes of one value or none where they may be any.
-fn images(alloc: Global, disk: &MemDisk) -> Result<Vec<Vec<u8>>> {
-    let kept = disk.kept(alloc)?;
-    let whole = disk.bytes().to_vec(alloc)?;
-    let size = whole.len().max(kept.len());
-    let zeros = vec![in alloc; 0u8; size]?;
-    let ones = vec![in alloc; 1u8; size]?;
-    let mut images = Vec::new(alloc);
-    for wish in [&kept, &whole, &zeros, &ones, &Vec::new(alloc)] {
-        images.push(disk.image(alloc, wish)?)?;
-    }
-    Ok(images)
-}
+/// A search that is spent at one node.
+const SPENT: Plan<'static> = Plan {
+    title: "spent at one node",
+    command: Command {
+        line: "solve m j c --cuts 0 --nodes 1",
+        model: ODD,
+        ..USUAL
+    },
+    more: More::Nothing,
+};
 
-/// Counts of runs that were stopped, and of those that went on.
-#[derive(Drop)]
-struct Stopped {
-    stops: u64,
-    images: u64,
-    differ: u64,
-}
+/// A search that goes on to its end.
+const RESUMED: Plan<'static> = Plan {
+    title: "resumed",
+    command: RESUME,
+    more: More::Certificate,
+};
 
-/// Stops the disk of a command at this call, and runs it again on what a crash might leave. Whether it was stopped.
-fn stop_at(
-    alloc: Global,
-    words: &str,
-    model: &str,
-    call: u64,
-    whole: &Answered,
-    counts: &mut Stopped,
-) -> Result<bool> {
-    let disk = MemDisk::stopping_at(alloc, b"", call)?;
-    let ran = Answered::usual(alloc, words, model, disk)?;
-    if ran.status != 6 {
-        return Ok(false);
-    }
-    counts.stops = counts.stops.saturating_add(1);
-    for image in &images(alloc, &ran.disk)? {
-        let again = Answered::usual(alloc, words, model, MemDisk::from_bytes(alloc, image)?)?;
-        counts.images = counts.images.saturating_add(1);
-        let same = again.status == whole.status
-            && again.cert.bytes() == whole.cert.bytes()
-            && again.out.bytes() == whole.out.bytes()
-            && again.disk.bytes() == whole.disk.bytes();
-        if !same {
-            counts.differ = counts.differ.saturating_add(1);
-        }
-    }
-    Ok(true)
-}
+/// Commands that read a journal.
+const READING: [&str; 3] = ["solve m j c", "resume j c", "show j"];
 
-/// Stops the disk of a command at each call in turn.
-fn show_stops<R: Print + Alloc<A = Global>>(
-    rt: &R,
-    title: &str,
-    words: &str,
-    model: &str,
-) -> Result<()> {
-    let alloc = rt.alloc();
-    let whole = Answered::usual(alloc, words, model, MemDisk::new(alloc))?;
-    let mut counts = Stopped {
-        stops: 0,
-        images: 0,
-        differ: 0,
-    };
-    for call in 0..10_000 {
-        if !stop_at(alloc, words, model, call, &whole, &mut counts)? {
-            break;
-        }
+/// Disks of nine bytes, which are an empty journal, and of ten, which are none.
+const FEW_BYTES: [Plan<'static>; 2] = [
+    Plan {
+        title: "nine bytes",
+        command: Command {
+            bytes: b"123456789",
+            ..SOLVE
+        },
+        more: More::Nothing,
+    },
+    Plan {
+        title: "ten bytes",
+        command: Command {
+            bytes: b"1234567890",
+            ..SOLVE
+        },
+        more: More::Nothing,
+    },
+];
+
+/// Disks without a model.
+const EMPTY_DISKS: [Plan<'static>; 2] = [
+    Plan {
+        title: "resume on an empty disk",
+        command: Command {
+            line: "resume j c",
+            ..USUAL
+        },
+        more: More::Nothing,
+    },
+    Plan {
+        title: "show on an empty disk",
+        command: SHOW,
+        more: More::Nothing,
+    },
+];
+
+/// A search whose certificate fails at its second write.
+const WITHOUT_CERTIFICATE: Plan<'static> = Plan {
+    title: "a sink that fails",
+    command: Command {
+        cert: Stream {
+            failing: &[1],
+            ..SOUND
+        },
+        ..SOLVE
+    },
+    more: More::Nothing,
+};
+
+/// A search whose source fails at once.
+const WITHOUT_MODEL: Plan<'static> = Plan {
+    title: "a source that fails",
+    command: Command {
+        source: FAILS_AT_ONCE,
+        ..SOLVE
+    },
+    more: More::Calls,
+};
+
+/// Drills, whose own disks are in memory: to the end, and to three nodes.
+const DRILLS: [Plan<'static>; 2] = [
+    Plan {
+        title: "a drill",
+        command: Command {
+            line: "drill 1 c --cuts 0",
+            bytes: b"kept",
+            stop: Some(0),
+            ..USUAL
+        },
+        more: More::CallsOf(b"kept"),
+    },
+    Plan {
+        title: "a drill of three nodes",
+        command: Command {
+            line: "drill 1 c --cuts 0 --nodes 3",
+            ..USUAL
+        },
+        more: More::Nothing,
+    },
+];
+
+/// Searches that begin a journal, under their own words.
+fn show_begun<R: Print + Alloc<A = Global>>(rt: &R) -> Result<()> {
+    for &line in &BEGUN {
+        let plan = Plan {
+            title: line,
+            command: Command {
+                line,
+                model: ODD,
+                ..USUAL
+            },
+            more: More::Nothing,
+        };
+        show_plan(rt, &plan)?;
     }
-    let Stopped {
-        stops,
-        images,
-        differ,
-    } = counts;
-    println!(rt;
-        "{title}: stopped at each of {stops} calls, gone on from {images} disks, of which {differ} differ"
-    )?;
     Ok(())
 }
 
-/// Disks of nine bytes, which are an empty journal, and of ten, which are none.
-fn show_few_bytes<R: Print + Alloc<A = Global>>(rt: &R) -> Result<()> {
-    let alloc = rt.alloc();
-    let nine = MemDisk::from_bytes(alloc, b"123456789")?;
-    Answered::usual(alloc, SOLVE, ONE, nine)?.show(rt, "nine bytes")?;
-    let ten = MemDisk::from_bytes(alloc, b"1234567890")?;
-    Answered::usual(alloc, SOLVE, ONE, ten)?.show(rt, "ten bytes")
+/// Commands over the journal of a search that was spent at one node: one that shows it, and one that goes on to three nodes.
+fn show_after<R: Print + Alloc<A = Global>>(rt: &R, bytes: &[u8]) -> Result<()> {
+    let shown = Plan {
+        title: "shown",
+        command: Command { bytes, ..SHOW },
+        more: More::Nothing,
+    };
+    let resumed = Plan {
+        title: "resumed to three nodes",
+        command: Command {
+            line: "resume j c --cuts 0 --nodes 3",
+            bytes,
+            ..USUAL
+        },
+        more: More::Nothing,
+    };
+    show_plan(rt, &shown)?;
+    show_plan(rt, &resumed)
+}
+
+/// A search that is spent at one node, and those that go on from there.
+fn show_spent<R: Print + Alloc<A = Global>>(rt: &R) -> Result<()> {
+    let disk = show_with_disk(rt, &SPENT)?;
+    show_after(rt, disk.bytes())?;
+    show_on(rt, &RESUMED, disk)
+}
+
+/// Commands that begin journals, and that go on with one.
+pub(crate) fn show_first<R: Print + Alloc<A = Global>>(rt: &R) -> Result<()> {
+    show_plan(rt, &ONE_EVENT)?;
+    show_begun(rt)?;
+    show_spent(rt)
 }
 
 /// The bytes of the journal of a finished search.
 fn finished(alloc: Global) -> Result<Vec<u8>> {
-    let one = Answered::usual(alloc, SOLVE, ONE, MemDisk::new(alloc))?;
-    let journal = one.disk.bytes().to_vec(alloc)?;
-    Ok(journal)
+    let one = Answered::run(alloc, &SOLVE)?;
+    Ok(one.disk.bytes().to_vec(alloc)?)
 }
 
 /// A journal of another model, and disks without a model.
-fn show_other_models<R: Print + Alloc<A = Global>>(rt: &R) -> Result<()> {
-    let alloc = rt.alloc();
-    let journal = finished(alloc)?;
-    let other = Answered::usual(alloc, SOLVE, FAR, MemDisk::from_bytes(alloc, &journal)?)?;
-    other.show(rt, "another model")?;
-    let kept = other.disk.bytes() == journal.as_slice();
-    println!(rt; "another model: the disk is as it was, {kept}")?;
-    Answered::usual(alloc, "resume j c", "", MemDisk::new(alloc))?.show(
-        rt,
-        "resume on an empty disk",
-    )?;
-    Answered::usual(alloc, "show j", "", MemDisk::new(alloc))?.show(rt, "show on an empty disk")
+fn show_other_models<R: Print + Alloc<A = Global>>(rt: &R, journal: &[u8]) -> Result<()> {
+    let plan = Plan {
+        title: "another model",
+        command: Command {
+            model: FAR,
+            bytes: journal,
+            ..SOLVE
+        },
+        more: More::Same("the disk is as it was", journal),
+    };
+    show_plan(rt, &plan)?;
+    show_plans(rt, &EMPTY_DISKS)
 }
 
-/// A journal whose last frame isn't whole though its gate is open.
-fn show_damaged<R: Print + Alloc<A = Global>>(rt: &R) -> Result<()> {
-    let alloc = rt.alloc();
-    let mut damaged = b"BNCJRNL1\x01\x64\0\0\0".to_vec(alloc)?;
-    damaged.extend_from_slice(&vec![in alloc; 7u8; 50]?)?;
-    for words in [SOLVE, "resume j c", "show j"] {
-        let disk = MemDisk::from_bytes(alloc, &damaged)?;
-        Answered::usual(alloc, words, ONE, disk)?.show(rt, "a frame that isn't whole")?;
+/// Prints what commands that read a journal answer over a disk that holds these bytes, or that stops at this call.
+fn show_reading<R: Print + Alloc<A = Global>>(
+    rt: &R,
+    title: &str,
+    bytes: &[u8],
+    stop: Option<u64>,
+) -> Result<()> {
+    for &line in &READING {
+        let command = Command {
+            line,
+            bytes,
+            stop,
+            ..SOLVE
+        };
+        let more = More::Nothing;
+        show_plan(
+            rt,
+            &Plan {
+                title,
+                command,
+                more,
+            },
+        )?;
     }
     Ok(())
 }
 
-/// A journal behind whose closed gate more bytes stand, which don't count.
-fn show_longer<R: Print + Alloc<A = Global>>(rt: &R) -> Result<()> {
-    let alloc = rt.alloc();
-    let journal = finished(alloc)?;
+/// A journal whose last frame isn't whole though its gate is open.
+fn damaged(alloc: Global) -> Result<Vec<u8>, AllocError> {
+    let mut damaged = b"BNCJRNL1\x01\x64\0\0\0".to_vec(alloc)?;
+    damaged.extend_from_slice(&[7; 50])?;
+    Ok(damaged)
+}
+
+/// Commands over a journal whose last frame isn't whole though its gate is open.
+fn show_damaged<R: Print + Alloc<A = Global>>(rt: &R) -> Result<()> {
+    let damaged = damaged(rt.alloc())?;
+    show_reading(rt, "a frame that isn't whole", &damaged, None)
+}
+
+/// A journal with its gate closed, and more bytes behind it.
+fn longer(alloc: Global, journal: &[u8]) -> Result<Vec<u8>, AllocError> {
     let mut longer = journal.to_vec(alloc)?;
     if let Some(last) = longer.last_mut() {
         *last = 0x37;
     }
     longer.extend_from_slice(b"and more")?;
-    let again = Answered::usual(alloc, SOLVE, ONE, MemDisk::from_bytes(alloc, &longer)?)?;
-    again.show(rt, "a closed gate and more behind it")?;
-    let same = again.disk.bytes() == journal.as_slice();
-    println!(rt; "a closed gate and more behind it: recovered, {same}")?;
-    Ok(())
+    Ok(longer)
+}
+
+/// Prints what a search answers over these bytes, and whether its journal is this one.
+fn show_recovered<R: Print + Alloc<A = Global>>(
+    rt: &R,
+    bytes: &[u8],
+    journal: &[u8],
+) -> Result<()> {
+    let plan = Plan {
+        title: "a closed gate and more behind it",
+        command: Command { bytes, ..SOLVE },
+        more: More::Same("recovered", journal),
+    };
+    show_plan(rt, &plan)
+}
+
+/// A journal behind whose closed gate more bytes stand, which don't count.
+fn show_longer<R: Print + Alloc<A = Global>>(rt: &R, journal: &[u8]) -> Result<()> {
+    let longer = longer(rt.alloc(), journal)?;
+    show_recovered(rt, &longer, journal)
+}
+
+/// Prints what a search answers on a disk, and whether it still holds this journal.
+fn show_again<R: Print + Alloc<A = Global>>(rt: &R, disk: MemDisk, journal: &[u8]) -> Result<()> {
+    let plan = Plan {
+        title: "with a good one",
+        command: SOLVE,
+        more: More::Same("no new event", journal),
+    };
+    show_on(rt, &plan, disk)
 }
 
 /// A certificate's sink that fails, and the same command again.
 fn show_sink<R: Print + Alloc<A = Global>>(rt: &R) -> Result<()> {
-    let alloc = rt.alloc();
-    let model = MemSource::new(alloc, ONE.as_bytes())?;
-    let cert = MemSink::failing(alloc, &[1])?;
-    let first = Answered::run(
-        alloc,
-        SOLVE,
-        model,
-        MemDisk::new(alloc),
-        cert,
-        MemSink::new(alloc),
-    )?;
-    first.show(rt, "a sink that fails")?;
-    let journal = first.disk.bytes().to_vec(alloc)?;
-    let again = Answered::usual(alloc, SOLVE, ONE, first.disk)?;
-    again.show(rt, "with a good one")?;
-    let same = again.disk.bytes() == journal.as_slice();
-    println!(rt; "with a good one: no new event, {same}")?;
-    Ok(())
+    let disk = show_with_disk(rt, &WITHOUT_CERTIFICATE)?;
+    let journal = disk.bytes().to_vec(rt.alloc())?;
+    show_again(rt, disk, &journal)
 }
 
-/// A source, a disk and a sink that fail at once.
-fn show_faults<R: Print + Alloc<A = Global>>(rt: &R) -> Result<()> {
-    let alloc = rt.alloc();
-    let model = MemSource::failing(alloc, ONE.as_bytes(), &[0])?;
-    let (cert, out) = (MemSink::new(alloc), MemSink::new(alloc));
-    let unread = Answered::run(alloc, SOLVE, model, MemDisk::new(alloc), cert, out)?;
-    unread.show(rt, "a source that fails")?;
-    let calls = unread.disk.calls();
-    println!(rt; "a source that fails: {calls} calls of the disk")?;
-    for words in [SOLVE, "resume j c", "show j"] {
-        let disk = MemDisk::stopping_at(alloc, b"", 0)?;
-        Answered::usual(alloc, words, ONE, disk)?.show(rt, "a disk that fails")?;
-    }
-    Ok(())
+/// What is shown of a journal, and that nothing is written, to a sink that takes it and to one that fails.
+fn show_figures<R: Print + Alloc<A = Global>>(rt: &R, journal: &[u8]) -> Result<()> {
+    let shown = Plan {
+        title: "a journal is shown",
+        command: Command {
+            bytes: journal,
+            ..SHOW
+        },
+        more: More::Same("the disk is as it was", journal),
+    };
+    let unwritten = Plan {
+        title: "a journal is shown to a sink that fails",
+        command: Command {
+            out: FAILS_AT_ONCE,
+            bytes: journal,
+            ..SHOW
+        },
+        more: More::Nothing,
+    };
+    show_plan(rt, &shown)?;
+    show_plan(rt, &unwritten)
 }
 
-/// What is shown of a journal, and that nothing is written.
-fn show_figures<R: Print + Alloc<A = Global>>(rt: &R) -> Result<()> {
-    let alloc = rt.alloc();
-    let journal = finished(alloc)?;
-    let shown = Answered::usual(alloc, "show j", "", MemDisk::from_bytes(alloc, &journal)?)?;
-    shown.show(rt, "a journal is shown")?;
-    let same = shown.disk.bytes() == journal.as_slice();
-    println!(rt; "a journal is shown: the disk is as it was, {same}")?;
-    let model = MemSource::new(alloc, b"")?;
-    let out = MemSink::failing(alloc, &[0])?;
-    let disk = MemDisk::from_bytes(alloc, &journal)?;
-    Answered::run(alloc, "show j", model, disk, MemSink::new(alloc), out)?.show(
-        rt,
-        "a journal is shown to a sink that fails",
-    )
-}
-
-/// A drill, whose own disk is in memory.
-fn show_drill<R: Print + Alloc<A = Global>>(rt: &R) -> Result<()> {
-    let alloc = rt.alloc();
-    let ran = Answered::usual(
-        alloc,
-        "drill 1 c --cuts 0",
-        "",
-        MemDisk::stopping_at(alloc, b"kept", 0)?,
-    )?;
-    ran.show(rt, "a drill")?;
-    let (calls, same) = (ran.disk.calls(), ran.disk.bytes() == b"kept".as_slice());
-    println!(rt; "a drill: {calls} calls of the disk, which is as it was, {same}")?;
-    let spent = Answered::usual(
-        alloc,
-        "drill 1 c --cuts 0 --nodes 3",
-        "",
-        MemDisk::new(alloc),
-    )?;
-    spent.show(rt, "a drill of three nodes")
-}
-
-/// Runs them all.
-pub(crate) fn show<R: Print + Alloc<A = Global>>(rt: &R) -> Result<()> {
-    show_event(rt)?;
-    show_spent(rt)?;
-    show_stops(rt, "without cuts", SOLVE_WITHOUT_CUTS, ODD)?;
-    show_stops(rt, "with an optimum", SOLVE, ONE)?;
-    show_few_bytes(rt)?;
-    show_other_models(rt)?;
+/// Commands over other journals than this one of a finished search, over streams and disks that fail, and drills.
+fn show_beside<R: Print + Alloc<A = Global>>(rt: &R, journal: &[u8]) -> Result<()> {
+    show_plans(rt, &FEW_BYTES)?;
+    show_other_models(rt, journal)?;
     show_damaged(rt)?;
-    show_longer(rt)?;
+    show_longer(rt, journal)?;
     show_sink(rt)?;
-    show_faults(rt)?;
-    show_figures(rt)?;
-    show_drill(rt)
+    show_plan(rt, &WITHOUT_MODEL)?;
+    show_reading(rt, "a disk that fails", b"", Some(0))?;
+    show_figures(rt, journal)?;
+    show_plans(rt, &DRILLS)
+}
+
+/// Commands over journals that aren't begun as they should be, over streams and disks that fail, and drills.
+pub(crate) fn show_others<R: Print + Alloc<A = Global>>(rt: &R) -> Result<()> {
+    let journal = finished(rt.alloc())?;
+    show_beside(rt, &journal)
 }

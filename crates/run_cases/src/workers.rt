@@ -1,164 +1,198 @@
 //! Commands with several workers.
 
-use crate::command::{Answered, text_on, words_of};
+use crate::command::{Answered, Command, Given, USUAL};
+use crate::kinds::Kinds;
 use crate::models::ODD;
+use crate::shown::disk_of;
 use anyhow::Result;
 use case_tools::Meeting;
-use node_events::Event;
-use outside::{Hold, MemDisk, MemSink, MemSource, NoHold};
-use solve_top::{Ran, State, run};
+use outside::{Hold, MemDisk, NoHold};
+use solve_top::run;
 use std::alloc::Global;
 use std::hash::{BuildHasherDefault, DefaultHasher};
+use std::io;
 use std::sync::Wait;
 use std::thread::Threads;
 
-/// How many entries of each kind a history has, and whether each node was split or closed by the worker that claimed it.
-#[derive(Drop)]
-struct Kinds {
-    claims: u64,
-    splits: u64,
-    closes: u64,
-    others: u64,
-    by_claimer: bool,
-}
+/// A search without cuts by one worker.
+const ALONE: Command<'static> = Command {
+    line: "solve m j c --cuts 0",
+    model: ODD,
+    ..USUAL
+};
 
-impl Kinds {
-    /// Counts an entry, where the node's last claim was by this worker.
-    fn count(&mut self, event: &Event, is_by_claimer: bool) {
-        match event {
-            Event::Claim { .. } => self.claims = self.claims.saturating_add(1),
-            Event::Split { .. } => {
-                self.splits = self.splits.saturating_add(1);
-                self.by_claimer = self.by_claimer && is_by_claimer;
-            }
-            Event::Close { .. } => {
-                self.closes = self.closes.saturating_add(1);
-                self.by_claimer = self.by_claimer && is_by_claimer;
-            }
-            _ => self.others = self.others.saturating_add(1),
-        }
-    }
-}
+/// The same by two workers.
+const BY_TWO: Command<'static> = Command {
+    line: "solve m j c --cuts 0 --workers 2",
+    ..ALONE
+};
 
-/// The node of an event that has one.
-fn node_of(event: &Event) -> Option<u32> {
-    match event {
-        Event::Claim { node }
-        | Event::Release { node }
-        | Event::Split { node, .. }
-        | Event::Close { node, .. } => Some(*node),
-        Event::Cut { .. } | Event::Offer { .. } => None,
-    }
-}
+/// Searches that are stopped with some workers, and gone on with by others.
+const STOPPED: [(&str, &str); 2] = [
+    (
+        "solve m j c --cuts 0 --nodes 3 --workers 4",
+        "resume j c --cuts 0",
+    ),
+    (
+        "solve m j c --cuts 0 --nodes 3",
+        "resume j c --cuts 0 --workers 4",
+    ),
+];
 
-/// The worker of the last claim of this node among the first entries.
-fn claimer(state: &State, node: u32, first: usize) -> Option<u32> {
-    let mut worker = None;
-    for entry in state.history().iter().take(first) {
-        if let Event::Claim { node: claimed } = entry.event {
-            if claimed == node {
-                worker = entry.worker;
-            }
-        }
-    }
-    worker
-}
+/// Other commands with workers.
+const LINES: [&str; 7] = [
+    "solve m j c --workers 16",
+    "drill 1 c --cuts 0 --workers 1",
+    "drill 1 c --cuts 0 --workers 2",
+    "drill 1 c --cuts 0 --workers 4",
+    "solve m j c --workers 0",
+    "solve m j c --workers 17",
+    "show j --workers 2",
+];
 
-/// What a search did.
-fn kinds_of(state: &State) -> Kinds {
-    let mut counted = Kinds {
-        claims: 0,
-        splits: 0,
-        closes: 0,
-        others: 0,
-        by_claimer: true,
-    };
-    for (place, entry) in state.history().iter().enumerate() {
-        let is_by_claimer = match node_of(&entry.event) {
-            Some(node) => claimer(state, node, place) == entry.worker,
-            None => true,
-        };
-        counted.count(&entry.event, is_by_claimer);
-    }
-    counted
-}
-
-/// What a command with workers answered, and what it left.
-#[derive(Drop)]
-struct Worked {
-    ran: Ran<MemDisk>,
-    out: MemSink,
-    cert: MemSink,
-}
-
-/// Runs the command of these words, with its workers in threads.
-fn work<R: Threads + Wait + Sync, H: Hold + Sync>(
+/// Runs a command that is given this, with its workers in threads.
+fn work_given<R: Threads + Wait + Sync, H: Hold + Sync>(
     rt: &R,
     alloc: Global,
-    line: &str,
-    model: &str,
+    given: Given,
     disk: MemDisk,
     hold: &H,
-) -> Result<Worked> {
-    let words = words_of(alloc, line)?;
+) -> Answered {
+    let mut given = given;
     let keys: BuildHasherDefault<DefaultHasher> = BuildHasherDefault::new();
-    let mut model = MemSource::new(alloc, model.as_bytes())?;
-    let (mut cert, mut out) = (MemSink::new(alloc), MemSink::new(alloc));
     let ran = run(
-        rt, alloc, keys, &words, &mut model, disk, &mut cert, &mut out, hold,
+        rt,
+        alloc,
+        keys,
+        &given.words,
+        &mut given.model,
+        disk,
+        &mut given.cert,
+        &mut given.out,
+        hold,
     );
-    Ok(Worked { ran, out, cert })
+    Answered::of(ran, given)
+}
+
+/// Runs a command on a disk, with its workers in threads.
+fn work_on<R: Threads + Wait + Sync, H: Hold + Sync>(
+    rt: &R,
+    alloc: Global,
+    command: &Command<'_>,
+    disk: MemDisk,
+    hold: &H,
+) -> Result<Answered> {
+    let given = command.given(alloc)?;
+    Ok(work_given(rt, alloc, given, disk, hold))
 }
 
 /// Prints the status and the lines of a command.
-fn show_lines<R: Print>(rt: &R, line: &str, worked: &Worked) -> Result<()> {
-    let (status, lines) = (worked.ran.status, text_on(&worked.out));
+fn show_lines<R: Print>(rt: &R, line: &str, worked: &Answered) -> Result<()> {
+    let (status, lines) = (worked.status, worked.lines());
     println!(rt; "{line}: status {status}, lines {lines:?}")?;
     Ok(())
 }
 
 /// Prints the status and the first line of a command. How many nodes are open when a search is stopped depends on the order of its workers.
-fn show_answer<R: Print>(rt: &R, line: &str, worked: &Worked) -> Result<()> {
-    let status = worked.ran.status;
-    let answer = text_on(&worked.out).lines().next().unwrap_or("");
+fn show_answer<R: Print>(rt: &R, line: &str, worked: &Answered) -> Result<()> {
+    let status = worked.status;
+    let answer = worked.lines().lines().next().unwrap_or("");
     println!(rt; "{line}: status {status}, {answer}")?;
     Ok(())
 }
 
-/// Prints what the search of a command did.
-fn show_kinds<R: Print>(rt: &R, worked: &Worked) -> Result<()> {
-    let Some(state) = &worked.ran.last else {
-        println!(rt; "no search")?;
-        return Ok(());
-    };
+/// Prints kinds of events.
+fn show_kinds<R: Print>(rt: &R, kinds: &Kinds) -> io::Result<()> {
     let Kinds {
+        events: _,
         claims,
         splits,
         closes,
         others,
         by_claimer,
-    } = kinds_of(state);
+    } = *kinds;
     println!(rt;
         "claims {claims}, splits {splits}, closes {closes}, others {others}, each node settled by the worker that claimed it {by_claimer}"
-    )?;
+    )
+}
+
+/// Prints what a search did, if there is one.
+fn show_search<R: Print>(rt: &R, worked: &Answered) -> io::Result<()> {
+    match &worked.kinds {
+        Some(kinds) => show_kinds(rt, kinds),
+        None => println!(rt; "no search"),
+    }
+}
+
+/// Prints whether two workers met, and whether they wrote this certificate.
+fn show_met<R: Print>(
+    rt: &R,
+    worked: &Answered,
+    meeting: &Meeting,
+    certificate: &str,
+) -> io::Result<()> {
+    let (met, is_same) = (meeting.took_place(), worked.certificate() == certificate);
+    println!(rt; "the workers met {met}, the certificate is that of one worker {is_same}")
+}
+
+/// Prints what a search of two workers answered and did.
+fn show_worked<R: Print>(
+    rt: &R,
+    worked: &Answered,
+    meeting: &Meeting,
+    certificate: &str,
+) -> Result<()> {
+    show_lines(rt, BY_TWO.line, worked)?;
+    show_search(rt, worked)?;
+    show_met(rt, worked, meeting, certificate)?;
     Ok(())
+}
+
+/// Prints a search of two workers, and whether they meet and write this certificate.
+fn show_pair<R: Threads + Wait + Sync + Print + Alloc<A = Global>>(
+    rt: &R,
+    meeting: &Meeting,
+    certificate: &str,
+) -> Result<()> {
+    let disk = MemDisk::new(rt.alloc());
+    let worked = work_on(rt, rt.alloc(), &BY_TWO, disk, meeting)?;
+    show_worked(rt, &worked, meeting, certificate)
+}
+
+/// Two workers that have to meet, and whether they write this certificate.
+fn show_meeting<R: Threads + Wait + Sync + Print + Alloc<A = Global>>(
+    rt: &R,
+    certificate: &str,
+) -> Result<()> {
+    let meeting = Meeting::new();
+    show_pair(rt, &meeting, certificate)
 }
 
 /// Two workers that have to meet, and the certificate that one worker writes.
 fn show_two<R: Threads + Wait + Sync + Print + Alloc<A = Global>>(rt: &R) -> Result<()> {
-    let alloc = rt.alloc();
-    let alone = Answered::usual(alloc, "solve m j c --cuts 0", ODD, MemDisk::new(alloc))?;
-    let meeting = Meeting::new();
-    let line = "solve m j c --cuts 0 --workers 2";
-    let worked = work(rt, alloc, line, ODD, MemDisk::new(alloc), &meeting)?;
-    show_lines(rt, line, &worked)?;
-    show_kinds(rt, &worked)?;
-    let (met, same) = (
-        meeting.took_place(),
-        worked.cert.bytes() == alone.cert.bytes(),
-    );
-    println!(rt; "the workers met {met}, the certificate is that of one worker {same}")?;
-    Ok(())
+    let alone = Answered::run(rt.alloc(), &ALONE)?;
+    show_meeting(rt, alone.certificate())
+}
+
+/// Prints what a command answers on a disk.
+fn show_work<R: Threads + Wait + Sync + Print + Alloc<A = Global>>(
+    rt: &R,
+    command: &Command<'_>,
+    disk: MemDisk,
+) -> Result<()> {
+    let worked = work_on(rt, rt.alloc(), command, disk, &NoHold)?;
+    show_lines(rt, command.line, &worked)
+}
+
+/// Prints the first line that a command answers on an empty disk. The disk as it left it.
+fn show_with_disk<R: Threads + Wait + Sync + Print + Alloc<A = Global>>(
+    rt: &R,
+    command: &Command<'_>,
+) -> Result<MemDisk> {
+    let disk = MemDisk::new(rt.alloc());
+    let worked = work_on(rt, rt.alloc(), command, disk, &NoHold)?;
+    show_answer(rt, command.line, &worked)?;
+    Ok(disk_of(worked))
 }
 
 /// A search that is stopped with some workers, and gone on with by others.
@@ -167,48 +201,38 @@ fn show_stopped<R: Threads + Wait + Sync + Print + Alloc<A = Global>>(
     first: &str,
     second: &str,
 ) -> Result<()> {
-    let alloc = rt.alloc();
-    let stopped = work(rt, alloc, first, ODD, MemDisk::new(alloc), &NoHold)?;
-    show_answer(rt, first, &stopped)?;
-    let Worked {
-        ran,
-        out: _,
-        cert: _,
-    } = stopped;
-    let Ran {
-        status: _,
-        disk,
-        last: _,
-    } = ran;
-    let resumed = work(rt, alloc, second, "", disk, &NoHold)?;
-    show_lines(rt, second, &resumed)
+    let first = Command {
+        line: first,
+        ..ALONE
+    };
+    let second = Command {
+        line: second,
+        ..USUAL
+    };
+    let disk = show_with_disk(rt, &first)?;
+    show_work(rt, &second, disk)
+}
+
+/// Prints searches that are stopped and gone on with.
+fn show_each_stopped<R: Threads + Wait + Sync + Print + Alloc<A = Global>>(rt: &R) -> Result<()> {
+    for (first, second) in &STOPPED {
+        show_stopped(rt, first, second)?;
+    }
+    Ok(())
+}
+
+/// Prints what other commands answer on empty disks.
+fn show_others<R: Threads + Wait + Sync + Print + Alloc<A = Global>>(rt: &R) -> Result<()> {
+    for &line in &LINES {
+        let command = Command { line, ..ALONE };
+        show_work(rt, &command, MemDisk::new(rt.alloc()))?;
+    }
+    Ok(())
 }
 
 /// Prints commands with several workers.
 pub(crate) fn show<R: Threads + Wait + Sync + Print + Alloc<A = Global>>(rt: &R) -> Result<()> {
-    let alloc = rt.alloc();
     show_two(rt)?;
-    show_stopped(
-        rt,
-        "solve m j c --cuts 0 --nodes 3 --workers 4",
-        "resume j c --cuts 0",
-    )?;
-    show_stopped(
-        rt,
-        "solve m j c --cuts 0 --nodes 3",
-        "resume j c --cuts 0 --workers 4",
-    )?;
-    for line in [
-        "solve m j c --workers 16",
-        "drill 1 c --cuts 0 --workers 1",
-        "drill 1 c --cuts 0 --workers 2",
-        "drill 1 c --cuts 0 --workers 4",
-        "solve m j c --workers 0",
-        "solve m j c --workers 17",
-        "show j --workers 2",
-    ] {
-        let worked = work(rt, alloc, line, ODD, MemDisk::new(alloc), &NoHold)?;
-        show_lines(rt, line, &worked)?;
-    }
-    Ok(())
+    show_each_stopped(rt)?;
+    show_others(rt)
 }
