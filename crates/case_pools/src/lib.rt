@@ -3,4 +3,4 @@
 
 mod pools;
 
-pub use pools::{into_state, memory_pool, with_budget};
+pub use pools::{drop_pool, memory_pool, with_budget};

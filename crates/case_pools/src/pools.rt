@@ -107,11 +107,8 @@ pub fn with_budget(alloc: Global, pool: Pool<MemDisk>, budget: u32) -> Result<Po
     pool_of(alloc, state, journal, budget)
 }
 
-/// The state of a pool.
-pub fn into_state(pool: Pool<MemDisk>) -> State
-    ensures { result ≡ pool.state }
-{
-    let (state, journal, _halt) = pool.into_parts();
+/// Drops a pool with its journal.
+pub fn drop_pool(pool: Pool<MemDisk>) {
+    let (_state, journal, _halt) = pool.into_parts();
     let _disk = journal.into_disk();
-    state
 }

@@ -74,6 +74,14 @@ pub(crate) fn finds_none<R: Print + Alloc<A = Global> + Wait, G: PoolGate>(
     }
 }
 
+/// Prints what a worker finds, which is the optimum of a relaxation.
+fn show_found<R: Print>(rt: &R, worker: u32, finding: &Finding) -> Result<()>
+    ensures { OnOk result (step_of finding.now ≡ Step.Ended) }
+{
+    print!(rt; "worker {worker} finds: ")?;
+    show_optimum(rt, finding)
+}
+
 /// What is found of the worker's node, which is the optimum of its relaxation, without room for cuts.
 fn found<R: Print + Alloc<A = Global> + Wait, G: PoolGate>(
     rt: &R,
@@ -93,8 +101,7 @@ fn found<R: Print + Alloc<A = Global> + Wait, G: PoolGate>(
     ensures optimum { IfOk result (λ f. step_of f ≡ Step.Ended) }
 {
     let finding = look(rt, rt.alloc(), gate, problem, node, 0)?;
-    print!(rt; "worker {worker} finds: ")?;
-    show_optimum(rt, &finding)?;
+    show_found(rt, worker, &finding)?;
     Ok(finding)
 }
 

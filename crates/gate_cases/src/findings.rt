@@ -30,6 +30,19 @@ fn show_multipliers<R: Print>(rt: &R, mult: &Mult) -> io::Result<()> {
     print!(rt; "{sum}")
 }
 
+/// Prints a point, the multipliers that bound it, and the column to split in, and ends the line.
+fn show_solved<R: Print>(
+    rt: &R,
+    point: &RationalPoint,
+    mult: &Mult,
+    column: Option<u32>,
+) -> io::Result<()> {
+    show_point(rt, point)?;
+    print!(rt; " by ")?;
+    show_multipliers(rt, mult)?;
+    println!(rt; ", column {column:?}")
+}
+
 /// Prints the optimum of a node's relaxation, and ends the line. Another finding is an error.
 pub(crate) fn show_optimum<R: Print>(rt: &R, finding: &Finding) -> Result<()>
     ensures { OnOk result (step_of finding.now ≡ Step.Ended) }
@@ -45,9 +58,6 @@ pub(crate) fn show_optimum<R: Print>(rt: &R, finding: &Finding) -> Result<()>
         bail!("no optimum was found");
     };
     print!(rt; "{cuts} cuts, {value} at ")?;
-    show_point(rt, point)?;
-    print!(rt; " by ")?;
-    show_multipliers(rt, mult)?;
-    println!(rt; ", column {column:?}")?;
+    show_solved(rt, point, mult, *column)?;
     Ok(())
 }

@@ -1,5 +1,5 @@
 // Two gates to one pool.
-ghost use Rattle.std.specs.Prelude.{◌≡◌, [], true, IfOk};
+ghost use Rattle.std.specs.Prelude.{◌≡◌, [], true, IfOk, None};
 ghost use Rattle.turn_lock.specs.Names.{names_below};
 ghost use Rattle.turn_lock.specs.Passes.{IsPassOf, names_of, seen_by};
 ghost use Rattle.worker_gate.specs.Entries.{is_opened, opening_in, state_in};
@@ -7,9 +7,11 @@ ghost use Rattle.crew.specs.Gates.{first_list, IsReadyGate};
 
 use crate::asks::{claimed, finds_none, settled};
 use anyhow::{Result, anyhow};
-use case_pools::{into_state, memory_pool};
+use case_pools::{drop_pool, memory_pool};
 use case_tools::problem_of;
 use crew::steps::{two_gates, whole_pass};
+use event_core::State;
+use node_pool::Pool;
 use outside::MemDisk;
 use problem::Problem;
 use std::alloc::Global;
@@ -84,23 +86,29 @@ fn show_pool<R: Print + Alloc<A = Global> + Wait>(
     (lock.close(pass), shown)
 }
 
-/// A pool of the problem for two workers without cuts.
-fn kin_of(alloc: Global, problem: Problem) -> Result<Kin<MemDisk>>
+/// A pool of a copy of the problem.
+fn pool_of(alloc: Global, problem: &Problem) -> Result<Pool<MemDisk>>
+    ensures unheld { IfOk result (λ p. p.state.state.holds ≡ []) }
+    ensures sound { IfOk result (λ p. p.halt ≡ None) }
+    ensures problem { IfOk result (λ p. p.state.state.problem ≡ problem.now) }
+{
+    let problem = problem.copy(alloc)?;
+    memory_pool(alloc, problem, 1000)
+}
+
+/// A pool of a copy of the problem for two workers without cuts.
+fn kin_of(alloc: Global, problem: &Problem) -> Result<Kin<MemDisk>>
     ensures opened { IfOk result (λ k. is_opened k ≡ true) }
     ensures members { IfOk result (λ k. (opening_in k).workers ≡ 2) }
     ensures unheld { IfOk result (λ k. (state_in k).holds ≡ []) }
-    ensures problem { IfOk result (λ k. (state_in k).problem ≡ problem) }
+    ensures problem { IfOk result (λ k. (state_in k).problem ≡ problem.now) }
 {
-    let pool = memory_pool(alloc, problem, 1000)?;
+    let pool = pool_of(alloc, problem)?;
     Ok(Kin::make(pool, 0, 2))
 }
 
-/// Prints the calls, and what the pool has at the end.
-pub(crate) fn show<R: Print + Alloc<A = Global> + Wait>(rt: &R) -> Result<()> {
-    let problem = problem_of(rt.alloc(), PARITY)?;
-    let kin = kin_of(rt.alloc(), problem.copy(rt.alloc())?)?;
-    let (kin, shown) = show_pool(rt, kin, &problem);
-    let state = into_state(kin.into_pool());
+/// Prints what a pool has at the end, if the calls were printed.
+fn show_end<R: Print>(rt: &R, state: &State, shown: Result<()>) -> Result<()> {
     shown?;
     let (events, nodes, open) = (
         state.history().len(),
@@ -109,4 +117,20 @@ pub(crate) fn show<R: Print + Alloc<A = Global> + Wait>(rt: &R) -> Result<()> {
     );
     println!(rt; "the pool is back: events {events}, nodes {nodes}, open {open}")?;
     Ok(())
+}
+
+/// Prints the calls at gates to a pool of the problem, and what it has at the end.
+fn show_problem<R: Print + Alloc<A = Global> + Wait>(rt: &R, problem: &Problem) -> Result<()> {
+    let kin = kin_of(rt.alloc(), problem)?;
+    let (kin, shown) = show_pool(rt, kin, problem);
+    let pool = kin.into_pool();
+    let shown = show_end(rt, pool.state(), shown);
+    drop_pool(pool);
+    shown
+}
+
+/// Prints the calls on the problem that no point satisfies.
+pub(crate) fn show<R: Print + Alloc<A = Global> + Wait>(rt: &R) -> Result<()> {
+    let problem = problem_of(rt.alloc(), PARITY)?;
+    show_problem(rt, &problem)
 }

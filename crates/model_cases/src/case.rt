@@ -37,55 +37,69 @@ pub struct Case<'a> {
     pub expected: Expected,
 }
 
-/// The words of a line, parted by single blanks. A word `""` is the empty one.
-fn words_of(alloc: Global, line: &str) -> Result<Words, AllocError> {
-    let mut words = Words::new(alloc);
-    if line.is_empty() {
-        return Ok(words);
-    }
+/// Pushes the words of a line, parted by single blanks. A word `""` is the empty one.
+fn push_words(words: &mut Words, alloc: Global, line: &str) -> Result<(), AllocError> {
     for word in line.split(' ') {
         words.push(alloc, if word == "\"\"" { "" } else { word })?;
+    }
+    Ok(())
+}
+
+/// The words of a line. An empty line has none.
+fn words_of(alloc: Global, line: &str) -> Result<Words, AllocError> {
+    let mut words = Words::new(alloc);
+    if !line.is_empty() {
+        push_words(&mut words, alloc, line)?;
     }
     Ok(words)
 }
 
-/// What the blocks of a case have said so far.
-#[derive(Drop)]
+/// Where the blocks of a case say that its model comes from.
+#[derive(Clone, Copy)]
+enum Source<'a> {
+    /// The base text with changes.
+    Base,
+    /// A body in a form.
+    Block(&'a str, &'a str),
+    /// The file of this name.
+    File(&'a str),
+}
+
+/// What the blocks of a case have said so far, besides changes.
+#[derive(Clone, Copy)]
 struct Draft<'a> {
     words: &'a str,
-    model: Option<Model<'a>>,
-    changes: Vec<Change>,
+    source: Source<'a>,
     status: Option<u8>,
     lines: &'a str,
     certificate: Option<&'a str>,
 }
 
 impl<'a> Draft<'a> {
-    fn new(alloc: Global) -> Draft<'a> {
+    fn new() -> Draft<'a> {
         Draft {
             words: USUAL_WORDS,
-            model: None,
-            changes: Vec::new(alloc),
+            source: Source::Base,
             status: None,
             lines: "",
             certificate: None,
         }
     }
 
-    /// Takes one more block.
-    fn take(&mut self, alloc: Global, block: &Block<'a>) -> Result<()> {
+    /// Takes the block of a status.
+    fn take_status(&mut self, block: &Block<'a>) -> Result<()> {
+        self.status = Some(block.rest.parse::<u8>()?);
+        self.lines = block.body;
+        Ok(())
+    }
+
+    /// Takes one more block, which is no change.
+    fn take(&mut self, block: &Block<'a>) -> Result<()> {
         match block.word {
             "words" => self.words = block.rest,
-            "model" => {
-                let text = bytes_of(alloc, block.rest, block.body)?;
-                self.model = Some(Model::Text(text));
-            }
-            "file" => self.model = Some(Model::File(block.rest)),
-            "line" | "after" => self.changes.push(Change::read(alloc, block)?)?,
-            "status" => {
-                self.status = Some(block.rest.parse::<u8>()?);
-                self.lines = block.body;
-            }
+            "model" => self.source = Source::Block(block.rest, block.body),
+            "file" => self.source = Source::File(block.rest),
+            "status" => self.take_status(block)?,
             "certificate" => self.certificate = Some(block.body),
             word => bail!("a block that isn't known: {word}"),
         }
@@ -93,53 +107,81 @@ impl<'a> Draft<'a> {
     }
 }
 
-/// What a case has to answer, from what its blocks say.
-fn expected_of(
+/// Takes the blocks of a case behind its title, and pushes its changes.
+fn draft_of<'a>(changes: &mut Vec<Change<'a>>, text: &'a str) -> Result<Draft<'a>> {
+    let mut draft = Draft::new();
+    for block in text.split("\n--- ").skip(1) {
+        let block = Block::new(block);
+        match block.word {
+            "line" | "after" => changes.push(Change::read(&block)?)?,
+            _ => draft.take(&block)?,
+        }
+    }
+    Ok(draft)
+}
+
+/// The model of a case.
+fn model_of<'a>(
     alloc: Global,
-    status: Option<u8>,
-    lines: &str,
-    certificate: Option<&str>,
-) -> Result<Expected> {
-    let status = status.context("a case without a status")?;
-    let certificate = match certificate {
-        Some(lines) => Some(plain(alloc, lines)?),
-        None => None,
-    };
+    base: &str,
+    source: Source<'a>,
+    changes: &[Change<'a>],
+) -> Result<Model<'a>> {
+    match source {
+        Source::Base => Ok(Model::Text(changed(alloc, base, changes)?)),
+        Source::Block(form, body) => Ok(Model::Text(bytes_of(alloc, form, body)?)),
+        Source::File(name) => Ok(Model::File(name)),
+    }
+}
+
+/// The certificate that a case says, if it does.
+fn certificate_of(alloc: Global, lines: Option<&str>) -> Result<Option<Vec<u8>>, AllocError> {
+    match lines {
+        Some(lines) => Ok(Some(plain(alloc, lines)?)),
+        None => Ok(None),
+    }
+}
+
+/// What a case has to answer, from what its blocks say.
+fn expected_of(alloc: Global, draft: &Draft<'_>) -> Result<Expected> {
+    let status = draft.status.context("a case without a status")?;
+    let lines = plain(alloc, draft.lines)?;
+    let certificate = certificate_of(alloc, draft.certificate)?;
     Ok(Expected {
         status,
-        lines: plain(alloc, lines)?,
+        lines,
         certificate,
     })
+}
+
+/// The case of this title and model, from what its blocks say.
+fn case_of<'a>(
+    alloc: Global,
+    title: &'a str,
+    draft: &Draft<'a>,
+    model: Model<'a>,
+) -> Result<Case<'a>> {
+    let words = words_of(alloc, draft.words)?;
+    let expected = expected_of(alloc, draft)?;
+    Ok(Case {
+        title,
+        words,
+        model,
+        expected,
+    })
+}
+
+/// The title of a case, which its text begins with.
+fn title_of(text: &str) -> &str {
+    text.split("\n--- ").next().unwrap_or("")
 }
 
 impl<'a> Case<'a> {
     /// The case of a text that begins with its title. Its model is its own, or the base text with changes.
     pub(crate) fn read(alloc: Global, base: &str, text: &'a str) -> Result<Case<'a>> {
-        let mut blocks = text.split("\n--- ");
-        let title = blocks.next().unwrap_or("");
-        let mut draft = Draft::new(alloc);
-        for block in blocks {
-            draft.take(alloc, &Block::new(block))?;
-        }
-        let Draft {
-            words,
-            model,
-            changes,
-            status,
-            lines,
-            certificate,
-        } = draft;
-        let model = match model {
-            Some(model) => model,
-            None => Model::Text(changed(alloc, base, &changes)?),
-        };
-        let words = words_of(alloc, words)?;
-        let expected = expected_of(alloc, status, lines, certificate)?;
-        Ok(Case {
-            title,
-            words,
-            model,
-            expected,
-        })
+        let mut changes = Vec::new(alloc);
+        let draft = draft_of(&mut changes, text)?;
+        let model = model_of(alloc, base, draft.source, &changes)?;
+        case_of(alloc, title_of(text), &draft, model)
     }
 }

@@ -2,7 +2,7 @@
 
 use crate::block::{Block, bytes_of};
 use anyhow::Result;
-use std::alloc::{AllocError, Global};
+use std::alloc::Global;
 
 /// Where the lines of a change stand.
 #[derive(Clone, Copy, Debug, PartialEq, Eq, Drop)]
@@ -14,15 +14,16 @@ enum Place {
 }
 
 /// Lines that stand in the place of a line or behind it.
-#[derive(Drop)]
-pub struct Change {
+#[derive(Clone, Copy)]
+pub struct Change<'a> {
     place: Place,
-    lines: Vec<u8>,
+    form: &'a str,
+    body: &'a str,
 }
 
-impl Change {
+impl<'a> Change<'a> {
     /// The change of a block `line NUMBER` or `after NUMBER`, and its form.
-    pub(crate) fn read(alloc: Global, block: &Block<'_>) -> Result<Change> {
+    pub(crate) fn read(block: &Block<'a>) -> Result<Change<'a>> {
         let (number, form) = match block.rest.split_once(' ') {
             Some(parts) => parts,
             None => (block.rest, ""),
@@ -35,38 +36,70 @@ impl Change {
         };
         Ok(Change {
             place,
-            lines: bytes_of(alloc, form, block.body)?,
+            form,
+            body: block.body,
         })
     }
 }
 
+/// Pushes the lines of a change.
+fn push_change(text: &mut Vec<u8>, alloc: Global, change: &Change<'_>) -> Result<()> {
+    let lines = bytes_of(alloc, change.form, change.body)?;
+    text.extend_from_slice(&lines)?;
+    Ok(())
+}
+
 /// Pushes the lines of the changes that stand at a place. Whether there are any.
-fn push_at(text: &mut Vec<u8>, changes: &[Change], place: Place) -> Result<bool, AllocError> {
+fn push_at(
+    text: &mut Vec<u8>,
+    alloc: Global,
+    changes: &[Change<'_>],
+    place: Place,
+) -> Result<bool> {
     let mut any = false;
     for change in changes {
         if change.place == place {
-            text.extend_from_slice(&change.lines)?;
+            push_change(text, alloc, change)?;
             any = true;
         }
     }
     Ok(any)
 }
 
-/// A text with changes of its lines.
-pub(crate) fn changed(
+/// Pushes a line, if no change stands in its place.
+fn push_line(
+    text: &mut Vec<u8>,
+    alloc: Global,
+    changes: &[Change<'_>],
+    number: usize,
+    line: &str,
+) -> Result<()> {
+    if !push_at(text, alloc, changes, Place::Instead(number))? {
+        text.extend_from_slice(line.as_bytes())?;
+        text.push(b'\n')?;
+    }
+    Ok(())
+}
+
+/// Pushes a text with changes of its lines.
+fn push_changed(
+    text: &mut Vec<u8>,
     alloc: Global,
     base: &str,
-    changes: &[Change],
-) -> Result<Vec<u8>, AllocError> {
-    let mut text = Vec::new(alloc);
-    push_at(&mut text, changes, Place::Behind(0))?;
+    changes: &[Change<'_>],
+) -> Result<()> {
+    push_at(text, alloc, changes, Place::Behind(0))?;
     for (index, line) in base.lines().enumerate() {
         let number = index.saturating_add(1);
-        if !push_at(&mut text, changes, Place::Instead(number))? {
-            text.extend_from_slice(line.as_bytes())?;
-            text.push(b'\n')?;
-        }
-        push_at(&mut text, changes, Place::Behind(number))?;
+        push_line(text, alloc, changes, number, line)?;
+        push_at(text, alloc, changes, Place::Behind(number))?;
     }
+    Ok(())
+}
+
+/// A text with changes of its lines.
+pub(crate) fn changed(alloc: Global, base: &str, changes: &[Change<'_>]) -> Result<Vec<u8>> {
+    let mut text = Vec::new(alloc);
+    push_changed(&mut text, alloc, base, changes)?;
     Ok(text)
 }

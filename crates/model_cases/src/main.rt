@@ -10,10 +10,10 @@ mod report;
 mod written;
 
 use anyhow::{Context, Result};
-use block::Block;
 use case::{Case, Model};
-use outcome::outcome_of;
+use outcome::{Outcome, outcome_of};
 use report::show_difference;
+use solve_top::Words;
 use std::alloc::Global;
 use std::env;
 use std::fs::{self, File};
@@ -21,10 +21,19 @@ use std::process::ExitCode;
 use std::rt::Files;
 
 /// How many cases there were, and how many of them differed.
-#[derive(Drop)]
+#[derive(Clone, Copy)]
 struct Count {
     cases: u64,
     differ: u64,
+}
+
+/// The bytes of the file at a path, which a case names so.
+fn file_at<R: Files<File = File> + Alloc<A = Global>>(
+    rt: &R,
+    path: &str,
+    name: &str,
+) -> Result<Vec<u8>> {
+    fs::read(rt, path).context(format_args!("reading {name}"))
 }
 
 /// The bytes of the file of a name beside the file of cases at a path.
@@ -38,11 +47,52 @@ fn file_beside<R: Files<File = File> + Alloc<A = Global>>(
         None => ".",
     };
     let model = format!(in rt.alloc(); "{folder}/{name}")?;
-    let bytes = fs::read(rt, model.as_str()).context(format_args!("reading {name}"))?;
-    Ok(bytes)
+    file_at(rt, model.as_str(), name)
+}
+
+/// What a run over the file of a name beside the file of cases answers.
+fn outcome_of_file<R: Files<File = File> + Alloc<A = Global>>(
+    rt: &R,
+    path: &str,
+    name: &str,
+    words: &Words,
+) -> Result<Outcome> {
+    let model = file_beside(rt, path, name)?;
+    Ok(outcome_of(rt.alloc(), words, &model)?)
+}
+
+/// What the run of a case answers.
+fn outcome_of_case<R: Files<File = File> + Alloc<A = Global>>(
+    rt: &R,
+    path: &str,
+    case: &Case<'_>,
+) -> Result<Outcome> {
+    match &case.model {
+        Model::Text(model) => Ok(outcome_of(rt.alloc(), &case.words, model)?),
+        Model::File(name) => outcome_of_file(rt, path, name, &case.words),
+    }
+}
+
+/// Whether a case differs from what was seen; then it is shown.
+fn judged<R: Print>(rt: &R, path: &str, case: &Case<'_>, seen: &Outcome) -> Result<bool> {
+    if seen.meets(&case.expected) {
+        return Ok(false);
+    }
+    show_difference(rt, path, case, seen)?;
+    Ok(true)
 }
 
 /// Runs a case. Whether it differs; then it is shown.
+fn case_differs<R: Files<File = File> + Alloc<A = Global> + Print>(
+    rt: &R,
+    path: &str,
+    case: &Case<'_>,
+) -> Result<bool> {
+    let seen = outcome_of_case(rt, path, case)?;
+    judged(rt, path, case, &seen)
+}
+
+/// Runs the case of a text. Whether it differs; then it is shown.
 fn differs<R: Files<File = File> + Alloc<A = Global> + Print>(
     rt: &R,
     path: &str,
@@ -50,18 +100,33 @@ fn differs<R: Files<File = File> + Alloc<A = Global> + Print>(
     text: &str,
 ) -> Result<bool> {
     let case = Case::read(rt.alloc(), base, text)?;
-    let seen = match &case.model {
-        Model::Text(model) => outcome_of(rt.alloc(), &case.words, model)?,
-        Model::File(name) => {
-            let model = file_beside(rt, path, name)?;
-            outcome_of(rt.alloc(), &case.words, &model)?
-        }
-    };
-    if seen.meets(&case.expected) {
-        return Ok(false);
+    case_differs(rt, path, &case)
+}
+
+/// The base text of a file of cases, from what stands in front of its first case.
+fn base_of(head: &str) -> &str {
+    match head.split_once("\n--- base\n") {
+        Some((_, base)) => base.trim_end_matches('\n'),
+        None => "",
     }
-    show_difference(rt, path, &case, &seen)?;
-    Ok(true)
+}
+
+/// Runs the cases of a text, which is that of the file at this path.
+fn run_text<R: Files<File = File> + Alloc<A = Global> + Print>(
+    rt: &R,
+    path: &str,
+    text: &str,
+    count: &mut Count,
+) -> Result<()> {
+    let mut parts = text.split("\n=== ");
+    let base = base_of(parts.next().unwrap_or(""));
+    for part in parts {
+        count.cases = count.cases.saturating_add(1);
+        if differs(rt, path, base, part)? {
+            count.differ = count.differ.saturating_add(1);
+        }
+    }
+    Ok(())
 }
 
 /// Runs the cases of a file.
@@ -71,20 +136,7 @@ fn run_file<R: Files<File = File> + Alloc<A = Global> + Print>(
     count: &mut Count,
 ) -> Result<()> {
     let text = fs::read_to_string(rt, path).context(format_args!("reading {path}"))?;
-    let mut parts = text.as_str().split("\n=== ");
-    let head = parts.next().unwrap_or("");
-    let base = match head.split_once("\n--- base\n") {
-        Some((_, base)) => base,
-        None => "",
-    };
-    let base = base.trim_end_matches('\n');
-    for part in parts {
-        count.cases = count.cases.saturating_add(1);
-        if differs(rt, path, base, part)? {
-            count.differ = count.differ.saturating_add(1);
-        }
-    }
-    Ok(())
+    run_text(rt, path, text.as_str(), count)
 }
 
 fn main(rt: HostRuntime) -> Result<ExitCode> {
@@ -96,8 +148,7 @@ fn main(rt: HostRuntime) -> Result<ExitCode> {
         run_file(&rt, path.as_str(), &mut count)?;
     }
     let Count { cases, differ } = count;
-    println!(rt; "cases {cases}")?;
-    println!(rt; "differ {differ}")?;
+    println!(rt; "cases {cases}\ndiffer {differ}")?;
     Ok(if differ == 0 {
         ExitCode::SUCCESS
     } else {

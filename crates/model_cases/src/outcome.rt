@@ -16,27 +16,65 @@ pub struct Outcome {
     pub certificate: Vec<u8>,
 }
 
+/// The status of a run.
+fn status_of(ran: Ran<MemDisk>) -> u8 {
+    let Ran {
+        status,
+        disk: _,
+        last: _,
+    } = ran;
+    status
+}
+
+/// Runs the top call on an empty disk. Its status.
+fn run_words(
+    alloc: Global,
+    words: &Words,
+    model: &mut MemSource,
+    cert: &mut MemSink,
+    out: &mut MemSink,
+) -> u8 {
+    let keys: BuildHasherDefault<DefaultHasher> = BuildHasherDefault::new();
+    let disk = MemDisk::new(alloc);
+    status_of(run_one(alloc, keys, words, model, disk, cert, out))
+}
+
+/// What a run answered that wrote to these sinks.
+fn written(
+    alloc: Global,
+    status: u8,
+    cert: &MemSink,
+    out: &MemSink,
+) -> Result<Outcome, AllocError> {
+    let lines = out.bytes().to_vec(alloc)?;
+    let certificate = cert.bytes().to_vec(alloc)?;
+    Ok(Outcome {
+        status,
+        lines,
+        certificate,
+    })
+}
+
+/// A run of the top call over this source.
+fn outcome_over(
+    alloc: Global,
+    words: &Words,
+    model: &mut MemSource,
+) -> Result<Outcome, AllocError> {
+    let mut cert = MemSink::new(alloc);
+    let mut out = MemSink::new(alloc);
+    let status = run_words(alloc, words, model, &mut cert, &mut out);
+    written(alloc, status, &cert, &out)
+}
+
 /// A run of the top call over memory.
 pub(crate) fn outcome_of(
     alloc: Global,
     words: &Words,
     model: &[u8],
 ) -> Result<Outcome, AllocError> {
-    let keys: BuildHasherDefault<DefaultHasher> = BuildHasherDefault::new();
     let mut model = MemSource::new(alloc, model)?;
-    let mut cert = MemSink::new(alloc);
-    let mut out = MemSink::new(alloc);
-    let disk = MemDisk::new(alloc);
-    let Ran {
-        status,
-        disk: _,
-        last: _,
-    } = run_one(alloc, keys, words, &mut model, disk, &mut cert, &mut out);
-    Ok(Outcome {
-        status,
-        lines: out.bytes().to_vec(alloc)?,
-        certificate: cert.bytes().to_vec(alloc)?,
-    })
+    outcome_over(alloc, words, &mut model)
 }
 
 impl Outcome {

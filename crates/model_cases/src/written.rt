@@ -2,7 +2,7 @@
 
 ghost use Rattle.std.specs.Prelude.{◌≡◌, ◌++◌, ◌∷◌, ◌≢◌, [], IfOk};
 
-use anyhow::{Context, Result, bail};
+use anyhow::{Context, Result};
 use std::alloc::{AllocError, Global};
 use std::str::Chars;
 
@@ -19,6 +19,23 @@ pub fn plain(alloc: Global, body: &str) -> Result<Vec<u8>, AllocError>
     Ok(bytes)
 }
 
+/// A text with a number in the place of each `#`.
+fn numbered(alloc: Global, text: &str, number: u32) -> Result<String, AllocError> {
+    let number = format!(in alloc; "{number}")?;
+    text.replace(alloc, '#', number.as_str())
+}
+
+/// Pushes a text with a number in the place of each `#`.
+fn push_copy(
+    bytes: &mut Vec<u8>,
+    alloc: Global,
+    text: &str,
+    number: u32,
+) -> Result<(), AllocError> {
+    let copy = numbered(alloc, text, number)?;
+    bytes.extend_from_slice(copy.as_str().as_bytes())
+}
+
 /// Pushes a text so often, with the number of the copy, from 0, in the place of each `#`.
 fn push_copies(
     bytes: &mut Vec<u8>,
@@ -26,16 +43,13 @@ fn push_copies(
     text: &str,
     count: u32,
 ) -> Result<(), AllocError> {
-    if !text.contains('#') {
-        for _ in 0..count {
+    let is_numbered = text.contains('#');
+    for number in 0..count {
+        if is_numbered {
+            push_copy(bytes, alloc, text, number)?;
+        } else {
             bytes.extend_from_slice(text.as_bytes())?;
         }
-        return Ok(());
-    }
-    for number in 0..count {
-        let number = format!(in alloc; "{number}")?;
-        let copy = text.replace(alloc, '#', number.as_str())?;
-        bytes.extend_from_slice(copy.as_str().as_bytes())?;
     }
     Ok(())
 }
@@ -66,20 +80,34 @@ fn push_repeat<'a>(bytes: &mut Vec<u8>, alloc: Global, text: &'a str) -> Result<
 /// Pushes what an escape stands for; its backslash is taken away. What follows it.
 fn push_escape<'a>(bytes: &mut Vec<u8>, alloc: Global, text: &'a str) -> Result<&'a str> {
     let mut chars: Chars<'a> = text.chars();
-    match chars.next() {
-        Some('t') => bytes.push(b'\t')?,
-        Some('r') => bytes.push(b'\r')?,
-        Some('n') => bytes.push(b'\n')?,
-        Some('\\') => bytes.push(b'\\')?,
+    let byte = match chars.next() {
+        Some('t') => b'\t',
+        Some('r') => b'\r',
+        Some('n') => b'\n',
+        Some('\\') => b'\\',
         // the end of the line is left out
-        Some('\n') => {}
-        Some('x') => match byte_of(chars.next(), chars.next()) {
-            Some(byte) => bytes.push(byte)?,
-            None => bail!("a byte without two hexadecimal digits"),
-        },
+        Some('\n') => return Ok(chars.as_str()),
+        Some('x') => byte_of(chars.next(), chars.next()).context(
+            "a byte without two hexadecimal digits",
+        )?,
         _ => return push_repeat(bytes, alloc, text),
-    }
+    };
+    bytes.push(byte)?;
     Ok(chars.as_str())
+}
+
+/// Pushes a text with what its escapes stand for.
+fn push_escaped(bytes: &mut Vec<u8>, alloc: Global, text: &str) -> Result<()> {
+    let mut rest = text;
+    for _ in 0..text.len() {
+        let Some((before, escape)) = rest.split_once('\\') else {
+            break;
+        };
+        bytes.extend_from_slice(before.as_bytes())?;
+        rest = push_escape(bytes, alloc, escape)?;
+    }
+    bytes.extend_from_slice(rest.as_bytes())?;
+    Ok(())
 }
 
 /// The lines of a block in which `\t`, `\r`, `\n` and `\\` stand for one byte, `\x80` for the byte of this hexadecimal
@@ -87,14 +115,6 @@ fn push_escape<'a>(bytes: &mut Vec<u8>, alloc: Global, text: &'a str) -> Result<
 pub(crate) fn escaped(alloc: Global, body: &str) -> Result<Vec<u8>> {
     let lines = format!(in alloc; "{body}\n")?;
     let mut bytes = Vec::new(alloc);
-    let mut rest = lines.as_str();
-    for _ in 0..lines.len() {
-        let Some((before, escape)) = rest.split_once('\\') else {
-            break;
-        };
-        bytes.extend_from_slice(before.as_bytes())?;
-        rest = push_escape(&mut bytes, alloc, escape)?;
-    }
-    bytes.extend_from_slice(rest.as_bytes())?;
+    push_escaped(&mut bytes, alloc, lines.as_str())?;
     Ok(bytes)
 }

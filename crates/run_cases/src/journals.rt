@@ -1,312 +1,354 @@
-//! Commands over journals: begun, gone on with, shown, refused, and on disks that fail.
+//! Commands over journals: begun, gone on with, shown, refused, and on disks and streams that fail.
 
-use crate::command::{Answered, Plan, Stream, WHOLE, answer_to, show_answer};
+use crate::command::{Answered, Command, SOUND, Stream, USUAL};
 use crate::models::{EMPTY, FAR, ODD, ONE};
-use crate::stops::show_stops;
+use crate::shown::{More, Plan, show_on, show_plan, show_plans, show_with_disk};
 use anyhow::Result;
 use outside::MemDisk;
 use std::alloc::{AllocError, Global};
 
-const SOLVE: &str = "solve m j c";
+/// A search with an optimum.
+const SOLVE: Command<'static> = Command {
+    line: "solve m j c",
+    model: ONE,
+    ..USUAL
+};
 
-/// Searches that are spent.
-const SPENT: [&str; 3] = [
+/// A search that goes on without cuts.
+const RESUME: Command<'static> = Command {
+    line: "resume j c --cuts 0",
+    ..USUAL
+};
+
+/// The figures of a journal.
+const SHOW: Command<'static> = Command {
+    line: "show j",
+    ..USUAL
+};
+
+/// A stream that fails at once.
+const FAILS_AT_ONCE: Stream<'static> = Stream {
+    failing: &[0],
+    ..SOUND
+};
+
+/// A journal of one event, whose bytes are known.
+const ONE_EVENT: Plan<'static> = Plan {
+    title: "an empty box",
+    command: Command {
+        model: EMPTY,
+        ..SOLVE
+    },
+    more: More::End,
+};
+
+/// Searches that begin a journal.
+const BEGUN: [&str; 3] = [
     "solve m j c --cuts 0 --nodes 3",
     "solve m j c --cuts 0 --nodes 4",
     "solve m j c --cuts 0 --nodes 5",
 ];
 
+/// A search that is spent at one node.
+const SPENT: Plan<'static> = Plan {
+    title: "spent at one node",
+    command: Command {
+        line: "solve m j c --cuts 0 --nodes 1",
+        model: ODD,
+        ..USUAL
+    },
+    more: More::Nothing,
+};
+
+/// A search that goes on to its end.
+const RESUMED: Plan<'static> = Plan {
+    title: "resumed",
+    command: RESUME,
+    more: More::Certificate,
+};
+
 /// Commands that read a journal.
-const READING: [&str; 3] = [SOLVE, "resume j c", "show j"];
-
-/// Prints the last bytes of a disk in hexadecimal.
-fn show_end<R: Print>(rt: &R, title: &str, disk: &MemDisk, count: usize) -> Result<()> {
-    let bytes = disk.bytes();
-    let start = bytes.len().saturating_sub(count);
-    print!(rt; "{title}:")?;
-    for byte in &bytes[start..] {
-        print!(rt; " {byte:02x}")?;
-    }
-    println!(rt; "")?;
-    Ok(())
-}
-
-/// Prints what a command answered, and the end of its journal.
-fn show_with_end<R: Print>(rt: &R, ran: &Answered) -> Result<()> {
-    ran.show(rt, "an empty box")?;
-    show_end(rt, "its journal ends with", &ran.disk, 16)
-}
-
-/// A journal of one event, whose bytes are known.
-fn show_event<R: Print + Alloc<A = Global>>(rt: &R) -> Result<()> {
-    let ran = answer_to(rt.alloc(), &Plan::new(SOLVE, EMPTY))?;
-    show_with_end(rt, &ran)
-}
-
-/// Prints what a command answered, and its certificate.
-fn show_with_certificate<R: Print>(rt: &R, title: &str, ran: &Answered) -> Result<()> {
-    ran.show(rt, title)?;
-    ran.show_certificate(rt, title)
-}
-
-/// Goes on to the end with a search that was spent.
-fn show_resumed<R: Print + Alloc<A = Global>>(rt: &R, journal: &[u8]) -> Result<()> {
-    let resumed = answer_to(rt.alloc(), &Plan::over("resume j c --cuts 0", "", journal))?;
-    show_with_certificate(rt, "resumed", &resumed)
-}
-
-/// Commands over the journal of a search that was spent at one node.
-fn show_going_on<R: Print + Alloc<A = Global>>(rt: &R, spent: &Answered) -> Result<()> {
-    spent.show(rt, "spent at one node")?;
-    let journal = spent.disk.bytes();
-    show_answer(rt, "shown", &Plan::over("show j", "", journal))?;
-    let on = Plan::over("resume j c --cuts 0 --nodes 3", "", journal);
-    show_answer(rt, "resumed to three nodes", &on)?;
-    show_resumed(rt, journal)
-}
-
-/// Searches that are spent, and those that go on from the last of them.
-fn show_spent<R: Print + Alloc<A = Global>>(rt: &R) -> Result<()> {
-    for line in &SPENT {
-        show_answer(rt, line, &Plan::new(line, ODD))?;
-    }
-    let spent = answer_to(
-        rt.alloc(),
-        &Plan::new("solve m j c --cuts 0 --nodes 1", ODD),
-    )?;
-    show_going_on(rt, &spent)
-}
+const READING: [&str; 3] = ["solve m j c", "resume j c", "show j"];
 
 /// Disks of nine bytes, which are an empty journal, and of ten, which are none.
-fn show_few_bytes<R: Print + Alloc<A = Global>>(rt: &R) -> Result<()> {
-    show_answer(rt, "nine bytes", &Plan::over(SOLVE, ONE, b"123456789"))?;
-    show_answer(rt, "ten bytes", &Plan::over(SOLVE, ONE, b"1234567890"))
-}
+const FEW_BYTES: [Plan<'static>; 2] = [
+    Plan {
+        title: "nine bytes",
+        command: Command {
+            bytes: b"123456789",
+            ..SOLVE
+        },
+        more: More::Nothing,
+    },
+    Plan {
+        title: "ten bytes",
+        command: Command {
+            bytes: b"1234567890",
+            ..SOLVE
+        },
+        more: More::Nothing,
+    },
+];
 
-/// Prints what a command answered, and whether its disk has these bytes.
-fn show_with_bytes<R: Print>(
-    rt: &R,
-    title: &str,
-    ran: &Answered,
-    what: &str,
-    bytes: &[u8],
-) -> Result<()> {
-    ran.show(rt, title)?;
-    let is_same = ran.disk.bytes() == bytes;
-    println!(rt; "{title}: {what}, {is_same}")?;
+/// Disks without a model.
+const EMPTY_DISKS: [Plan<'static>; 2] = [
+    Plan {
+        title: "resume on an empty disk",
+        command: Command {
+            line: "resume j c",
+            ..USUAL
+        },
+        more: More::Nothing,
+    },
+    Plan {
+        title: "show on an empty disk",
+        command: SHOW,
+        more: More::Nothing,
+    },
+];
+
+/// A search whose certificate fails at its second write.
+const WITHOUT_CERTIFICATE: Plan<'static> = Plan {
+    title: "a sink that fails",
+    command: Command {
+        cert: Stream {
+            failing: &[1],
+            ..SOUND
+        },
+        ..SOLVE
+    },
+    more: More::Nothing,
+};
+
+/// A search whose source fails at once.
+const WITHOUT_MODEL: Plan<'static> = Plan {
+    title: "a source that fails",
+    command: Command {
+        source: FAILS_AT_ONCE,
+        ..SOLVE
+    },
+    more: More::Calls,
+};
+
+/// Drills, whose own disks are in memory: to the end, and to three nodes.
+const DRILLS: [Plan<'static>; 2] = [
+    Plan {
+        title: "a drill",
+        command: Command {
+            line: "drill 1 c --cuts 0",
+            bytes: b"kept",
+            stop: Some(0),
+            ..USUAL
+        },
+        more: More::CallsOf(b"kept"),
+    },
+    Plan {
+        title: "a drill of three nodes",
+        command: Command {
+            line: "drill 1 c --cuts 0 --nodes 3",
+            ..USUAL
+        },
+        more: More::Nothing,
+    },
+];
+
+/// Searches that begin a journal, under their own words.
+fn show_begun<R: Print + Alloc<A = Global>>(rt: &R) -> Result<()> {
+    for &line in &BEGUN {
+        let plan = Plan {
+            title: line,
+            command: Command {
+                line,
+                model: ODD,
+                ..USUAL
+            },
+            more: More::Nothing,
+        };
+        show_plan(rt, &plan)?;
+    }
     Ok(())
 }
 
-/// Prints what a command answers, and whether it leaves these bytes on its disk.
-fn show_compared<R: Print + Alloc<A = Global>>(
-    rt: &R,
-    title: &str,
-    plan: &Plan<'_>,
-    what: &str,
-    bytes: &[u8],
-) -> Result<()> {
-    let ran = answer_to(rt.alloc(), plan)?;
-    show_with_bytes(rt, title, &ran, what, bytes)
+/// Commands over the journal of a search that was spent at one node: one that shows it, and one that goes on to three nodes.
+fn show_after<R: Print + Alloc<A = Global>>(rt: &R, bytes: &[u8]) -> Result<()> {
+    let shown = Plan {
+        title: "shown",
+        command: Command { bytes, ..SHOW },
+        more: More::Nothing,
+    };
+    let resumed = Plan {
+        title: "resumed to three nodes",
+        command: Command {
+            line: "resume j c --cuts 0 --nodes 3",
+            bytes,
+            ..USUAL
+        },
+        more: More::Nothing,
+    };
+    show_plan(rt, &shown)?;
+    show_plan(rt, &resumed)
+}
+
+/// A search that is spent at one node, and those that go on from there.
+fn show_spent<R: Print + Alloc<A = Global>>(rt: &R) -> Result<()> {
+    let disk = show_with_disk(rt, &SPENT)?;
+    show_after(rt, disk.bytes())?;
+    show_on(rt, &RESUMED, disk)
+}
+
+/// Commands that begin journals, and that go on with one.
+pub(crate) fn show_first<R: Print + Alloc<A = Global>>(rt: &R) -> Result<()> {
+    show_plan(rt, &ONE_EVENT)?;
+    show_begun(rt)?;
+    show_spent(rt)
+}
+
+/// The bytes of the journal of a finished search.
+fn finished(alloc: Global) -> Result<Vec<u8>> {
+    let one = Answered::run(alloc, &SOLVE)?;
+    Ok(one.disk.bytes().to_vec(alloc)?)
 }
 
 /// A journal of another model, and disks without a model.
 fn show_other_models<R: Print + Alloc<A = Global>>(rt: &R, journal: &[u8]) -> Result<()> {
-    let other = Plan::over(SOLVE, FAR, journal);
-    show_compared(
-        rt,
-        "another model",
-        &other,
-        "the disk is as it was",
-        journal,
-    )?;
-    show_answer(rt, "resume on an empty disk", &Plan::new("resume j c", ""))?;
-    show_answer(rt, "show on an empty disk", &Plan::new("show j", ""))
+    let plan = Plan {
+        title: "another model",
+        command: Command {
+            model: FAR,
+            bytes: journal,
+            ..SOLVE
+        },
+        more: More::Same("the disk is as it was", journal),
+    };
+    show_plan(rt, &plan)?;
+    show_plans(rt, &EMPTY_DISKS)
 }
 
-/// Puts fifty bytes of a frame behind others.
-fn push_frame(bytes: &mut Vec<u8>) -> Result<(), AllocError> {
-    for _ in 0..50 {
-        bytes.push(7)?;
-    }
-    Ok(())
-}
-
-/// The bytes of a journal whose last frame isn't whole though its gate is open.
-fn damaged(alloc: Global) -> Result<Vec<u8>, AllocError> {
-    let mut damaged = b"BNCJRNL1\x01\x64\0\0\0".to_vec(alloc)?;
-    push_frame(&mut damaged)?;
-    Ok(damaged)
-}
-
-/// Commands over these bytes of a journal.
-fn show_readings<R: Print + Alloc<A = Global>>(rt: &R, bytes: &[u8]) -> Result<()> {
-    for line in &READING {
-        show_answer(
+/// Prints what commands that read a journal answer over a disk that holds these bytes, or that stops at this call.
+fn show_reading<R: Print + Alloc<A = Global>>(
+    rt: &R,
+    title: &str,
+    bytes: &[u8],
+    stop: Option<u64>,
+) -> Result<()> {
+    for &line in &READING {
+        let command = Command {
+            line,
+            bytes,
+            stop,
+            ..SOLVE
+        };
+        let more = More::Nothing;
+        show_plan(
             rt,
-            "a frame that isn't whole",
-            &Plan::over(line, ONE, bytes),
+            &Plan {
+                title,
+                command,
+                more,
+            },
         )?;
     }
     Ok(())
 }
 
 /// A journal whose last frame isn't whole though its gate is open.
+fn damaged(alloc: Global) -> Result<Vec<u8>, AllocError> {
+    let mut damaged = b"BNCJRNL1\x01\x64\0\0\0".to_vec(alloc)?;
+    damaged.extend_from_slice(&[7; 50])?;
+    Ok(damaged)
+}
+
+/// Commands over a journal whose last frame isn't whole though its gate is open.
 fn show_damaged<R: Print + Alloc<A = Global>>(rt: &R) -> Result<()> {
     let damaged = damaged(rt.alloc())?;
-    show_readings(rt, &damaged)
+    show_reading(rt, "a frame that isn't whole", &damaged, None)
 }
 
-/// Closes the gate of a journal's last frame, and puts more bytes behind it.
-fn lengthen(journal: &mut Vec<u8>) -> Result<(), AllocError> {
-    if let Some(last) = journal.last_mut() {
+/// A journal with its gate closed, and more bytes behind it.
+fn longer(alloc: Global, journal: &[u8]) -> Result<Vec<u8>, AllocError> {
+    let mut longer = journal.to_vec(alloc)?;
+    if let Some(last) = longer.last_mut() {
         *last = 0x37;
     }
-    journal.extend_from_slice(b"and more")
+    longer.extend_from_slice(b"and more")?;
+    Ok(longer)
 }
 
-/// A journal behind whose closed gate more bytes stand.
-fn lengthened(alloc: Global, journal: &[u8]) -> Result<Vec<u8>, AllocError> {
-    let mut longer = journal.to_vec(alloc)?;
-    lengthen(&mut longer)?;
-    Ok(longer)
+/// Prints what a search answers over these bytes, and whether its journal is this one.
+fn show_recovered<R: Print + Alloc<A = Global>>(
+    rt: &R,
+    bytes: &[u8],
+    journal: &[u8],
+) -> Result<()> {
+    let plan = Plan {
+        title: "a closed gate and more behind it",
+        command: Command { bytes, ..SOLVE },
+        more: More::Same("recovered", journal),
+    };
+    show_plan(rt, &plan)
 }
 
 /// A journal behind whose closed gate more bytes stand, which don't count.
 fn show_longer<R: Print + Alloc<A = Global>>(rt: &R, journal: &[u8]) -> Result<()> {
-    let longer = lengthened(rt.alloc(), journal)?;
-    let plan = Plan::over(SOLVE, ONE, &longer);
-    show_compared(
-        rt,
-        "a closed gate and more behind it",
-        &plan,
-        "recovered",
-        journal,
-    )
+    let longer = longer(rt.alloc(), journal)?;
+    show_recovered(rt, &longer, journal)
 }
 
-/// The same command again, over what one left whose certificate's sink failed.
-fn show_again<R: Print + Alloc<A = Global>>(rt: &R, first: &Answered) -> Result<()> {
-    first.show(rt, "a sink that fails")?;
-    let journal = first.disk.bytes();
-    let plan = Plan::over(SOLVE, ONE, journal);
-    show_compared(rt, "with a good one", &plan, "no new event", journal)
+/// Prints what a search answers on a disk, and whether it still holds this journal.
+fn show_again<R: Print + Alloc<A = Global>>(rt: &R, disk: MemDisk, journal: &[u8]) -> Result<()> {
+    let plan = Plan {
+        title: "with a good one",
+        command: SOLVE,
+        more: More::Same("no new event", journal),
+    };
+    show_on(rt, &plan, disk)
 }
 
 /// A certificate's sink that fails, and the same command again.
 fn show_sink<R: Print + Alloc<A = Global>>(rt: &R) -> Result<()> {
-    let plan = Plan {
-        cert: Stream {
-            failing: &[1],
-            ..WHOLE
-        },
-        ..Plan::new(SOLVE, ONE)
-    };
-    let first = answer_to(rt.alloc(), &plan)?;
-    show_again(rt, &first)
+    let disk = show_with_disk(rt, &WITHOUT_CERTIFICATE)?;
+    let journal = disk.bytes().to_vec(rt.alloc())?;
+    show_again(rt, disk, &journal)
 }
 
-/// Prints what a command answered, and how many calls its disk had.
-fn show_with_calls<R: Print>(rt: &R, title: &str, ran: &Answered) -> Result<()> {
-    ran.show(rt, title)?;
-    let calls = ran.disk.calls();
-    println!(rt; "{title}: {calls} calls of the disk")?;
-    Ok(())
-}
-
-/// A source that fails.
-fn show_unread<R: Print + Alloc<A = Global>>(rt: &R) -> Result<()> {
-    let plan = Plan {
-        model: Stream {
-            failing: &[0],
-            ..WHOLE
-        },
-        ..Plan::new(SOLVE, ONE)
-    };
-    let ran = answer_to(rt.alloc(), &plan)?;
-    show_with_calls(rt, "a source that fails", &ran)
-}
-
-/// A command whose disk fails at once.
-fn show_failing_disk<R: Print + Alloc<A = Global>>(rt: &R, line: &str) -> Result<()> {
-    let plan = Plan {
-        stop: Some(0),
-        ..Plan::new(line, ONE)
-    };
-    show_answer(rt, "a disk that fails", &plan)
-}
-
-/// Sources and disks that fail at once.
-fn show_faults<R: Print + Alloc<A = Global>>(rt: &R) -> Result<()> {
-    show_unread(rt)?;
-    for line in &READING {
-        show_failing_disk(rt, line)?;
-    }
-    Ok(())
-}
-
-/// What is shown of a journal, and that nothing is written.
+/// What is shown of a journal, and that nothing is written, to a sink that takes it and to one that fails.
 fn show_figures<R: Print + Alloc<A = Global>>(rt: &R, journal: &[u8]) -> Result<()> {
-    let shown = Plan::over("show j", "", journal);
-    show_compared(
-        rt,
-        "a journal is shown",
-        &shown,
-        "the disk is as it was",
-        journal,
-    )?;
-    let plan = Plan {
-        out: Stream {
-            failing: &[0],
-            ..WHOLE
+    let shown = Plan {
+        title: "a journal is shown",
+        command: Command {
+            bytes: journal,
+            ..SHOW
         },
-        ..shown
+        more: More::Same("the disk is as it was", journal),
     };
-    show_answer(rt, "a journal is shown to a sink that fails", &plan)
-}
-
-/// Prints what a drill answered, and that it left the disk that it was handed alone.
-fn show_unused_disk<R: Print>(rt: &R, ran: &Answered) -> Result<()> {
-    ran.show(rt, "a drill")?;
-    let (calls, same) = (ran.disk.calls(), ran.disk.bytes() == b"kept".as_slice());
-    println!(rt; "a drill: {calls} calls of the disk, which is as it was, {same}")?;
-    Ok(())
-}
-
-/// A drill, whose own disk is in memory.
-fn show_drill<R: Print + Alloc<A = Global>>(rt: &R) -> Result<()> {
-    let plan = Plan {
-        stop: Some(0),
-        ..Plan::over("drill 1 c --cuts 0", "", b"kept")
+    let unwritten = Plan {
+        title: "a journal is shown to a sink that fails",
+        command: Command {
+            out: FAILS_AT_ONCE,
+            bytes: journal,
+            ..SHOW
+        },
+        more: More::Nothing,
     };
-    let ran = answer_to(rt.alloc(), &plan)?;
-    show_unused_disk(rt, &ran)
+    show_plan(rt, &shown)?;
+    show_plan(rt, &unwritten)
 }
 
-/// Commands over journals, and over the journal of a finished search.
-fn show_journals<R: Print + Alloc<A = Global>>(rt: &R, journal: &[u8]) -> Result<()> {
+/// Commands over other journals than this one of a finished search, over streams and disks that fail, and drills.
+fn show_beside<R: Print + Alloc<A = Global>>(rt: &R, journal: &[u8]) -> Result<()> {
+    show_plans(rt, &FEW_BYTES)?;
     show_other_models(rt, journal)?;
     show_damaged(rt)?;
     show_longer(rt, journal)?;
     show_sink(rt)?;
-    show_faults(rt)?;
-    show_figures(rt, journal)
+    show_plan(rt, &WITHOUT_MODEL)?;
+    show_reading(rt, "a disk that fails", b"", Some(0))?;
+    show_figures(rt, journal)?;
+    show_plans(rt, &DRILLS)
 }
 
-/// Finishes a search, and runs commands over its journal.
-fn show_finished<R: Print + Alloc<A = Global>>(rt: &R) -> Result<()> {
-    let one = answer_to(rt.alloc(), &Plan::new(SOLVE, ONE))?;
-    show_journals(rt, one.disk.bytes())
-}
-
-/// Runs them all.
-pub(crate) fn show<R: Print + Alloc<A = Global>>(rt: &R) -> Result<()> {
-    show_event(rt)?;
-    show_spent(rt)?;
-    show_stops(rt, "without cuts", "solve m j c --cuts 0", ODD)?;
-    show_stops(rt, "with an optimum", SOLVE, ONE)?;
-    show_few_bytes(rt)?;
-    show_finished(rt)?;
-    show_drill(rt)?;
-    let spent = Plan::new("drill 1 c --cuts 0 --nodes 3", "");
-    show_answer(rt, "a drill of three nodes", &spent)
+/// Commands over journals that aren't begun as they should be, over streams and disks that fail, and drills.
+pub(crate) fn show_others<R: Print + Alloc<A = Global>>(rt: &R) -> Result<()> {
+    let journal = finished(rt.alloc())?;
+    show_beside(rt, &journal)
 }

@@ -4,8 +4,10 @@
 
 mod command;
 mod journals;
+mod kinds;
 mod models;
 mod runs;
+mod shown;
 mod stops;
 mod workers;
 
@@ -13,6 +15,8 @@ use anyhow::Result;
 
 fn main(rt: HostRuntime) -> Result<()> {
     runs::show(&rt)?;
-    journals::show(&rt)?;
+    journals::show_first(&rt)?;
+    stops::show(&rt)?;
+    journals::show_others(&rt)?;
     workers::show(&rt)
 }

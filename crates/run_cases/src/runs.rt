@@ -1,99 +1,99 @@
 //! Whole runs in pieces, and runs whose source or sink fails.
 
-use crate::command::{Answered, Plan, Stream, WHOLE, answer_to, text_on};
+use crate::command::{Answered, Command, SOUND, Stream, USUAL};
 use crate::models::ONE;
+use crate::shown::show_certificate;
 use anyhow::Result;
 use std::alloc::Global;
+use std::io;
 
-/// The source of a model, the sink of a certificate, and that of the lines.
-type Case = (Stream, Stream, Stream);
-
-/// Streams in pieces of seven bytes.
-const SEVENS: Stream = Stream {
-    failing: &[],
-    most: Some(7),
+/// A run of which no call fails.
+const SOUND_RUN: Command<'static> = Command {
+    line: "solve model journal certificate",
+    model: ONE,
+    ..USUAL
 };
 
-/// Streams in pieces, and one for each stream that fails at its second call.
-const CASES: [Case; 4] = [
-    (SEVENS, SEVENS, SEVENS),
-    (
-        Stream {
+const IN_SEVENS: Stream<'static> = Stream {
+    failing: &[],
+    most: 7,
+};
+
+const FAILS_ONCE: Stream<'static> = Stream {
+    failing: &[1],
+    ..SOUND
+};
+
+/// A run in pieces, and one for each stream that fails at its second call.
+const RUNS: [Command<'static>; 4] = [
+    Command {
+        source: IN_SEVENS,
+        cert: IN_SEVENS,
+        out: IN_SEVENS,
+        ..SOUND_RUN
+    },
+    Command {
+        source: Stream {
             failing: &[1],
-            most: Some(20),
+            most: 20,
         },
-        WHOLE,
-        WHOLE,
-    ),
-    (
-        WHOLE,
-        Stream {
+        ..SOUND_RUN
+    },
+    Command {
+        cert: FAILS_ONCE,
+        ..SOUND_RUN
+    },
+    Command {
+        out: Stream {
             failing: &[1],
-            most: None,
+            most: 10,
         },
-        WHOLE,
-    ),
-    (
-        WHOLE,
-        WHOLE,
-        Stream {
-            failing: &[1],
-            most: Some(10),
-        },
-    ),
+        ..SOUND_RUN
+    },
 ];
 
-/// A certificate that is written whole, in a write for each of its 16 lines, and can't be kept.
-const UNFINISHED: Case = (
-    WHOLE,
-    Stream {
+/// A run whose certificate is written whole, in a write for each of its 16 lines, and can't be kept.
+const UNFINISHED: Command<'static> = Command {
+    cert: Stream {
         failing: &[16],
-        most: None,
+        ..SOUND
     },
-    WHOLE,
-);
-
-/// A run of the command over these streams.
-fn plan_of(case: &Case) -> Plan<'static> {
-    let (model, cert, out) = *case;
-    Plan {
-        model,
-        cert,
-        out,
-        ..Plan::new("solve model journal certificate", ONE)
-    }
-}
+    ..SOUND_RUN
+};
 
 /// Prints how a run ended: its status and its lines, and how often the certificate's sink failed and what it keeps.
-fn show_end<R: Print>(rt: &R, ran: &Answered) -> Result<()> {
-    let (status, lines) = (ran.status, text_on(&ran.out));
-    print!(rt; "run status {status}, lines {lines:?}, ")?;
-    let (faults, kept, taken) = (
-        ran.cert.faults(),
-        ran.cert.kept().len(),
-        ran.cert.bytes().len(),
-    );
-    println!(rt; "faults {faults}, kept {kept} of {taken} bytes")?;
+fn show_end<R: Print>(rt: &R, ran: &Answered) -> io::Result<()> {
+    let (status, lines) = (ran.status, ran.lines());
+    let cert = &ran.given.cert;
+    let (faults, kept, taken) = (cert.faults(), cert.kept().len(), cert.bytes().len());
+    println!(rt;
+        "run status {status}, lines {lines:?}, faults {faults}, kept {kept} of {taken} bytes"
+    )
+}
+
+/// Prints how a run ended, and its certificate if that is wanted.
+fn show_ran<R: Print>(rt: &R, ran: &Answered, with_certificate: bool) -> Result<()> {
+    show_end(rt, ran)?;
+    if with_certificate {
+        show_certificate(rt, "run certificate", ran)?;
+    }
     Ok(())
 }
 
-/// Prints how a run ended, and its certificate.
-fn show_with_certificate<R: Print>(rt: &R, ran: &Answered) -> Result<()> {
-    show_end(rt, ran)?;
-    ran.show_certificate(rt, "run certificate")
+/// Prints how a run ends, and its certificate if that is wanted.
+fn show_run<R: Print + Alloc<A = Global>>(
+    rt: &R,
+    command: &Command<'_>,
+    with_certificate: bool,
+) -> Result<()> {
+    let ran = Answered::run(rt.alloc(), command)?;
+    show_ran(rt, &ran, with_certificate)
 }
 
-/// Prints a run over these streams, and its certificate.
-fn show_case<R: Print + Alloc<A = Global>>(rt: &R, case: &Case) -> Result<()> {
-    let ran = answer_to(rt.alloc(), &plan_of(case))?;
-    show_with_certificate(rt, &ran)
-}
-
-/// Prints each run, and one whose certificate fails at its end.
+/// Prints how runs end.
 pub(crate) fn show<R: Print + Alloc<A = Global>>(rt: &R) -> Result<()> {
-    for case in &CASES {
-        show_case(rt, case)?;
+    for command in &RUNS {
+        show_run(rt, command, true)?;
     }
-    let ran = answer_to(rt.alloc(), &plan_of(&UNFINISHED))?;
-    show_end(rt, &ran)
+    show_run(rt, &UNFINISHED, false)
 }

@@ -1,12 +1,34 @@
-//! Commands that are stopped at each call of their disk, and gone on with from what a crash might leave.
+//! Commands whose disk is stopped at each call in turn, and that are run again on what a crash might leave.
 
-use crate::command::{Answered, Plan, answer_to};
+use crate::command::{Answered, Command, USUAL};
+use crate::models::{ODD, ONE};
 use anyhow::Result;
 use outside::MemDisk;
 use std::alloc::{AllocError, Global};
 use std::io;
 
-/// How often a command was stopped, from how many disks it was gone on with, and how often that ended otherwise.
+/// A search without cuts, which finds no point.
+const WITHOUT_CUTS: Command<'static> = Command {
+    line: "solve m j c --cuts 0",
+    model: ODD,
+    ..USUAL
+};
+
+/// A search with an optimum.
+const WITH_OPTIMUM: Command<'static> = Command {
+    line: "solve m j c",
+    model: ONE,
+    ..USUAL
+};
+
+/// A command on an empty disk, and what it answers where that isn't stopped.
+#[derive(Clone, Copy)]
+struct Whole<'a> {
+    command: &'a Command<'a>,
+    answered: &'a Answered,
+}
+
+/// Counts of runs that were stopped, and of those that went on.
 #[derive(Clone, Copy)]
 struct Stopped {
     stops: u64,
@@ -15,7 +37,7 @@ struct Stopped {
 }
 
 impl Stopped {
-    /// Nothing was tried yet.
+    /// No run.
     fn none() -> Stopped {
         Stopped {
             stops: 0,
@@ -24,13 +46,8 @@ impl Stopped {
         }
     }
 
-    /// Notes a run that was stopped.
-    fn stop(&mut self) {
-        self.stops = self.stops.saturating_add(1);
-    }
-
-    /// Notes a run from what a crash might leave.
-    fn go_on(&mut self, is_same: bool) {
+    /// Counts a run that went on, and whether it ended as the whole one did.
+    fn count_image(&mut self, is_same: bool) {
         self.images = self.images.saturating_add(1);
         if !is_same {
             self.differ = self.differ.saturating_add(1);
@@ -38,115 +55,116 @@ impl Stopped {
     }
 }
 
-/// A command with the answer that it gives where nothing stops it.
-#[derive(Clone, Copy)]
-struct Tried<'a> {
-    line: &'a str,
-    text: &'a str,
-    whole: &'a Answered,
-}
-
-/// Whether a command that begins with these bytes on its disk answers as one that isn't stopped.
-fn is_same_from(alloc: Global, tried: Tried<'_>, bytes: &[u8]) -> Result<bool> {
-    let again = answer_to(alloc, &Plan::over(tried.line, tried.text, bytes))?;
-    Ok(again.is_same(tried.whole))
-}
-
-/// Goes on from the image that is closest to a wish.
+/// Runs a command again on the bytes that are nearest to a wish among those that a crash might leave.
 fn go_on(
     alloc: Global,
-    tried: Tried<'_>,
-    counts: &mut Stopped,
+    whole: Whole<'_>,
     disk: &MemDisk,
     wish: &[u8],
+    counts: &mut Stopped,
 ) -> Result<()> {
     let image = disk.image(alloc, wish)?;
-    let is_same = is_same_from(alloc, tried, &image)?;
-    counts.go_on(is_same);
+    let is_same = ends_same(alloc, whole, &image)?;
+    counts.count_image(is_same);
     Ok(())
 }
 
-/// Goes on from what was kept.
-fn go_on_from_kept(
-    alloc: Global,
-    tried: Tried<'_>,
-    counts: &mut Stopped,
-    disk: &MemDisk,
-) -> Result<()> {
+/// Whether a command over these bytes ends as the whole one did.
+fn ends_same(alloc: Global, whole: Whole<'_>, bytes: &[u8]) -> Result<bool> {
+    let command = Command {
+        bytes,
+        ..*whole.command
+    };
+    let again = Answered::run(alloc, &command)?;
+    Ok(again.is_same(whole.answered))
+}
+
+/// Goes on where a crash left what was kept.
+fn go_on_kept(alloc: Global, whole: Whole<'_>, disk: &MemDisk, counts: &mut Stopped) -> Result<()> {
+    let wish = disk.kept(alloc)?;
+    go_on(alloc, whole, disk, &wish, counts)
+}
+
+/// Bytes of one value, as many as a read gives or were kept.
+fn filled(alloc: Global, disk: &MemDisk, value: u8) -> Result<Vec<u8>, AllocError> {
     let kept = disk.kept(alloc)?;
-    go_on(alloc, tried, counts, disk, &kept)
+    let size = disk.bytes().len().max(kept.len());
+    vec![in alloc; value; size]
 }
 
-/// The greatest size of an image.
-fn most_bytes(alloc: Global, disk: &MemDisk) -> Result<usize, AllocError> {
-    let kept = disk.kept(alloc)?;
-    Ok(disk.bytes().len().max(kept.len()))
-}
-
-/// Goes on from bytes of this value where they may be any.
-fn go_on_from_repeated(
+/// Goes on where a crash left this value where it may be any.
+fn go_on_filled(
     alloc: Global,
-    tried: Tried<'_>,
-    counts: &mut Stopped,
+    whole: Whole<'_>,
     disk: &MemDisk,
-    byte: u8,
+    value: u8,
+    counts: &mut Stopped,
 ) -> Result<()> {
-    let size = most_bytes(alloc, disk)?;
-    let wish = vec![in alloc; byte; size]?;
-    go_on(alloc, tried, counts, disk, &wish)
+    let wish = filled(alloc, disk, value)?;
+    go_on(alloc, whole, disk, &wish, counts)
 }
 
-/// Goes on from what a crash might leave of a disk: what was kept, what a read gives, and bytes of one value or none where they may be any.
-fn go_on_from_images(
-    alloc: Global,
-    tried: Tried<'_>,
-    counts: &mut Stopped,
-    disk: &MemDisk,
-) -> Result<()> {
-    go_on_from_kept(alloc, tried, counts, disk)?;
-    go_on(alloc, tried, counts, disk, disk.bytes())?;
-    go_on_from_repeated(alloc, tried, counts, disk, 0)?;
-    go_on_from_repeated(alloc, tried, counts, disk, 1)?;
-    go_on(alloc, tried, counts, disk, b"")
+/// Goes on with what a crash might leave: what was kept, what a read gives, and bytes of one value or none where they may be any.
+fn go_on_each(alloc: Global, whole: Whole<'_>, disk: &MemDisk, counts: &mut Stopped) -> Result<()> {
+    go_on_kept(alloc, whole, disk, counts)?;
+    go_on(alloc, whole, disk, disk.bytes(), counts)?;
+    go_on_filled(alloc, whole, disk, 0, counts)?;
+    go_on_filled(alloc, whole, disk, 1, counts)?;
+    go_on(alloc, whole, disk, &[], counts)
 }
 
-/// Goes on with a command whose disk was to stop, if it did. Whether it did.
-fn note_stop(
+/// Goes on with a run, if it was stopped. Whether it was.
+fn go_on_stopped(
     alloc: Global,
-    tried: Tried<'_>,
-    counts: &mut Stopped,
+    whole: Whole<'_>,
     ran: &Answered,
+    counts: &mut Stopped,
 ) -> Result<bool> {
     if ran.status != 6 {
         return Ok(false);
     }
-    counts.stop();
-    go_on_from_images(alloc, tried, counts, &ran.disk)?;
+    counts.stops = counts.stops.saturating_add(1);
+    go_on_each(alloc, whole, &ran.disk, counts)?;
     Ok(true)
 }
 
-/// Stops the disk of a command at this call, and runs it again on what a crash might leave. Whether it was stopped.
-fn stop_at(alloc: Global, tried: Tried<'_>, counts: &mut Stopped, call: u64) -> Result<bool> {
-    let plan = Plan {
+/// What a command answers whose disk is stopped at this call.
+fn stopped_at(alloc: Global, whole: Whole<'_>, call: u64) -> Result<Answered> {
+    let command = Command {
         stop: Some(call),
-        ..Plan::new(tried.line, tried.text)
+        ..*whole.command
     };
-    let ran = answer_to(alloc, &plan)?;
-    note_stop(alloc, tried, counts, &ran)
+    Answered::run(alloc, &command)
+}
+
+/// Stops the disk of a command at this call, and runs it again on what a crash might leave. Whether it was stopped.
+fn stop_at(alloc: Global, whole: Whole<'_>, call: u64, counts: &mut Stopped) -> Result<bool> {
+    let ran = stopped_at(alloc, whole, call)?;
+    go_on_stopped(alloc, whole, &ran, counts)
 }
 
 /// Stops the disk of a command at each call in turn.
-fn counted(alloc: Global, tried: Tried<'_>) -> Result<Stopped> {
+fn stop_at_each(alloc: Global, whole: Whole<'_>) -> Result<Stopped> {
     let mut counts = Stopped::none();
     for call in 0..10_000 {
-        if !stop_at(alloc, tried, &mut counts, call)? {
+        if !stop_at(alloc, whole, call, &mut counts)? {
             break;
         }
     }
     Ok(counts)
 }
 
-/// Prints the counts.
+/// Stops the disk of a command at each call in turn.
+fn counts_of(alloc: Global, command: &Command<'_>) -> Result<Stopped> {
+    let answered = Answered::run(alloc, command)?;
+    let whole = Whole {
+        command,
+        answered: &answered,
+    };
+    stop_at_each(alloc, whole)
+}
+
+/// Prints the counts of runs.
 fn show_counts<R: Print>(rt: &R, title: &str, counts: Stopped) -> io::Result<()> {
     let Stopped {
         stops,
@@ -158,27 +176,18 @@ fn show_counts<R: Print>(rt: &R, title: &str, counts: Stopped) -> io::Result<()>
     )
 }
 
-/// Stops the disk of a command at each call, and prints the counts.
-fn show_tried<R: Print + Alloc<A = Global>>(rt: &R, title: &str, tried: Tried<'_>) -> Result<()> {
-    let counts = counted(rt.alloc(), tried)?;
+/// Prints how often a command was stopped and went on.
+fn show_stops<R: Print + Alloc<A = Global>>(
+    rt: &R,
+    title: &str,
+    command: &Command<'_>,
+) -> Result<()> {
+    let counts = counts_of(rt.alloc(), command)?;
     Ok(show_counts(rt, title, counts)?)
 }
 
-/// Stops the disk of a command at each call in turn, and prints whether it ends as one that isn't stopped.
-pub(crate) fn show_stops<R: Print + Alloc<A = Global>>(
-    rt: &R,
-    title: &str,
-    line: &str,
-    text: &str,
-) -> Result<()> {
-    let whole = answer_to(rt.alloc(), &Plan::new(line, text))?;
-    show_tried(
-        rt,
-        title,
-        Tried {
-            line,
-            text,
-            whole: &whole,
-        },
-    )
+/// Prints how a search without an optimum and one with an optimum were stopped and went on.
+pub(crate) fn show<R: Print + Alloc<A = Global>>(rt: &R) -> Result<()> {
+    show_stops(rt, "without cuts", &WITHOUT_CUTS)?;
+    show_stops(rt, "with an optimum", &WITH_OPTIMUM)
 }

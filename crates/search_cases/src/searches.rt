@@ -1,13 +1,13 @@
 //! Searches that go on with a greater budget, without cuts and with them: one with an optimum, and one without a point.
 
-ghost use Rattle.std.specs.Prelude.{◌≡◌, ◌≤◌, [], None};
+ghost use Rattle.std.specs.Prelude.{◌≡◌, ◌≤◌, [], IfOk, None};
 ghost use Rattle.problem.specs.Limits.{most_cuts};
 ghost use Rattle.node_tree.specs.Limits.{most_nodes};
 
 use anyhow::Result;
-use case_pools::{into_state, memory_pool, with_budget};
+use case_pools::{drop_pool, memory_pool, with_budget};
 use case_tools::{NumberOrNone, problem_of};
-use core_search::search;
+use core_search::{Ending, search};
 use event_core::State;
 use node_pool::Pool;
 use outside::MemDisk;
@@ -38,18 +38,23 @@ fn show_best<R: Print>(rt: &R, state: &State) -> io::Result<()> {
     }
 }
 
-/// Searches on with so many cuts, and prints how that ends.
-fn show_search<R: Print + Alloc<A = Global>>(
-    rt: &R,
-    pool: &mut Pool<MemDisk>,
-    cuts: u32,
-) -> io::Result<()>
+/// Searches on with so many cuts.
+fn search_on(alloc: Global, pool: &mut Pool<MemDisk>, cuts: u32) -> Ending
     requires few_cuts { cuts ≤ most_cuts }
     requires unheld { pool.old.state.state.holds ≡ [] }
     requires sound { pool.old.halt ≡ None }
     ensures { pool.new.state.state.holds ≡ [] }
 {
-    let ending = search(rt.alloc(), pool, cuts);
+    search(alloc, pool, cuts)
+}
+
+/// Prints how a search with so many cuts ended.
+fn show_ending<R: Print>(
+    rt: &R,
+    pool: &Pool<MemDisk>,
+    cuts: u32,
+    ending: Ending,
+) -> io::Result<()> {
     let (budget, state) = (pool.budget(), pool.state());
     let (nodes, made, open, events) = (
         state.tree().len(),
@@ -63,54 +68,87 @@ fn show_search<R: Print + Alloc<A = Global>>(
     show_best(rt, state)
 }
 
-/// The state after a search of a model to so many nodes and cuts.
+/// The pool, if that could be printed.
+fn shown(pool: Pool<MemDisk>, printed: io::Result<()>) -> Result<Pool<MemDisk>>
+    requires { pool.state.state.holds ≡ [] }
+    ensures { IfOk result (λ p. p.state.state.holds ≡ []) }
+{
+    match printed {
+        Ok(()) => Ok(pool),
+        Err(fault) => {
+            drop_pool(pool);
+            Err(fault.into())
+        }
+    }
+}
+
+/// The pool after it was searched on with so many cuts, and how that ended was printed.
 fn searched<R: Print + Alloc<A = Global>>(
+    rt: &R,
+    pool: Pool<MemDisk>,
+    cuts: u32,
+) -> Result<Pool<MemDisk>>
+    requires few_cuts { cuts ≤ most_cuts }
+    requires unheld { pool.state.state.holds ≡ [] }
+    requires sound { pool.halt ≡ None }
+    ensures { IfOk result (λ p. p.state.state.holds ≡ []) }
+{
+    let mut pool = pool;
+    let ending = search_on(rt.alloc(), &mut pool, cuts);
+    let printed = show_ending(rt, &pool, cuts, ending);
+    shown(pool, printed)
+}
+
+/// The pool at the beginning of a model's search to so many nodes.
+fn pool_of(alloc: Global, model: &[u8], budget: u32) -> Result<Pool<MemDisk>>
+    requires { budget ≤ most_nodes }
+    ensures unheld { IfOk result (λ p. p.state.state.holds ≡ []) }
+    ensures sound { IfOk result (λ p. p.halt ≡ None) }
+{
+    let problem = problem_of(alloc, model)?;
+    memory_pool(alloc, problem, budget)
+}
+
+/// Prints the search of a model to so many nodes and cuts.
+fn show_search<R: Print + Alloc<A = Global>>(
     rt: &R,
     model: &[u8],
     budget: u32,
     cuts: u32,
-) -> Result<State>
+) -> Result<()>
     requires few { budget ≤ most_nodes }
     requires few_cuts { cuts ≤ most_cuts }
 {
-    let problem = problem_of(rt.alloc(), model)?;
-    let mut pool = memory_pool(rt.alloc(), problem, budget)?;
-    let shown = show_search(rt, &mut pool, cuts);
-    let state = into_state(pool);
-    shown?;
-    Ok(state)
+    let pool = pool_of(rt.alloc(), model, budget)?;
+    let pool = searched(rt, pool, cuts)?;
+    drop_pool(pool);
+    Ok(())
 }
 
-/// The state after a search of a model to so many nodes, which then goes on to more. No cuts are made.
+/// The pool after a search of a model to so many nodes, which then goes on to more. No cuts are made.
 fn searched_on<R: Print + Alloc<A = Global>>(
     rt: &R,
     model: &[u8],
     budget: u32,
     more: u32,
-) -> Result<State>
+) -> Result<Pool<MemDisk>>
     requires few { budget ≤ most_nodes }
     requires few_more { more ≤ most_nodes }
 {
-    let problem = problem_of(rt.alloc(), model)?;
-    let mut pool = memory_pool(rt.alloc(), problem, budget)?;
-    let shown = show_search(rt, &mut pool, 0);
-    let mut pool = with_budget(rt.alloc(), pool, more)?;
-    let shown_more = show_search(rt, &mut pool, 0);
-    let state = into_state(pool);
-    shown?;
-    shown_more?;
-    Ok(state)
+    let pool = pool_of(rt.alloc(), model, budget)?;
+    let pool = searched(rt, pool, 0)?;
+    let pool = with_budget(rt.alloc(), pool, more)?;
+    searched(rt, pool, 0)
 }
 
-/// The state after the search of the problem that no point satisfies.
-pub(crate) fn finished<R: Print + Alloc<A = Global>>(rt: &R) -> Result<State> {
+/// The pool after the search of the problem that no point satisfies.
+pub(crate) fn finished<R: Print + Alloc<A = Global>>(rt: &R) -> Result<Pool<MemDisk>> {
     searched_on(rt, PARITY, 4, 5)
 }
 
 /// Prints how a search goes on.
 pub(crate) fn show<R: Print + Alloc<A = Global>>(rt: &R) -> Result<()> {
-    searched_on(rt, KNAPSACK, 2, 3)?;
-    searched(rt, KNAPSACK, 1, 256)?;
-    searched(rt, PARITY, 1, 256)?;
-    Ok(())
+    drop_pool(searched_on(rt, KNAPSACK, 2, 3)?);
+    show_search(rt, KNAPSACK, 1, 256)?;
+    show_search(rt, PARITY, 1, 256)
 }

@@ -1,0 +1,158 @@
+//! What is printed of the answers of commands.
+
+use crate::command::{Answered, Command};
+use anyhow::Result;
+use outside::MemDisk;
+use std::alloc::Global;
+use std::io;
+
+/// What is printed of an answer behind its first line.
+#[derive(Clone, Copy)]
+pub enum More<'a> {
+    Nothing,
+    /// The certificate.
+    Certificate,
+    /// The last 16 bytes of the journal.
+    End,
+    /// How often the disk was called.
+    Calls,
+    /// The same, and whether the disk still holds these bytes.
+    CallsOf(&'a [u8]),
+    /// Whether the disk holds these bytes, under words of their own.
+    Same(&'a str, &'a [u8]),
+}
+
+/// A command, and what is printed of its answer under a title.
+#[derive(Clone, Copy)]
+pub struct Plan<'a> {
+    pub title: &'a str,
+    pub command: Command<'a>,
+    pub more: More<'a>,
+}
+
+/// Prints how many events a search had, if there is one, and ends the line.
+fn show_events<R: Print>(rt: &R, ran: &Answered) -> io::Result<()> {
+    match ran.kinds {
+        Some(kinds) => {
+            let events = kinds.events;
+            println!(rt; "a search of {events} events")
+        }
+        None => println!(rt; "no search"),
+    }
+}
+
+/// Prints the status and the lines, and how many events the search had that was handed back.
+fn show_answer<R: Print>(rt: &R, title: &str, ran: &Answered) -> io::Result<()> {
+    let (status, lines) = (ran.status, ran.lines());
+    let certificate = ran.certificate().lines().count();
+    print!(rt; "{title}: status {status}, lines {lines:?}, certificate of {certificate} lines, ")?;
+    show_events(rt, ran)
+}
+
+/// Prints the certificate.
+pub(crate) fn show_certificate<R: Print>(rt: &R, title: &str, ran: &Answered) -> io::Result<()> {
+    for line in ran.certificate().lines() {
+        println!(rt; "{title} {line}")?;
+    }
+    Ok(())
+}
+
+/// Prints bytes in hexadecimal and ends the line.
+fn show_hexadecimal<R: Print>(rt: &R, bytes: &[u8]) -> io::Result<()> {
+    for byte in bytes {
+        print!(rt; " {byte:02x}")?;
+    }
+    println!(rt; "")
+}
+
+/// Prints the last 16 bytes of a disk in hexadecimal.
+fn show_end<R: Print>(rt: &R, disk: &MemDisk) -> io::Result<()> {
+    let start = disk.bytes().len().saturating_sub(16);
+    print!(rt; "its journal ends with:")?;
+    show_hexadecimal(rt, &disk.bytes()[start..])
+}
+
+/// Prints how often a disk was called, and whether it still holds these bytes.
+fn show_calls_of<R: Print>(rt: &R, title: &str, disk: &MemDisk, bytes: &[u8]) -> io::Result<()> {
+    let (calls, is_same) = (disk.calls(), disk.bytes() == bytes);
+    println!(rt; "{title}: {calls} calls of the disk, which is as it was, {is_same}")
+}
+
+/// Prints whether a disk holds these bytes.
+fn show_same<R: Print>(
+    rt: &R,
+    title: &str,
+    what: &str,
+    disk: &MemDisk,
+    bytes: &[u8],
+) -> io::Result<()> {
+    let is_same = disk.bytes() == bytes;
+    println!(rt; "{title}: {what}, {is_same}")
+}
+
+/// Prints more of an answer.
+fn show_more<R: Print>(rt: &R, title: &str, ran: &Answered, more: More<'_>) -> io::Result<()> {
+    match more {
+        More::Nothing => Ok(()),
+        More::Certificate => show_certificate(rt, title, ran),
+        More::End => show_end(rt, &ran.disk),
+        More::Calls => {
+            let calls = ran.disk.calls();
+            println!(rt; "{title}: {calls} calls of the disk")
+        }
+        More::CallsOf(bytes) => show_calls_of(rt, title, &ran.disk, bytes),
+        More::Same(what, bytes) => show_same(rt, title, what, &ran.disk, bytes),
+    }
+}
+
+/// Prints an answer.
+fn show_all<R: Print>(rt: &R, title: &str, ran: &Answered, more: More<'_>) -> Result<()> {
+    show_answer(rt, title, ran)?;
+    show_more(rt, title, ran, more)?;
+    Ok(())
+}
+
+/// Prints what a command answers on this disk.
+pub(crate) fn show_on<R: Print + Alloc<A = Global>>(
+    rt: &R,
+    plan: &Plan<'_>,
+    disk: MemDisk,
+) -> Result<()> {
+    let ran = Answered::run_on(rt.alloc(), &plan.command, disk)?;
+    show_all(rt, plan.title, &ran, plan.more)
+}
+
+/// Prints what a command answers on its own disk.
+pub(crate) fn show_plan<R: Print + Alloc<A = Global>>(rt: &R, plan: &Plan<'_>) -> Result<()> {
+    let disk = plan.command.disk(rt.alloc())?;
+    show_on(rt, plan, disk)
+}
+
+/// Prints what commands answer.
+pub(crate) fn show_plans<R: Print + Alloc<A = Global>>(rt: &R, plans: &[Plan<'_>]) -> Result<()> {
+    for plan in plans {
+        show_plan(rt, plan)?;
+    }
+    Ok(())
+}
+
+/// The disk that a command left.
+pub(crate) fn disk_of(ran: Answered) -> MemDisk {
+    let Answered {
+        status: _,
+        given: _,
+        disk,
+        kinds: _,
+    } = ran;
+    disk
+}
+
+/// Prints what a command answers on its own disk. The disk as it left it.
+pub(crate) fn show_with_disk<R: Print + Alloc<A = Global>>(
+    rt: &R,
+    plan: &Plan<'_>,
+) -> Result<MemDisk> {
+    let ran = Answered::run(rt.alloc(), &plan.command)?;
+    show_all(rt, plan.title, &ran, plan.more)?;
+    Ok(disk_of(ran))
+}
