@@ -4,6 +4,7 @@ use crate::{Destination, FileSink, FileSource, Spared};
 use outside::{Got, Put, Sink, Source, write_all};
 use std::fs::File;
 use std::io::{ErrorKind, Read, Write};
+use std::path::Path;
 use std::test::Fail;
 use std::{env, fs, io, process};
 
@@ -13,92 +14,199 @@ const NONE: Spared<'static> = Spared {
     journal: None,
 };
 
-/// A path for a file of this test alone.
-fn scratch(rt: &HostRuntime, name: &str) -> Result<String, Fail> {
-    let folder = env::temp_dir(rt)?;
+/// The path of a file of one test alone in a folder.
+fn named(rt: &HostRuntime, folder: Path<'_>, name: &str) -> Option<String> {
+    let folder = folder.to_string_lossy();
     let number = process::id(rt.process());
-    let folder = folder.as_path().to_string_lossy();
-    Ok(format!(in rt.alloc(); "{folder}/bnc-{number}-{name}")?)
+    format!(in rt.alloc(); "{folder}/bnc-{number}-{name}").ok()
+}
+
+/// A path for a file of this test alone; none where it can't be told.
+fn scratch(rt: &HostRuntime, name: &str) -> Option<String> {
+    match env::temp_dir(rt) {
+        Ok(folder) => named(rt, folder.as_path(), name),
+        Err(_) => None,
+    }
+}
+
+/// The path as a text.
+fn text(path: &Option<String>) -> &str {
+    path.as_deref().unwrap_or("")
 }
 
 /// Whether the file at the path holds this text.
-fn holds(rt: &HostRuntime, path: &String, text: &str) -> bool {
-    match fs::read_to_string(rt, path.as_str()) {
-        Ok(held) => held.as_str() == text,
+fn holds(rt: &HostRuntime, path: &Option<String>, held: &str) -> bool {
+    match fs::read_to_string(rt, text(path)) {
+        Ok(read) => read.as_str() == held,
         Err(_) => false,
     }
 }
 
 /// Whether there is no file at the path, and that can be told.
-fn is_gone(rt: &HostRuntime, path: &String) -> bool {
-    matches!(fs::exists(rt, path.as_str()), Ok(false))
+fn is_gone(rt: &HostRuntime, path: &Option<String>) -> bool {
+    path.is_some() && matches!(fs::exists(rt, text(path)), Ok(false))
 }
 
-/// Whether the text was written to the file at the path.
-fn fill(rt: &HostRuntime, path: &String, text: &str) -> bool {
-    fs::write(rt, path.as_str(), text).is_ok()
+/// Whether the bytes were written to the file at the path.
+fn fill(rt: &HostRuntime, path: &Option<String>, bytes: &[u8]) -> bool {
+    fs::write(rt, text(path), bytes).is_ok()
 }
 
 /// Whether the file at the path was removed.
-fn remove(rt: &HostRuntime, path: &String) -> bool {
-    fs::remove_file(rt, path.as_str()).is_ok()
+fn remove(rt: &HostRuntime, path: &Option<String>) -> bool {
+    fs::remove_file(rt, text(path)).is_ok()
 }
 
 /// The name under which a file is written before it takes its place.
-fn part_of(rt: &HostRuntime, path: &String) -> Result<String, Fail> {
-    Ok(format!(in rt.alloc(); "{}.1.part", path.as_str())?)
+fn part_of(rt: &HostRuntime, path: &Option<String>) -> Option<String> {
+    let path = path.as_deref()?;
+    format!(in rt.alloc(); "{path}.1.part").ok()
 }
 
 /// A place of this path, or of none, where these are spared.
-fn place<'a>(rt: &'a HostRuntime, path: Option<&'a String>, spared: Spared<'a>) -> Destination<'a> {
+fn place<'a>(rt: &'a HostRuntime, path: &'a Option<String>, spared: Spared<'a>) -> Destination<'a> {
     Destination {
-        path,
+        path: path.as_ref(),
         spared,
         streams: (rt.stdout(), rt.stderr()),
     }
 }
 
-/// Whether a sink that is let go before its end leaves the older file.
-fn leaves_the_older<'a>(rt: &'a HostRuntime, path: &'a String, part: &'a String) -> bool {
-    let mut sink = FileSink::new(rt, place(rt, Some(path), NONE));
-    write_all(&mut sink, b"VER ").is_ok()
-        && holds(rt, path, "old and long\n")
-        && holds(rt, part, "VER ")
+/// What is done with a sink or beside it, and what comes of it.
+#[derive(Clone, Copy)]
+enum Step {
+    /// All these bytes are written.
+    WriteAll(&'static [u8]),
+    /// A write of three bytes takes them all, or fails.
+    Write,
+    WriteFails,
+    Finish,
+    FinishFails,
+    /// The file holds this text, or that of the other name does.
+    Holds(&'static str),
+    OtherHolds(&'static str),
+    /// A write fails while somebody has the lock of the file.
+    InUse,
+    /// A write by somebody else fails.
+    Taken,
+    /// Somebody writes this text to a file of the name.
+    Fill(&'static str),
+    /// Somebody gives the file the other name, or removes it.
+    Rename,
+    Remove,
 }
 
-/// Whether a sink that is ended takes the place of the older file.
-fn takes_its_place<'a>(rt: &'a HostRuntime, path: &'a String) -> bool {
-    let mut sink = FileSink::new(rt, place(rt, Some(path), NONE));
-    write_all(&mut sink, b"VER ").is_ok()
-        && write_all(&mut sink, b"1.0\n").is_ok()
-        && sink.finish().is_ok()
-        && holds(rt, path, "VER 1.0\n")
-        && sink.finish().is_ok()
-}
-
-/// Whether a sink without a path fails.
-fn fails_without_a_path(rt: &HostRuntime) -> bool {
-    let mut sink = FileSink::new(rt, place(rt, None, NONE));
-    sink.write(b"VER") == Put::Failed && sink.write(b"VER") == Put::Failed && sink.finish().is_ok()
-}
-
-#[test]
-fn sink(rt: HostRuntime) -> Result<(), Fail> {
-    let path = scratch(&rt, "sink")?;
-    let part = part_of(&rt, &path)?;
-    assert!(rt; fill(&rt, &path, "old and long\n"));
-    assert!(rt; leaves_the_older(&rt, &path, &part));
-    assert!(rt; is_gone(&rt, &part));
-    assert!(rt; takes_its_place(&rt, &path));
-    assert!(rt; is_gone(&rt, &part));
-    assert!(rt; remove(&rt, &path));
-    assert!(rt; fails_without_a_path(&rt));
-    Ok(())
-}
+use Step::*;
 
 /// What a sink answers that writes three bytes to a place.
 fn put(rt: &HostRuntime, place: Destination<'_>) -> Put {
     FileSink::new(rt, place).write(b"VER")
+}
+
+/// Whether a sink fails while somebody has the lock of a file.
+fn fails_beside(user: &File, sink: &mut FileSink<'_, HostRuntime>) -> bool {
+    user.try_lock().is_ok() && sink.write(b"VER") == Put::Failed
+}
+
+/// Whether a sink fails while somebody has the lock of the file at its path.
+fn fails_in_use(
+    rt: &HostRuntime,
+    path: &Option<String>,
+    sink: &mut FileSink<'_, HostRuntime>,
+) -> bool {
+    match File::open(rt, text(path)) {
+        Ok(user) => fails_beside(&user, sink),
+        Err(_) => false,
+    }
+}
+
+/// Whether an older file got another name.
+fn rename(rt: &HostRuntime, path: &Option<String>, other: &Option<String>) -> bool {
+    fs::rename(rt, text(path), text(other)).is_ok()
+}
+
+/// Whether this comes of a step with the sink of a file at this path.
+fn comes<'a>(
+    rt: &'a HostRuntime,
+    (path, other): (&'a Option<String>, &'a Option<String>),
+    sink: &mut FileSink<'_, HostRuntime>,
+    step: Step,
+) -> bool {
+    match step {
+        WriteAll(bytes) => write_all(sink, bytes).is_ok(),
+        Write => sink.write(b"VER") == Put::Took(3),
+        WriteFails => sink.write(b"VER") == Put::Failed,
+        Finish => sink.finish().is_ok(),
+        FinishFails => sink.finish().is_err(),
+        Holds(bytes) => holds(rt, path, bytes),
+        OtherHolds(bytes) => holds(rt, other, bytes),
+        InUse => fails_in_use(rt, path, sink),
+        Taken => put(rt, place(rt, path, NONE)) == Put::Failed,
+        Fill(bytes) => fill(rt, path, bytes.as_bytes()),
+        Rename => rename(rt, path, other),
+        Remove => remove(rt, path),
+    }
+}
+
+/// Whether it comes so, step after step.
+fn all_come<'a>(
+    rt: &'a HostRuntime,
+    (path, other): (&'a Option<String>, &'a Option<String>),
+    sink: &mut FileSink<'_, HostRuntime>,
+    steps: &[Step],
+) -> bool {
+    for step in steps {
+        if !comes(rt, (path, other), sink, *step) {
+            return false;
+        }
+    }
+    true
+}
+
+/// Whether it comes so with a new sink at this path.
+fn is_sink<'a>(
+    rt: &'a HostRuntime,
+    path: &'a Option<String>,
+    other: &'a Option<String>,
+    steps: &[Step],
+) -> bool {
+    let mut sink = FileSink::new(rt, place(rt, path, NONE));
+    all_come(rt, (path, other), &mut sink, steps)
+}
+
+/// A sink that is let go before its end leaves the older file,
+const LET_GO: [Step; 3] = [
+    WriteAll(b"VER "),
+    Holds("old and long\n"),
+    OtherHolds("VER "),
+];
+
+/// and one that is ended takes its place.
+const ENDED: [Step; 5] = [
+    WriteAll(b"VER "),
+    WriteAll(b"1.0\n"),
+    Finish,
+    Holds("VER 1.0\n"),
+    Finish,
+];
+
+/// Whether a sink leaves an older file until it is ended.
+fn replaces_at_its_end(rt: &HostRuntime, path: &Option<String>, part: &Option<String>) -> bool {
+    fill(rt, path, b"old and long\n")
+        && is_sink(rt, path, part, &LET_GO)
+        && is_gone(rt, part)
+        && is_sink(rt, path, part, &ENDED)
+        && is_gone(rt, part)
+        && remove(rt, path)
+}
+
+#[test]
+fn sink(rt: HostRuntime) -> Result<(), Fail> {
+    let path = scratch(&rt, "sink");
+    let part = part_of(&rt, &path);
+    assert!(rt; replaces_at_its_end(&rt, &path, &part));
+    assert!(rt; is_sink(&rt, &None, &None, &[WriteFails, WriteFails, Finish]));
+    Ok(())
 }
 
 /// Whether a place is refused before a run and in it.
@@ -107,155 +215,207 @@ fn is_refused(rt: &HostRuntime, place: Destination<'_>) -> bool {
 }
 
 /// Whether a journal's file is spared under another name.
-fn is_spared_by_path<'a>(rt: &'a HostRuntime, path: &'a String, other: &'a String) -> bool {
+fn is_spared_by_path(rt: &HostRuntime, path: &Option<String>, other: &Option<String>) -> bool {
     let spared = Spared {
-        journal: Some(path.as_str()),
+        journal: path.as_deref(),
         ..NONE
     };
-    is_refused(rt, place(rt, Some(other), spared))
+    is_refused(rt, place(rt, other, spared))
 }
 
-/// Whether a model's file is spared while it is open, though its own name is gone.
-fn is_spared_while_open<'a>(rt: &'a HostRuntime, path: &'a String, other: &'a String) -> bool {
-    let source = FileSource::open(rt, Some(path.as_str()));
+/// Whether a file is removed, and the one of a source that is open is spared under another name.
+fn is_open_spared<'a>(
+    rt: &'a HostRuntime,
+    path: &'a Option<String>,
+    other: &'a Option<String>,
+    source: &FileSource,
+) -> bool {
     let spared = Spared {
         open: source.inode(),
         ..NONE
     };
-    remove(rt, path) && put(rt, place(rt, Some(other), spared)) == Put::Failed
+    remove(rt, path) && put(rt, place(rt, other, spared)) == Put::Failed
+}
+
+/// Whether a model's file is spared while it is open, though its own name is gone.
+fn is_spared_while_open(rt: &HostRuntime, path: &Option<String>, other: &Option<String>) -> bool {
+    let source = FileSource::open(rt, path.as_deref());
+    is_open_spared(rt, path, other, &source)
+}
+
+/// Whether a file got another name beside its own.
+fn link(rt: &HostRuntime, path: &Option<String>, other: &Option<String>) -> bool {
+    fs::hard_link(rt, text(path), text(other)).is_ok()
+}
+
+/// Whether a file of two names is spared under the other one.
+fn is_other_name_spared(rt: &HostRuntime, path: &Option<String>, other: &Option<String>) -> bool {
+    fill(rt, path, b"NAME one\n")
+        && link(rt, path, other)
+        && is_spared_by_path(rt, path, other)
+        && is_spared_while_open(rt, path, other)
+        && holds(rt, other, "NAME one\n")
+        && remove(rt, other)
 }
 
 #[test]
 fn a_file_under_another_name_is_spared(rt: HostRuntime) -> Result<(), Fail> {
-    let path = scratch(&rt, "spared")?;
-    let other = scratch(&rt, "other")?;
-    assert!(rt; fill(&rt, &path, "NAME one\n"));
-    assert!(rt; fs::hard_link(&rt, path.as_str(), other.as_str()).is_ok());
-    assert!(rt; is_spared_by_path(&rt, &path, &other));
-    assert!(rt; is_spared_while_open(&rt, &path, &other));
-    assert!(rt; holds(&rt, &other, "NAME one\n"));
-    assert!(rt; remove(&rt, &other));
+    let path = scratch(&rt, "spared");
+    let other = scratch(&rt, "other");
+    assert!(rt; is_other_name_spared(&rt, &path, &other));
     Ok(())
 }
 
 /// A journal whose first record is that of a model with the text 'NAME one', and its mark alone.
 const JOURNAL: &[u8] = b"BNCJRNL1\x01\x14\0\0\0\x01\x01\0\0\0\0\0\0\0\0\0NAME one\n\0";
 
+/// Texts of a journal's beginning, of the model, and of the journal's model.
+const SPARED: [&str; 4] = ["BNCJRNL1", "BNCJRNL1\0", "NAME two\n", "NAME one\n"];
+
+/// Texts of none of these.
+const REPLACED: [&str; 5] = ["", "BNCJRNL", "NAME tow\n", "NAME one", "NAME one\n\n"];
+
 /// A place of this path, which isn't to be this model or the model of this journal.
 fn beside<'a>(
     rt: &'a HostRuntime,
-    path: &'a String,
-    model: &'a String,
-    journal: &'a String,
+    path: &'a Option<String>,
+    model: &'a Option<String>,
+    journal: &'a Option<String>,
 ) -> Destination<'a> {
     let spared = Spared {
         open: Ok(None),
-        model: Some(model.as_str()),
-        journal: Some(journal.as_str()),
+        model: model.as_deref(),
+        journal: journal.as_deref(),
     };
-    place(rt, Some(path), spared)
+    place(rt, path, spared)
 }
 
 /// Whether a file of this text is spared.
-fn is_spared(rt: &HostRuntime, path: &String, there: Destination<'_>, text: &str) -> bool {
-    fill(rt, path, text) && is_refused(rt, there) && holds(rt, path, text)
+fn is_spared(rt: &HostRuntime, path: &Option<String>, there: Destination<'_>, text: &str) -> bool {
+    fill(rt, path, text.as_bytes()) && is_refused(rt, there) && holds(rt, path, text)
 }
 
 /// Whether a file of this text isn't spared, and stays until another is whole.
-fn is_replaced(rt: &HostRuntime, path: &String, there: Destination<'_>, text: &str) -> bool {
-    fill(rt, path, text)
+fn is_replaced(
+    rt: &HostRuntime,
+    path: &Option<String>,
+    there: Destination<'_>,
+    text: &str,
+) -> bool {
+    fill(rt, path, text.as_bytes())
         && there.look(rt).is_ok()
         && put(rt, there) == Put::Took(3)
         && holds(rt, path, text)
 }
 
+/// Whether files of such texts are spared.
+fn are_spared(rt: &HostRuntime, path: &Option<String>, there: Destination<'_>) -> bool {
+    for text in &SPARED {
+        if !is_spared(rt, path, there, text) {
+            return false;
+        }
+    }
+    true
+}
+
+/// Whether files of other texts are not.
+fn are_replaced(rt: &HostRuntime, path: &Option<String>, there: Destination<'_>) -> bool {
+    for text in &REPLACED {
+        if !is_replaced(rt, path, there, text) {
+            return false;
+        }
+    }
+    true
+}
+
+/// Whether a file is spared or not by its content.
+fn is_content_looked_at(
+    rt: &HostRuntime,
+    path: &Option<String>,
+    model: &Option<String>,
+    journal: &Option<String>,
+) -> bool {
+    let there = beside(rt, path, model, journal);
+    are_spared(rt, path, there) && are_replaced(rt, path, there) && remove(rt, path)
+}
+
+/// Whether the content of a file is compared with a model and with the model of a journal.
+fn is_compared(rt: &HostRuntime, model: &Option<String>, journal: &Option<String>) -> bool {
+    let path = scratch(rt, "content");
+    fill(rt, model, b"NAME two\n")
+        && fill(rt, journal, JOURNAL)
+        && is_content_looked_at(rt, &path, model, journal)
+}
+
 #[test]
 fn a_file_of_such_content_is_spared(rt: HostRuntime) -> Result<(), Fail> {
-    let path = scratch(&rt, "content")?;
-    let model = scratch(&rt, "model")?;
-    let journal = scratch(&rt, "journal")?;
-    assert!(rt; fill(&rt, &model, "NAME two\n"));
-    assert!(rt; fs::write(&rt, journal.as_str(), JOURNAL).is_ok());
-    let there = beside(&rt, &path, &model, &journal);
-    for text in &["BNCJRNL1", "BNCJRNL1\0", "NAME two\n", "NAME one\n"] {
-        assert!(rt; is_spared(&rt, &path, there, text));
-    }
-    for text in &["", "BNCJRNL", "NAME tow\n", "NAME one", "NAME one\n\n"] {
-        assert!(rt; is_replaced(&rt, &path, there, text));
-    }
-    assert!(rt; remove(&rt, &path) && remove(&rt, &model) && remove(&rt, &journal));
+    let model = scratch(&rt, "model");
+    let journal = scratch(&rt, "journal");
+    assert!(rt; is_compared(&rt, &model, &journal));
+    assert!(rt; remove(&rt, &model) && remove(&rt, &journal));
     Ok(())
 }
 
-/// Whether a sink fails while somebody has the lock of the file at its path.
-fn fails_in_use(rt: &HostRuntime, path: &String, sink: &mut FileSink<'_, HostRuntime>) -> bool {
-    match File::open(rt, path.as_str()) {
-        Ok(user) => user.try_lock().is_ok() && sink.write(b"VER") == Put::Failed,
-        Err(_) => false,
-    }
-}
-
-/// Whether a file in use is spared, and one that a sink writes is in use.
-fn spares_what_is_in_use<'a>(rt: &'a HostRuntime, path: &'a String) -> bool {
-    let there = place(rt, Some(path), NONE);
-    let mut sink = FileSink::new(rt, there);
-    fails_in_use(rt, path, &mut sink)
-        && holds(rt, path, "VER old")
-        && sink.write(b"VER") == Put::Took(3)
-        && put(rt, there) == Put::Failed
-        && sink.finish().is_ok()
-}
+/// A file in use is spared, and one that a sink writes is in use.
+const IN_USE: [Step; 5] = [InUse, Holds("VER old"), Write, Taken, Finish];
 
 #[test]
 fn a_file_in_use_is_spared(rt: HostRuntime) -> Result<(), Fail> {
-    let path = scratch(&rt, "in-use")?;
-    assert!(rt; fill(&rt, &path, "VER old"));
-    assert!(rt; spares_what_is_in_use(&rt, &path));
-    assert!(rt; remove(&rt, &path));
+    let path = scratch(&rt, "in-use");
+    assert!(rt; fill(&rt, &path, b"VER old"));
+    assert!(rt; is_sink(&rt, &path, &None, &IN_USE) && remove(&rt, &path));
     Ok(())
 }
 
-/// Whether an older file got another name.
-fn rename(rt: &HostRuntime, path: &String, other: &String) -> bool {
-    fs::rename(rt, path.as_str(), other.as_str()).is_ok()
+/// A sink has nothing to end before its first write. If its place was taken meanwhile, it leaves what took it,
+const NEW_PLACE: [Step; 7] = [
+    Finish,
+    Write,
+    Fill("another"),
+    FinishFails,
+    Holds("another"),
+    Remove,
+    FinishFails,
+];
+
+/// also where an older file was renamed before.
+const OLD_PLACE: [Step; 8] = [
+    Finish,
+    Write,
+    Rename,
+    Fill("another"),
+    FinishFails,
+    Holds("another"),
+    Remove,
+    FinishFails,
+];
+
+/// Whether what took a place is left, where there was no older file and where there was one.
+fn is_taken_place_left(rt: &HostRuntime, path: &Option<String>, other: &Option<String>) -> bool {
+    is_sink(rt, path, other, &NEW_PLACE)
+        && fill(rt, path, b"older")
+        && is_sink(rt, path, other, &OLD_PLACE)
+        && holds(rt, other, "older")
+        && remove(rt, other)
 }
 
-/// Whether a sink whose place was taken meanwhile leaves what took it. An older file is renamed before.
-fn leaves_another<'a>(
-    rt: &'a HostRuntime,
-    path: &'a String,
-    other: &'a String,
-    is_older: bool,
-) -> bool {
-    let mut sink = FileSink::new(rt, place(rt, Some(path), NONE));
-    sink.finish().is_ok()
-        && sink.write(b"VER") == Put::Took(3)
-        && (!is_older || rename(rt, path, other))
-        && fill(rt, path, "another")
-        && sink.finish().is_err()
-        && holds(rt, path, "another")
-        && remove(rt, path)
-        && sink.finish().is_err()
+/// Whether nothing is left of what a sink wrote.
+fn is_part_gone(rt: &HostRuntime, path: &Option<String>) -> bool {
+    let part = part_of(rt, path);
+    is_gone(rt, &part)
 }
 
 #[test]
 fn a_place_that_was_taken_is_left(rt: HostRuntime) -> Result<(), Fail> {
-    let path = scratch(&rt, "taken")?;
-    let other = scratch(&rt, "renamed")?;
-    let part = part_of(&rt, &path)?;
-    assert!(rt; leaves_another(&rt, &path, &other, false));
-    assert!(rt; fill(&rt, &path, "older"));
-    assert!(rt; leaves_another(&rt, &path, &other, true));
-    assert!(rt; is_gone(&rt, &part));
-    assert!(rt; holds(&rt, &other, "older"));
-    assert!(rt; remove(&rt, &other));
+    let path = scratch(&rt, "taken");
+    let other = scratch(&rt, "renamed");
+    assert!(rt; is_taken_place_left(&rt, &path, &other) && is_part_gone(&rt, &path));
     Ok(())
 }
 
-/// Whether a source reads the file to its end.
-fn reads_to_the_end(rt: &HostRuntime, path: &String) -> bool {
+/// Whether a source reads nine bytes and no more.
+fn is_read(source: &mut FileSource) -> bool {
     let mut buf = [0; 5];
-    let mut source = FileSource::open(rt, Some(path.as_str()));
     source.read(&mut buf) == Got::Gave(5)
         && buf == *b"NAME "
         && source.read(&mut buf) == Got::Gave(4)
@@ -263,21 +423,36 @@ fn reads_to_the_end(rt: &HostRuntime, path: &String) -> bool {
         && source.read(&mut buf) == Got::End
 }
 
+/// Whether a source reads the file to its end.
+fn reads_to_the_end(rt: &HostRuntime, path: &Option<String>) -> bool {
+    let mut source = FileSource::open(rt, path.as_deref());
+    is_read(&mut source)
+}
+
+/// Whether a source fails at each read.
+fn is_unread(source: &mut FileSource) -> bool {
+    let mut buf = [0; 5];
+    source.read(&mut buf) == Got::Failed && source.read(&mut buf) == Got::Failed
+}
+
 /// Whether a source of a file that isn't there fails.
 fn fails_to_read(rt: &HostRuntime, path: Option<&str>) -> bool {
-    let mut buf = [0; 5];
     let mut source = FileSource::open(rt, path);
-    source.read(&mut buf) == Got::Failed && source.read(&mut buf) == Got::Failed
+    is_unread(&mut source)
+}
+
+/// Whether a file is read to its end, and not when it is gone.
+fn is_read_while_there(rt: &HostRuntime, path: &Option<String>) -> bool {
+    fill(rt, path, b"NAME one\n")
+        && reads_to_the_end(rt, path)
+        && remove(rt, path)
+        && fails_to_read(rt, path.as_deref())
 }
 
 #[test]
 fn source(rt: HostRuntime) -> Result<(), Fail> {
-    let path = scratch(&rt, "source")?;
-    assert!(rt; fill(&rt, &path, "NAME one\n"));
-    assert!(rt; reads_to_the_end(&rt, &path));
-    assert!(rt; remove(&rt, &path));
-    assert!(rt; fails_to_read(&rt, Some(path.as_str())));
-    assert!(rt; fails_to_read(&rt, None));
+    let path = scratch(&rt, "source");
+    assert!(rt; is_read_while_there(&rt, &path) && fails_to_read(&rt, None));
     Ok(())
 }
 
@@ -322,20 +497,26 @@ impl Write for Interrupted {
     }
 }
 
-#[test]
-fn calls_are_tried_again(rt: HostRuntime) -> Result<(), Fail> {
+/// Whether one byte is read behind two calls that are interrupted.
+fn is_read_again() -> bool {
     let mut buf = [0; 3];
     let mut interrupted = Interrupted {
         calls: 2,
         kind: ErrorKind::Interrupted,
     };
-    assert_eq!(rt; read_some(&mut interrupted, &mut buf)?, 1);
-    assert!(rt; buf == *b"x\0\0");
-    for kind in [ErrorKind::Interrupted, ErrorKind::WouldBlock] {
-        assert_eq!(rt;
-            write_some(&rt, &mut Interrupted { calls: 2, kind }, b"abc")?,
-            1
-        );
-    }
+    matches!(read_some(&mut interrupted, &mut buf), Ok(1)) && buf == *b"x\0\0"
+}
+
+/// Whether one byte is written behind two calls that fail so.
+fn is_written_again(rt: &HostRuntime, kind: ErrorKind) -> bool {
+    let mut interrupted = Interrupted { calls: 2, kind };
+    matches!(write_some(rt, &mut interrupted, b"abc"), Ok(1))
+}
+
+#[test]
+fn calls_are_tried_again(rt: HostRuntime) -> Result<(), Fail> {
+    assert!(rt; is_read_again());
+    assert!(rt; is_written_again(&rt, ErrorKind::Interrupted));
+    assert!(rt; is_written_again(&rt, ErrorKind::WouldBlock));
     Ok(())
 }
