@@ -107,15 +107,23 @@ impl<'a> Draft<'a> {
     }
 }
 
+/// Takes one more block, and pushes it where it is a change.
+fn take_block<'a>(
+    draft: &mut Draft<'a>,
+    changes: &mut Vec<Change<'a>>,
+    block: &Block<'a>,
+) -> Result<()> {
+    match block.word {
+        "line" | "after" => Ok(changes.push(Change::read(block)?)?),
+        _ => draft.take(block),
+    }
+}
+
 /// Takes the blocks of a case behind its title, and pushes its changes.
 fn draft_of<'a>(changes: &mut Vec<Change<'a>>, text: &'a str) -> Result<Draft<'a>> {
     let mut draft = Draft::new();
     for block in text.split("\n--- ").skip(1) {
-        let block = Block::new(block);
-        match block.word {
-            "line" | "after" => changes.push(Change::read(&block)?)?,
-            _ => draft.take(&block)?,
-        }
+        take_block(&mut draft, changes, &Block::new(block))?;
     }
     Ok(draft)
 }

@@ -18,13 +18,23 @@ use std::alloc::Global;
 use std::env;
 use std::fs::{self, File};
 use std::process::ExitCode;
-use std::rt::Files;
+use std::rt::{Env, Files};
 
 /// How many cases there were, and how many of them differed.
 #[derive(Clone, Copy)]
 struct Count {
     cases: u64,
     differ: u64,
+}
+
+impl Count {
+    /// Counts a case, and whether it differs.
+    fn add(&mut self, differs: bool) {
+        self.cases = self.cases.saturating_add(1);
+        if differs {
+            self.differ = self.differ.saturating_add(1);
+        }
+    }
 }
 
 /// The bytes of the file at a path, which a case names so.
@@ -118,13 +128,9 @@ fn run_text<R: Files<File = File> + Alloc<A = Global> + Print>(
     text: &str,
     count: &mut Count,
 ) -> Result<()> {
-    let mut parts = text.split("\n=== ");
-    let base = base_of(parts.next().unwrap_or(""));
-    for part in parts {
-        count.cases = count.cases.saturating_add(1);
-        if differs(rt, path, base, part)? {
-            count.differ = count.differ.saturating_add(1);
-        }
+    let base = base_of(text.split("\n=== ").next().unwrap_or(""));
+    for part in text.split("\n=== ").skip(1) {
+        count.add(differs(rt, path, base, part)?);
     }
     Ok(())
 }
@@ -139,15 +145,20 @@ fn run_file<R: Files<File = File> + Alloc<A = Global> + Print>(
     run_text(rt, path, text.as_str(), count)
 }
 
-fn main(rt: HostRuntime) -> Result<ExitCode> {
+/// Runs the cases of the files that the program's words name.
+fn run_files<R: Env + Files<File = File> + Alloc<A = Global> + Print>(rt: &R) -> Result<Count> {
     let mut count = Count {
         cases: 0,
         differ: 0,
     };
-    for path in env::args(&rt)?.skip(1) {
-        run_file(&rt, path.as_str(), &mut count)?;
+    for path in env::args(rt)?.skip(1) {
+        run_file(rt, path.as_str(), &mut count)?;
     }
-    let Count { cases, differ } = count;
+    Ok(count)
+}
+
+fn main(rt: HostRuntime) -> Result<ExitCode> {
+    let Count { cases, differ } = run_files(&rt)?;
     println!(rt; "cases {cases}\ndiffer {differ}")?;
     Ok(if differ == 0 {
         ExitCode::SUCCESS

@@ -1,6 +1,6 @@
 // What is shown of a case that differs.
 
-use crate::case::Case;
+use crate::case::{Case, Expected};
 use crate::outcome::Outcome;
 use std::io;
 
@@ -15,20 +15,41 @@ fn show_lines<R: Print>(rt: &R, bytes: &[u8]) -> io::Result<()> {
     Ok(())
 }
 
+/// Shows which certificate a case expects, if it differs from the one that was seen. Whether it does.
+fn show_expected<R: Print>(rt: &R, expected: &Expected, seen: &Outcome) -> io::Result<bool> {
+    let Some(lines) = &expected.certificate else {
+        return show_unexpected(rt, seen);
+    };
+    if lines.as_slice() == seen.certificate.as_slice() {
+        return Ok(false);
+    }
+    println!(rt; "  expected the certificate")?;
+    show_lines(rt, lines)?;
+    Ok(true)
+}
+
+/// Shows that no certificate is expected, if one was seen that none should be. Whether that is so.
+fn show_unexpected<R: Print>(rt: &R, seen: &Outcome) -> io::Result<bool> {
+    if seen.status == 0 || seen.certificate.is_empty() {
+        return Ok(false);
+    }
+    println!(rt; "  expected no certificate")?;
+    Ok(true)
+}
+
 /// Shows the certificates of a case, where they differ.
 fn show_certificates<R: Print>(rt: &R, case: &Case<'_>, seen: &Outcome) -> io::Result<()> {
-    match &case.expected.certificate {
-        Some(expected) if expected.as_slice() != seen.certificate.as_slice() => {
-            println!(rt; "  expected the certificate")?;
-            show_lines(rt, expected)?;
-        }
-        None if seen.status != 0 && !seen.certificate.is_empty() => {
-            println!(rt; "  expected no certificate")?;
-        }
-        _ => return Ok(()),
+    if !show_expected(rt, &case.expected, seen)? {
+        return Ok(());
     }
     println!(rt; "  got the certificate")?;
     show_lines(rt, &seen.certificate)
+}
+
+/// Shows a status and lines behind a word.
+fn show_answer<R: Print>(rt: &R, word: &str, status: u8, lines: &[u8]) -> io::Result<()> {
+    println!(rt; "  {word} status {status}")?;
+    show_lines(rt, lines)
 }
 
 /// Shows what a case expects and what it got.
@@ -38,13 +59,9 @@ pub(crate) fn show_difference<R: Print>(
     case: &Case<'_>,
     seen: &Outcome,
 ) -> io::Result<()> {
-    let title = case.title;
+    let (title, expected) = (case.title, &case.expected);
     println!(rt; "{path}: {title}")?;
-    let status = case.expected.status;
-    println!(rt; "  expected status {status}")?;
-    show_lines(rt, &case.expected.lines)?;
-    let status = seen.status;
-    println!(rt; "  got status {status}")?;
-    show_lines(rt, &seen.lines)?;
+    show_answer(rt, "expected", expected.status, &expected.lines)?;
+    show_answer(rt, "got", seen.status, &seen.lines)?;
     show_certificates(rt, case, seen)
 }

@@ -54,16 +54,18 @@ pub struct Command<'a> {
     pub stop: Option<u64>,
 }
 
-/// No words, and an empty model, streams and a disk of which no call fails.
-pub const USUAL: Command<'static> = Command {
-    line: "",
-    model: "",
-    source: SOUND,
-    cert: SOUND,
-    out: SOUND,
-    bytes: b"",
-    stop: None,
-};
+/// A command over the model of a text and an empty disk, of which no call fails.
+pub(crate) fn usual<'a>(line: &'a str, model: &'a str) -> Command<'a> {
+    Command {
+        line,
+        model,
+        source: SOUND,
+        cert: SOUND,
+        out: SOUND,
+        bytes: b"",
+        stop: None,
+    }
+}
 
 impl Command<'_> {
     /// What it is given besides its disk.
@@ -165,6 +167,11 @@ impl Answered {
     /// The lines.
     pub(crate) fn lines(&self) -> &str {
         text_of(self.given.out.bytes())
+    }
+
+    /// A copy of the bytes of its disk.
+    pub(crate) fn journal(&self, alloc: Global) -> Result<Vec<u8>> {
+        Ok(self.disk.bytes().to_vec(alloc)?)
     }
 
     /// Whether another command answered the same, and left the same.

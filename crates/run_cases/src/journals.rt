@@ -1,46 +1,13 @@
 //! Commands over journals: begun, gone on with, shown, refused, and on disks and streams that fail.
 
-use crate::command::{Answered, Command, SOUND, Stream, USUAL};
+use crate::command::{Answered, Command, SOUND, Stream, usual};
 use crate::models::{EMPTY, FAR, ODD, ONE};
-use crate::shown::{More, Plan, show_on, show_plan, show_plans, show_with_disk};
+use crate::shown::{More, show_command, show_line, show_on, show_with_disk};
 use anyhow::Result;
 use outside::MemDisk;
 use std::alloc::{AllocError, Global};
 
-/// A search with an optimum.
-const SOLVE: Command<'static> = Command {
-    line: "solve m j c",
-    model: ONE,
-    ..USUAL
-};
-
-/// A search that goes on without cuts.
-const RESUME: Command<'static> = Command {
-    line: "resume j c --cuts 0",
-    ..USUAL
-};
-
-/// The figures of a journal.
-const SHOW: Command<'static> = Command {
-    line: "show j",
-    ..USUAL
-};
-
-/// A stream that fails at once.
-const FAILS_AT_ONCE: Stream<'static> = Stream {
-    failing: &[0],
-    ..SOUND
-};
-
-/// A journal of one event, whose bytes are known.
-const ONE_EVENT: Plan<'static> = Plan {
-    title: "an empty box",
-    command: Command {
-        model: EMPTY,
-        ..SOLVE
-    },
-    more: More::End,
-};
+const SOLVE: &str = "solve m j c";
 
 /// Searches that begin a journal.
 const BEGUN: [&str; 3] = [
@@ -49,206 +16,60 @@ const BEGUN: [&str; 3] = [
     "solve m j c --cuts 0 --nodes 5",
 ];
 
-/// A search that is spent at one node.
-const SPENT: Plan<'static> = Plan {
-    title: "spent at one node",
-    command: Command {
-        line: "solve m j c --cuts 0 --nodes 1",
-        model: ODD,
-        ..USUAL
-    },
-    more: More::Nothing,
-};
-
-/// A search that goes on to its end.
-const RESUMED: Plan<'static> = Plan {
-    title: "resumed",
-    command: RESUME,
-    more: More::Certificate,
-};
-
 /// Commands that read a journal.
-const READING: [&str; 3] = ["solve m j c", "resume j c", "show j"];
+const READING: [&str; 3] = [SOLVE, "resume j c", "show j"];
 
-/// Disks of nine bytes, which are an empty journal, and of ten, which are none.
-const FEW_BYTES: [Plan<'static>; 2] = [
-    Plan {
-        title: "nine bytes",
-        command: Command {
-            bytes: b"123456789",
-            ..SOLVE
-        },
-        more: More::Nothing,
-    },
-    Plan {
-        title: "ten bytes",
-        command: Command {
-            bytes: b"1234567890",
-            ..SOLVE
-        },
-        more: More::Nothing,
-    },
-];
-
-/// Disks without a model.
-const EMPTY_DISKS: [Plan<'static>; 2] = [
-    Plan {
-        title: "resume on an empty disk",
-        command: Command {
-            line: "resume j c",
-            ..USUAL
-        },
-        more: More::Nothing,
-    },
-    Plan {
-        title: "show on an empty disk",
-        command: SHOW,
-        more: More::Nothing,
-    },
-];
-
-/// A search whose certificate fails at its second write.
-const WITHOUT_CERTIFICATE: Plan<'static> = Plan {
-    title: "a sink that fails",
-    command: Command {
-        cert: Stream {
-            failing: &[1],
-            ..SOUND
-        },
-        ..SOLVE
-    },
-    more: More::Nothing,
+/// A stream that fails at once.
+const FAILS_AT_ONCE: Stream<'static> = Stream {
+    failing: &[0],
+    ..SOUND
 };
-
-/// A search whose source fails at once.
-const WITHOUT_MODEL: Plan<'static> = Plan {
-    title: "a source that fails",
-    command: Command {
-        source: FAILS_AT_ONCE,
-        ..SOLVE
-    },
-    more: More::Calls,
-};
-
-/// Drills, whose own disks are in memory: to the end, and to three nodes.
-const DRILLS: [Plan<'static>; 2] = [
-    Plan {
-        title: "a drill",
-        command: Command {
-            line: "drill 1 c --cuts 0",
-            bytes: b"kept",
-            stop: Some(0),
-            ..USUAL
-        },
-        more: More::CallsOf(b"kept"),
-    },
-    Plan {
-        title: "a drill of three nodes",
-        command: Command {
-            line: "drill 1 c --cuts 0 --nodes 3",
-            ..USUAL
-        },
-        more: More::Nothing,
-    },
-];
-
-/// Searches that begin a journal, under their own words.
-fn show_begun<R: Print + Alloc<A = Global>>(rt: &R) -> Result<()> {
-    for &line in &BEGUN {
-        let plan = Plan {
-            title: line,
-            command: Command {
-                line,
-                model: ODD,
-                ..USUAL
-            },
-            more: More::Nothing,
-        };
-        show_plan(rt, &plan)?;
-    }
-    Ok(())
-}
 
 /// Commands over the journal of a search that was spent at one node: one that shows it, and one that goes on to three nodes.
-fn show_after<R: Print + Alloc<A = Global>>(rt: &R, bytes: &[u8]) -> Result<()> {
-    let shown = Plan {
-        title: "shown",
-        command: Command { bytes, ..SHOW },
-        more: More::Nothing,
-    };
-    let resumed = Plan {
-        title: "resumed to three nodes",
-        command: Command {
-            line: "resume j c --cuts 0 --nodes 3",
-            bytes,
-            ..USUAL
-        },
-        more: More::Nothing,
-    };
-    show_plan(rt, &shown)?;
-    show_plan(rt, &resumed)
+fn show_after<R: Print + Alloc<A = Global>>(rt: &R, journal: &[u8]) -> Result<()> {
+    let on_to_three = "resume j c --cuts 0 --nodes 3";
+    show_line(rt, "shown", "show j", "", journal)?;
+    show_line(rt, "resumed to three nodes", on_to_three, "", journal)
 }
 
 /// A search that is spent at one node, and those that go on from there.
 fn show_spent<R: Print + Alloc<A = Global>>(rt: &R) -> Result<()> {
-    let disk = show_with_disk(rt, &SPENT)?;
+    let first = usual("solve m j c --cuts 0 --nodes 1", ODD);
+    let disk = show_with_disk(rt, "spent at one node", &first)?;
     show_after(rt, disk.bytes())?;
-    show_on(rt, &RESUMED, disk)
+    let last = usual("resume j c --cuts 0", "");
+    show_on(rt, "resumed", &last, disk, More::Certificate)
 }
 
-/// Commands that begin journals, and that go on with one.
+/// Commands that begin journals, the first of which has one event and is known byte by byte, and that go on with one.
 pub(crate) fn show_first<R: Print + Alloc<A = Global>>(rt: &R) -> Result<()> {
-    show_plan(rt, &ONE_EVENT)?;
-    show_begun(rt)?;
+    show_command(rt, "an empty box", &usual(SOLVE, EMPTY), More::End)?;
+    for line in &BEGUN {
+        show_line(rt, line, line, ODD, b"")?;
+    }
     show_spent(rt)
 }
 
 /// The bytes of the journal of a finished search.
 fn finished(alloc: Global) -> Result<Vec<u8>> {
-    let one = Answered::run(alloc, &SOLVE)?;
-    Ok(one.disk.bytes().to_vec(alloc)?)
+    let one = Answered::run(alloc, &usual(SOLVE, ONE))?;
+    one.journal(alloc)
 }
 
-/// A journal of another model, and disks without a model.
-fn show_other_models<R: Print + Alloc<A = Global>>(rt: &R, journal: &[u8]) -> Result<()> {
-    let plan = Plan {
-        title: "another model",
-        command: Command {
-            model: FAR,
-            bytes: journal,
-            ..SOLVE
-        },
-        more: More::Same("the disk is as it was", journal),
-    };
-    show_plan(rt, &plan)?;
-    show_plans(rt, &EMPTY_DISKS)
-}
-
-/// Prints what commands that read a journal answer over a disk that holds these bytes, or that stops at this call.
-fn show_reading<R: Print + Alloc<A = Global>>(
+/// Prints what a command answers over a journal, and whether the disk is as it was.
+fn show_kept<'a, R: Print + Alloc<A = Global>>(
     rt: &R,
     title: &str,
-    bytes: &[u8],
-    stop: Option<u64>,
+    line: &'a str,
+    model: &'a str,
+    journal: &'a [u8],
 ) -> Result<()> {
-    for &line in &READING {
-        let command = Command {
-            line,
-            bytes,
-            stop,
-            ..SOLVE
-        };
-        let more = More::Nothing;
-        show_plan(
-            rt,
-            &Plan {
-                title,
-                command,
-                more,
-            },
-        )?;
-    }
-    Ok(())
+    let command = Command {
+        bytes: journal,
+        ..usual(line, model)
+    };
+    let more = More::Same("the disk is as it was", journal);
+    show_command(rt, title, &command, more)
 }
 
 /// A journal whose last frame isn't whole though its gate is open.
@@ -258,10 +79,18 @@ fn damaged(alloc: Global) -> Result<Vec<u8>, AllocError> {
     Ok(damaged)
 }
 
+/// Prints what commands that read a journal answer over these bytes.
+fn show_reading<R: Print + Alloc<A = Global>>(rt: &R, bytes: &[u8]) -> Result<()> {
+    for line in &READING {
+        show_line(rt, "a frame that isn't whole", line, ONE, bytes)?;
+    }
+    Ok(())
+}
+
 /// Commands over a journal whose last frame isn't whole though its gate is open.
 fn show_damaged<R: Print + Alloc<A = Global>>(rt: &R) -> Result<()> {
     let damaged = damaged(rt.alloc())?;
-    show_reading(rt, "a frame that isn't whole", &damaged, None)
+    show_reading(rt, &damaged)
 }
 
 /// A journal with its gate closed, and more bytes behind it.
@@ -274,77 +103,107 @@ fn longer(alloc: Global, journal: &[u8]) -> Result<Vec<u8>, AllocError> {
     Ok(longer)
 }
 
-/// Prints what a search answers over these bytes, and whether its journal is this one.
-fn show_recovered<R: Print + Alloc<A = Global>>(
-    rt: &R,
-    bytes: &[u8],
-    journal: &[u8],
-) -> Result<()> {
-    let plan = Plan {
-        title: "a closed gate and more behind it",
-        command: Command { bytes, ..SOLVE },
-        more: More::Same("recovered", journal),
-    };
-    show_plan(rt, &plan)
-}
-
 /// A journal behind whose closed gate more bytes stand, which don't count.
 fn show_longer<R: Print + Alloc<A = Global>>(rt: &R, journal: &[u8]) -> Result<()> {
     let longer = longer(rt.alloc(), journal)?;
-    show_recovered(rt, &longer, journal)
+    let command = Command {
+        bytes: &longer,
+        ..usual(SOLVE, ONE)
+    };
+    let more = More::Same("recovered", journal);
+    show_command(rt, "a closed gate and more behind it", &command, more)
 }
 
 /// Prints what a search answers on a disk, and whether it still holds this journal.
 fn show_again<R: Print + Alloc<A = Global>>(rt: &R, disk: MemDisk, journal: &[u8]) -> Result<()> {
-    let plan = Plan {
-        title: "with a good one",
-        command: SOLVE,
-        more: More::Same("no new event", journal),
-    };
-    show_on(rt, &plan, disk)
+    let more = More::Same("no new event", journal);
+    show_on(rt, "with a good one", &usual(SOLVE, ONE), disk, more)
 }
 
 /// A certificate's sink that fails, and the same command again.
 fn show_sink<R: Print + Alloc<A = Global>>(rt: &R) -> Result<()> {
-    let disk = show_with_disk(rt, &WITHOUT_CERTIFICATE)?;
+    let cert = Stream {
+        failing: &[1],
+        ..SOUND
+    };
+    let command = Command {
+        cert,
+        ..usual(SOLVE, ONE)
+    };
+    let disk = show_with_disk(rt, "a sink that fails", &command)?;
     let journal = disk.bytes().to_vec(rt.alloc())?;
     show_again(rt, disk, &journal)
 }
 
-/// What is shown of a journal, and that nothing is written, to a sink that takes it and to one that fails.
-fn show_figures<R: Print + Alloc<A = Global>>(rt: &R, journal: &[u8]) -> Result<()> {
-    let shown = Plan {
-        title: "a journal is shown",
-        command: Command {
-            bytes: journal,
-            ..SHOW
-        },
-        more: More::Same("the disk is as it was", journal),
+/// A source that fails at once.
+fn show_source<R: Print + Alloc<A = Global>>(rt: &R) -> Result<()> {
+    let command = Command {
+        source: FAILS_AT_ONCE,
+        ..usual(SOLVE, ONE)
     };
-    let unwritten = Plan {
-        title: "a journal is shown to a sink that fails",
-        command: Command {
-            out: FAILS_AT_ONCE,
-            bytes: journal,
-            ..SHOW
-        },
-        more: More::Nothing,
-    };
-    show_plan(rt, &shown)?;
-    show_plan(rt, &unwritten)
+    show_command(rt, "a source that fails", &command, More::Calls)
 }
 
-/// Commands over other journals than this one of a finished search, over streams and disks that fail, and drills.
-fn show_beside<R: Print + Alloc<A = Global>>(rt: &R, journal: &[u8]) -> Result<()> {
-    show_plans(rt, &FEW_BYTES)?;
-    show_other_models(rt, journal)?;
-    show_damaged(rt)?;
-    show_longer(rt, journal)?;
+/// Prints what a command answers whose disk fails at once.
+fn show_failing_disk<R: Print + Alloc<A = Global>>(rt: &R, line: &str) -> Result<()> {
+    let command = Command {
+        stop: Some(0),
+        ..usual(line, ONE)
+    };
+    show_command(rt, "a disk that fails", &command, More::Nothing)
+}
+
+/// Streams and disks that fail, where a journal is begun or read.
+fn show_faults<R: Print + Alloc<A = Global>>(rt: &R) -> Result<()> {
     show_sink(rt)?;
-    show_plan(rt, &WITHOUT_MODEL)?;
-    show_reading(rt, "a disk that fails", b"", Some(0))?;
-    show_figures(rt, journal)?;
-    show_plans(rt, &DRILLS)
+    show_source(rt)?;
+    for line in &READING {
+        show_failing_disk(rt, line)?;
+    }
+    Ok(())
+}
+
+/// What is shown of a journal to a sink that fails.
+fn show_unwritten<R: Print + Alloc<A = Global>>(rt: &R, journal: &[u8]) -> Result<()> {
+    let command = Command {
+        out: FAILS_AT_ONCE,
+        bytes: journal,
+        ..usual("show j", "")
+    };
+    let title = "a journal is shown to a sink that fails";
+    show_command(rt, title, &command, More::Nothing)
+}
+
+/// Drills, whose own disks are in memory: to the end, and to three nodes.
+fn show_drills<R: Print + Alloc<A = Global>>(rt: &R) -> Result<()> {
+    let command = Command {
+        bytes: b"kept",
+        stop: Some(0),
+        ..usual("drill 1 c --cuts 0", "")
+    };
+    let line = "drill 1 c --cuts 0 --nodes 3";
+    show_command(rt, "a drill", &command, More::CallsOf(b"kept"))?;
+    show_line(rt, "a drill of three nodes", line, "", b"")
+}
+
+/// Commands over other journals than this one of a finished search.
+fn show_other_journals<R: Print + Alloc<A = Global>>(rt: &R, journal: &[u8]) -> Result<()> {
+    show_line(rt, "nine bytes", SOLVE, ONE, b"123456789")?;
+    show_line(rt, "ten bytes", SOLVE, ONE, b"1234567890")?;
+    show_kept(rt, "another model", SOLVE, FAR, journal)?;
+    show_line(rt, "resume on an empty disk", "resume j c", "", b"")?;
+    show_line(rt, "show on an empty disk", "show j", "", b"")?;
+    show_damaged(rt)?;
+    show_longer(rt, journal)
+}
+
+/// Commands over other journals than this one of a finished search, over streams and disks that fail, what is shown of this one, and drills.
+fn show_beside<R: Print + Alloc<A = Global>>(rt: &R, journal: &[u8]) -> Result<()> {
+    show_other_journals(rt, journal)?;
+    show_faults(rt)?;
+    show_kept(rt, "a journal is shown", "show j", "", journal)?;
+    show_unwritten(rt, journal)?;
+    show_drills(rt)
 }
 
 /// Commands over journals that aren't begun as they should be, over streams and disks that fail, and drills.

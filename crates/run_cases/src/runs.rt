@@ -1,65 +1,11 @@
 //! Whole runs in pieces, and runs whose source or sink fails.
 
-use crate::command::{Answered, Command, SOUND, Stream, USUAL};
+use crate::command::{Answered, Command, SOUND, Stream, usual};
 use crate::models::ONE;
 use crate::shown::show_certificate;
 use anyhow::Result;
 use std::alloc::Global;
 use std::io;
-
-/// A run of which no call fails.
-const SOUND_RUN: Command<'static> = Command {
-    line: "solve model journal certificate",
-    model: ONE,
-    ..USUAL
-};
-
-const IN_SEVENS: Stream<'static> = Stream {
-    failing: &[],
-    most: 7,
-};
-
-const FAILS_ONCE: Stream<'static> = Stream {
-    failing: &[1],
-    ..SOUND
-};
-
-/// A run in pieces, and one for each stream that fails at its second call.
-const RUNS: [Command<'static>; 4] = [
-    Command {
-        source: IN_SEVENS,
-        cert: IN_SEVENS,
-        out: IN_SEVENS,
-        ..SOUND_RUN
-    },
-    Command {
-        source: Stream {
-            failing: &[1],
-            most: 20,
-        },
-        ..SOUND_RUN
-    },
-    Command {
-        cert: FAILS_ONCE,
-        ..SOUND_RUN
-    },
-    Command {
-        out: Stream {
-            failing: &[1],
-            most: 10,
-        },
-        ..SOUND_RUN
-    },
-];
-
-/// A run whose certificate is written whole, in a write for each of its 16 lines, and can't be kept.
-const UNFINISHED: Command<'static> = Command {
-    cert: Stream {
-        failing: &[16],
-        ..SOUND
-    },
-    ..SOUND_RUN
-};
 
 /// Prints how a run ended: its status and its lines, and how often the certificate's sink failed and what it keeps.
 fn show_end<R: Print>(rt: &R, ran: &Answered) -> io::Result<()> {
@@ -80,20 +26,37 @@ fn show_ran<R: Print>(rt: &R, ran: &Answered, with_certificate: bool) -> Result<
     Ok(())
 }
 
-/// Prints how a run ends, and its certificate if that is wanted.
-fn show_run<R: Print + Alloc<A = Global>>(
+/// Prints how a run over these streams ends, and its certificate if that is wanted.
+fn show_run<'a, R: Print + Alloc<A = Global>>(
     rt: &R,
-    command: &Command<'_>,
+    (source, cert, out): (Stream<'a>, Stream<'a>, Stream<'a>),
     with_certificate: bool,
 ) -> Result<()> {
-    let ran = Answered::run(rt.alloc(), command)?;
+    let command = Command {
+        source,
+        cert,
+        out,
+        ..usual("solve model journal certificate", ONE)
+    };
+    let ran = Answered::run(rt.alloc(), &command)?;
     show_ran(rt, &ran, with_certificate)
 }
 
-/// Prints how runs end.
-pub(crate) fn show<R: Print + Alloc<A = Global>>(rt: &R) -> Result<()> {
-    for command in &RUNS {
-        show_run(rt, command, true)?;
+/// A stream that fails at this call, and moves at most so many bytes at one.
+fn failing(calls: &[u64], most: usize) -> Stream<'_> {
+    Stream {
+        failing: calls,
+        most,
     }
-    show_run(rt, &UNFINISHED, false)
+}
+
+/// Prints a run in pieces, one for each stream that fails at its second call, and one whose certificate is written whole, in a write for each of its
+/// 16 lines, and can't be kept.
+pub(crate) fn show<R: Print + Alloc<A = Global>>(rt: &R) -> Result<()> {
+    let (sound, sevens) = (SOUND, failing(&[], 7));
+    show_run(rt, (sevens, sevens, sevens), true)?;
+    show_run(rt, (failing(&[1], 20), sound, sound), true)?;
+    show_run(rt, (sound, failing(&[1], usize::MAX), sound), true)?;
+    show_run(rt, (sound, sound, failing(&[1], 10)), true)?;
+    show_run(rt, (sound, failing(&[16], usize::MAX), sound), false)
 }

@@ -1,6 +1,6 @@
 //! What is printed of the answers of commands.
 
-use crate::command::{Answered, Command};
+use crate::command::{Answered, Command, usual};
 use anyhow::Result;
 use outside::MemDisk;
 use std::alloc::Global;
@@ -20,14 +20,6 @@ pub enum More<'a> {
     CallsOf(&'a [u8]),
     /// Whether the disk holds these bytes, under words of their own.
     Same(&'a str, &'a [u8]),
-}
-
-/// A command, and what is printed of its answer under a title.
-#[derive(Clone, Copy)]
-pub struct Plan<'a> {
-    pub title: &'a str,
-    pub command: Command<'a>,
-    pub more: More<'a>,
 }
 
 /// Prints how many events a search had, if there is one, and ends the line.
@@ -115,25 +107,39 @@ fn show_all<R: Print>(rt: &R, title: &str, ran: &Answered, more: More<'_>) -> Re
 /// Prints what a command answers on this disk.
 pub(crate) fn show_on<R: Print + Alloc<A = Global>>(
     rt: &R,
-    plan: &Plan<'_>,
+    title: &str,
+    command: &Command<'_>,
     disk: MemDisk,
+    more: More<'_>,
 ) -> Result<()> {
-    let ran = Answered::run_on(rt.alloc(), &plan.command, disk)?;
-    show_all(rt, plan.title, &ran, plan.more)
+    let ran = Answered::run_on(rt.alloc(), command, disk)?;
+    show_all(rt, title, &ran, more)
 }
 
 /// Prints what a command answers on its own disk.
-pub(crate) fn show_plan<R: Print + Alloc<A = Global>>(rt: &R, plan: &Plan<'_>) -> Result<()> {
-    let disk = plan.command.disk(rt.alloc())?;
-    show_on(rt, plan, disk)
+pub(crate) fn show_command<R: Print + Alloc<A = Global>>(
+    rt: &R,
+    title: &str,
+    command: &Command<'_>,
+    more: More<'_>,
+) -> Result<()> {
+    let disk = command.disk(rt.alloc())?;
+    show_on(rt, title, command, disk, more)
 }
 
-/// Prints what commands answer.
-pub(crate) fn show_plans<R: Print + Alloc<A = Global>>(rt: &R, plans: &[Plan<'_>]) -> Result<()> {
-    for plan in plans {
-        show_plan(rt, plan)?;
-    }
-    Ok(())
+/// Prints what the command of these words answers over the model of a text, on a disk that holds these bytes.
+pub(crate) fn show_line<'a, R: Print + Alloc<A = Global>>(
+    rt: &R,
+    title: &str,
+    line: &'a str,
+    model: &'a str,
+    bytes: &'a [u8],
+) -> Result<()> {
+    let command = Command {
+        bytes,
+        ..usual(line, model)
+    };
+    show_command(rt, title, &command, More::Nothing)
 }
 
 /// The disk that a command left.
@@ -150,9 +156,10 @@ pub(crate) fn disk_of(ran: Answered) -> MemDisk {
 /// Prints what a command answers on its own disk. The disk as it left it.
 pub(crate) fn show_with_disk<R: Print + Alloc<A = Global>>(
     rt: &R,
-    plan: &Plan<'_>,
+    title: &str,
+    command: &Command<'_>,
 ) -> Result<MemDisk> {
-    let ran = Answered::run(rt.alloc(), &plan.command)?;
-    show_all(rt, plan.title, &ran, plan.more)?;
+    let ran = Answered::run(rt.alloc(), command)?;
+    show_all(rt, title, &ran, More::Nothing)?;
     Ok(disk_of(ran))
 }

@@ -1,25 +1,11 @@
 //! Commands whose disk is stopped at each call in turn, and that are run again on what a crash might leave.
 
-use crate::command::{Answered, Command, USUAL};
+use crate::command::{Answered, Command, usual};
 use crate::models::{ODD, ONE};
 use anyhow::Result;
 use outside::MemDisk;
 use std::alloc::{AllocError, Global};
 use std::io;
-
-/// A search without cuts, which finds no point.
-const WITHOUT_CUTS: Command<'static> = Command {
-    line: "solve m j c --cuts 0",
-    model: ODD,
-    ..USUAL
-};
-
-/// A search with an optimum.
-const WITH_OPTIMUM: Command<'static> = Command {
-    line: "solve m j c",
-    model: ONE,
-    ..USUAL
-};
 
 /// A command on an empty disk, and what it answers where that isn't stopped.
 #[derive(Clone, Copy)]
@@ -188,6 +174,6 @@ fn show_stops<R: Print + Alloc<A = Global>>(
 
 /// Prints how a search without an optimum and one with an optimum were stopped and went on.
 pub(crate) fn show<R: Print + Alloc<A = Global>>(rt: &R) -> Result<()> {
-    show_stops(rt, "without cuts", &WITHOUT_CUTS)?;
-    show_stops(rt, "with an optimum", &WITH_OPTIMUM)
+    show_stops(rt, "without cuts", &usual("solve m j c --cuts 0", ODD))?;
+    show_stops(rt, "with an optimum", &usual("solve m j c", ONE))
 }

@@ -1,6 +1,6 @@
 //! Commands with several workers.
 
-use crate::command::{Answered, Command, Given, USUAL};
+use crate::command::{Answered, Command, Given, usual};
 use crate::kinds::Kinds;
 use crate::models::ODD;
 use crate::shown::disk_of;
@@ -14,18 +14,8 @@ use std::io;
 use std::sync::Wait;
 use std::thread::Threads;
 
-/// A search without cuts by one worker.
-const ALONE: Command<'static> = Command {
-    line: "solve m j c --cuts 0",
-    model: ODD,
-    ..USUAL
-};
-
-/// The same by two workers.
-const BY_TWO: Command<'static> = Command {
-    line: "solve m j c --cuts 0 --workers 2",
-    ..ALONE
-};
+/// A search without cuts by two workers.
+const BY_TWO: &str = "solve m j c --cuts 0 --workers 2";
 
 /// Searches that are stopped with some workers, and gone on with by others.
 const STOPPED: [(&str, &str); 2] = [
@@ -142,7 +132,7 @@ fn show_worked<R: Print>(
     meeting: &Meeting,
     certificate: &str,
 ) -> Result<()> {
-    show_lines(rt, BY_TWO.line, worked)?;
+    show_lines(rt, BY_TWO, worked)?;
     show_search(rt, worked)?;
     show_met(rt, worked, meeting, certificate)?;
     Ok(())
@@ -155,7 +145,7 @@ fn show_pair<R: Threads + Wait + Sync + Print + Alloc<A = Global>>(
     certificate: &str,
 ) -> Result<()> {
     let disk = MemDisk::new(rt.alloc());
-    let worked = work_on(rt, rt.alloc(), &BY_TWO, disk, meeting)?;
+    let worked = work_on(rt, rt.alloc(), &usual(BY_TWO, ODD), disk, meeting)?;
     show_worked(rt, &worked, meeting, certificate)
 }
 
@@ -170,7 +160,7 @@ fn show_meeting<R: Threads + Wait + Sync + Print + Alloc<A = Global>>(
 
 /// Two workers that have to meet, and the certificate that one worker writes.
 fn show_two<R: Threads + Wait + Sync + Print + Alloc<A = Global>>(rt: &R) -> Result<()> {
-    let alone = Answered::run(rt.alloc(), &ALONE)?;
+    let alone = Answered::run(rt.alloc(), &usual("solve m j c --cuts 0", ODD))?;
     show_meeting(rt, alone.certificate())
 }
 
@@ -201,16 +191,8 @@ fn show_stopped<R: Threads + Wait + Sync + Print + Alloc<A = Global>>(
     first: &str,
     second: &str,
 ) -> Result<()> {
-    let first = Command {
-        line: first,
-        ..ALONE
-    };
-    let second = Command {
-        line: second,
-        ..USUAL
-    };
-    let disk = show_with_disk(rt, &first)?;
-    show_work(rt, &second, disk)
+    let disk = show_with_disk(rt, &usual(first, ODD))?;
+    show_work(rt, &usual(second, ""), disk)
 }
 
 /// Prints searches that are stopped and gone on with.
@@ -223,9 +205,8 @@ fn show_each_stopped<R: Threads + Wait + Sync + Print + Alloc<A = Global>>(rt: &
 
 /// Prints what other commands answer on empty disks.
 fn show_others<R: Threads + Wait + Sync + Print + Alloc<A = Global>>(rt: &R) -> Result<()> {
-    for &line in &LINES {
-        let command = Command { line, ..ALONE };
-        show_work(rt, &command, MemDisk::new(rt.alloc()))?;
+    for line in &LINES {
+        show_work(rt, &usual(line, ODD), MemDisk::new(rt.alloc()))?;
     }
     Ok(())
 }
