@@ -1,4 +1,5 @@
-"""Writes a model for bench/search.sh in free MPS: models.py knapsack|cover COLUMNS ROWS SEED. Its columns are 0 or 1, and its numbers whole."""
+"""Writes a model for bench/search.sh in free MPS: models.py knapsack|decimals|cover COLUMNS ROWS SEED. Its columns are 0 or 1. Its numbers are whole,
+but those of `decimals`: that is the knapsack of the same seed with each number over 4."""
 import random
 import sys
 
@@ -8,6 +9,12 @@ def knapsack(columns, rows, numbers):
     weights = [[numbers.randint(5, 60) for _ in range(columns)] for _ in range(rows)]
     costs = [-(sum(row[j] for row in weights) // rows + numbers.randint(1, 20)) for j in range(columns)]
     return costs, [("L", sum(row) // 3, dict(enumerate(row))) for row in weights]
+
+
+def decimals(columns, rows, numbers):
+    """The same knapsack in quarters."""
+    costs, lines = knapsack(columns, rows, numbers)
+    return [cost / 4 for cost in costs], [(sense, side / 4, {j: weight / 4 for j, weight in row.items()}) for sense, side, row in lines]
 
 
 def cover(columns, rows, numbers):
@@ -31,8 +38,9 @@ def text(costs, rows):
 
 def main():
     kind, columns, rows, seed = sys.argv[1:]
-    make = {"knapsack": knapsack, "cover": cover}[kind]
-    sys.stdout.write(text(*make(int(columns), int(rows), random.Random(f"{kind} {seed}"))))
+    make = {"knapsack": knapsack, "decimals": decimals, "cover": cover}[kind]
+    named = "knapsack" if kind == "decimals" else kind
+    sys.stdout.write(text(*make(int(columns), int(rows), random.Random(f"{named} {seed}"))))
 
 
 main()

@@ -13,6 +13,11 @@ MODELS = (
     ("cover", 120, 300, 1, 101),
     ("cover", 120, 300, 2, 101),
 )
+# knapsacks in quarters: columns, rows, seed, budget of nodes
+DECIMALS = (
+    (50, 5, 1, 20_001),
+    (100, 10, 1, 5_001),
+)
 RUNS = 5
 SPENT = 8
 
@@ -65,6 +70,16 @@ def search_row(name, path, budget):
     print(f"{name:22} {nodes / base:9,.0f} and {nodes / own:9,.0f} nodes/s  {pivots / base:11,.0f} and {pivots / own:11,.0f} pivots/s  ratio {own / base:5.2f}")
 
 
+def decimals_row(columns, rows, seed, budget):
+    """Nodes a second of a knapsack in whole numbers and in quarters. The prices aren't the same, so the trees need not be."""
+    paths = [make(kind, columns, rows, seed) for kind in ("knapsack", "decimals")]
+    runs = [[search_proved(path, budget) for _ in range(RUNS)] for path in paths]
+    whole, quarters = (max(nodes / seconds for nodes, seconds in of) for of in runs)
+    print(f"decimals {columns} x {rows}, {seed}:  {whole:9,.0f} nodes/s in whole numbers, {quarters:9,.0f} in quarters  ratio {whole / quarters:5.2f}")
+
+
 print("each line: plain Rust, then the proved program, and the ratio of their processor times")
 for kind, columns, rows, seed, budget in MODELS:
     search_row(f"{kind} {columns} x {rows}, {seed}", make(kind, columns, rows, seed), budget)
+for columns, rows, seed, budget in DECIMALS:
+    decimals_row(columns, rows, seed, budget)
