@@ -92,7 +92,7 @@ fn on_integers(alloc: Global, problem: &Problem) -> Result<Option<End>> {
 /// The end of a problem's linear program over its box, on scaled numbers.
 fn on_scaled(alloc: Global, problem: &Problem) -> Result<Option<End>> {
     let program = LinearProgram::of(alloc, problem, problem.root())?;
-    Ok(scaled_end(alloc, &program, problem.root(), PIVOTS)?)
+    scaled_end(alloc, &program, problem.root(), PIVOTS)
 }
 
 /// The end of a problem's linear program over its box, on fractions.

@@ -132,39 +132,75 @@ pub(crate) fn integer_end(
     }
 }
 
-/// The end on scaled numbers, where the run came to one. The one error is want of memory.
-fn end_of_scaled(alloc: Global, run: Option<ScaledRunEnd>) -> Result<Option<End>, AllocError>
-    requires { IfSome run (λ e. PlaceIsWithin (length e.tableau.statuses) e.place) }
+/// The multipliers of a tableau on scaled numbers at this place.
+fn scaled_multipliers(
+    alloc: Global,
+    tableau: &ScaledTableau,
+    place: Place,
+) -> Result<Terms, AllocError>
+    requires { PlaceIsWithin (length tableau.now.statuses) place }
 {
-    let Some(ScaledRunEnd { place, tableau }) = run else {
-        return Ok(None);
-    };
-    let multipliers = match place {
-        Place::NoColumn { row } => tableau.mult_of_row(alloc, row)?,
-        _ => tableau.mult_of_cost(alloc)?,
-    };
+    match place {
+        Place::NoColumn { row } => tableau.mult_of_row(alloc, row),
+        _ => tableau.mult_of_cost(alloc),
+    }
+}
+
+/// The end of a run on scaled numbers that left this tableau at this place.
+fn scaled_end_at(
+    alloc: Global,
+    tableau: &ScaledTableau,
+    place: Place,
+) -> Result<Option<End>, AllocError>
+    requires { PlaceIsWithin (length tableau.now.statuses) place }
+{
+    let multipliers = scaled_multipliers(alloc, tableau, place)?;
+    let point = tableau.point(alloc)?;
     Ok(Some(End {
         place,
         pivots: tableau.pivots(),
-        point: tableau.point(alloc)?,
+        point,
         multipliers,
     }))
 }
 
-/// The end of a run of at most so many pivots on scaled numbers; none where it is given up.
+/// The end on scaled numbers, where the run came to one. The one error is want of memory.
+fn scaled_end_of(alloc: Global, run: Result<ScaledRunEnd, u64>) -> Result<Option<End>, AllocError>
+    requires { IfOk run (λ e. PlaceIsWithin (length e.tableau.statuses) e.place) }
+{
+    match run {
+        Ok(end) => scaled_end_at(alloc, &end.tableau, end.place),
+        Err(_) => Ok(None),
+    }
+}
+
+/// The tableau on scaled numbers at its start; none where it is given up.
+fn scaled_start(
+    alloc: Global,
+    program: &LinearProgram,
+    area: &IntBox,
+) -> Result<Option<ScaledTableau>, AllocError>
+    requires { length area.now ≡ length program.now.costs }
+    ensures { IfOk result (λ o. IfSome o (λ t. t.pivots ≡ 0)) }
+{
+    match ScaledProgram::of(alloc, program)? {
+        Some(program) => ScaledTableau::start(alloc, &program, area),
+        None => Ok(None),
+    }
+}
+
+/// The end of a run of at most so many pivots on scaled numbers; none where it is given up. A box of other columns is an error.
 pub(crate) fn scaled_end(
     alloc: Global,
     program: &LinearProgram,
     area: &IntBox,
     pivots: u32,
-) -> Result<Option<End>, AllocError>
-    requires { length area.now ≡ length program.now.costs }
-{
-    let Some(program) = ScaledProgram::of(alloc, program)? else {
-        return Ok(None);
-    };
-    match ScaledTableau::start(alloc, &program, area)? {
-        Some(start) => end_of_scaled(alloc, start.run(u64::from(pivots)).ok()),
+) -> Result<Option<End>> {
+    if area.len() != program.columns() {
+        bail!("a linear program of other columns");
+    }
+    match scaled_start(alloc, program, area)? {
+        Some(start) => Ok(scaled_end_of(alloc, start.run(u64::from(pivots)))?),
         None => Ok(None),
     }
 }

@@ -108,7 +108,7 @@ fn on_integers(
 /// The end of a run on scaled numbers.
 fn on_scaled(alloc: Global, problem: &Problem, with_cut: bool, pivots: u32) -> Result<Option<End>> {
     let program = program_of(alloc, problem, with_cut)?;
-    Ok(scaled_end(alloc, &program, problem.root(), pivots)?)
+    scaled_end(alloc, &program, problem.root(), pivots)
 }
 
 /// The end of a run on fractions.
