@@ -26,6 +26,7 @@ use std::env;
 use std::fs::File;
 use std::hash::{BuildHasher, BuildHasherDefault, DefaultHasher, RandomState};
 use std::io::{ErrorKind, Stderr, Stdout};
+use std::mem::forget;
 use std::process::ExitCode;
 use std::rt::{Clock, Env, Files};
 use std::sync::Wait;
@@ -111,6 +112,9 @@ fn status_of<
             None => explain(rt, &there, STANDARD_OUTPUT, out.met()),
         }
     }
+    // The process ends now, and the system takes all memory back at once. To let go of a long search piece by piece takes a tenth of the time in
+    // which it was read.
+    forget(ran.last);
     ran.status
 }
 
