@@ -62,8 +62,8 @@ uninstall:
 # `rt run` proves and builds the program. The run itself only shows that it starts.
 build: kit
 	@[ -x $(program) ] || { \
-	    echo "proving bnc and each crate below it, and building it. From nothing the proofs of all crates took 5,600 seconds of one processor"; \
-	    echo "(27 November 2026, tools/cost). make install-unproved installs a program that is built without its proof in a few minutes."; }
+	    echo "proving bnc and each crate below it, and building it. From nothing the proofs of all crates took 4,250 seconds of one processor"; \
+	    echo "(29 November 2026, tools/cost). make install-unproved installs a program that is built without its proof in a few minutes."; }
 	@cd crates/bnc_cli && log=$$(mktemp) && trap 'rm -f "$$log"' EXIT \
 	    && { rt run -- solve data/one.mps one.journal /dev/null >"$$log" 2>&1 || { cat "$$log"; exit 1; }; }
 
