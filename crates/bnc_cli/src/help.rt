@@ -10,7 +10,7 @@ use std::io::Error;
 use std::rt::{Env, Files};
 
 /// A disk that keeps what the system said of its last fault.
-pub trait Explained {
+pub(crate) trait Explained {
     /// That; none where there was no fault.
     fn said(&self) -> Option<Error>;
 }
@@ -22,10 +22,10 @@ impl<R: Files<File = File>> Explained for FileDisk<'_, R> {
 }
 
 /// What standard output is called.
-pub const STANDARD_OUTPUT: Option<&str> = Some("standard output");
+pub(crate) const STANDARD_OUTPUT: Option<&str> = Some("standard output");
 
 /// Tells what the system said of a file, if it said something.
-pub fn explain<R: Files<File = File> + Eprint>(
+pub(crate) fn explain<R: Files<File = File> + Eprint>(
     rt: &R,
     there: &Destination<'_>,
     name: Option<&str>,
@@ -39,7 +39,7 @@ pub fn explain<R: Files<File = File> + Eprint>(
 }
 
 /// Tells what is wrong with words that are no command.
-pub fn explain_usage<R: Files<File = File> + Env + Alloc + Eprint>(
+pub(crate) fn explain_usage<R: Files<File = File> + Env + Alloc + Eprint>(
     rt: &R,
     alloc: Global,
     there: &Destination<'_>,
