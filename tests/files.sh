@@ -98,7 +98,10 @@ record "$texts/model" | text record
 { printf '\3'; number 1; number 2; number 0; } | text offer
 { printf '\5'; number 0; printf '\1\0'; number 0; } | text close
 { printf 'BNCJRNL1'; frame record; printf '\0'; } | text begun
-{ printf 'BNCJRNL1'; frame record; frame offer; frame close; printf '\0'; } | text journal
+{ printf '\6\2'; cat "$texts/offer" "$texts/close"; } | text group
+{ printf 'BNCJRNL1'; frame record; frame group; printf '\0'; } | text journal
+# As programs wrote it before they wrote groups.
+{ printf 'BNCJRNL1'; frame record; frame offer; frame close; printf '\0'; } | text older
 printf '%s\n' 'events 0' 'nodes 1' 'cuts 0' 'open 1' 'best none' | text shown_begun
 printf '%s\n' 'events 2' 'nodes 1' 'cuts 0' 'open 0' 'best 6' | text shown
 echo 'earlier text' | text earlier
@@ -122,6 +125,12 @@ head -c $((close_at - 1)) "$texts/journal" | text torn
 { printf 'BNCJRNL1'; frame record; frame three; frame close; printf '\0'; } | text point
 { printf 'BNCJRNL1'; frame record; frame offer; frame offer; printf '\0'; } | text twice
 { printf 'BNCJRNL1'; frame offer; printf '\0'; } | text no_record
+{ printf '\6\101'; cat "$texts/offer" "$texts/close"; } | text many
+{ printf 'BNCJRNL1'; frame record; frame many; printf '\0'; } | text group_of_65
+head -c -1 "$texts/group" | text short
+{ printf 'BNCJRNL1'; frame record; frame short; printf '\0'; } | text group_cut
+{ printf '\6\3'; cat "$texts/offer" "$texts/close" "$texts/close"; } | text thrice
+{ printf 'BNCJRNL1'; frame record; frame thrice; printf '\0'; } | text third_refused
 printf 'BNCJRNL1\0\1\1' | text bare
 { cat "$texts/begun"; frame offer | tail -c +2 | head -c 9; } | text part
 sed 's/^\( FX .*\) 2$/\1 3/' "$texts/model" | text two
@@ -262,6 +271,9 @@ try 'a journal that is begun, resumed' 0 'cp "$texts/begun" j; bnc resume j c >o
 try 'a journal that is begun, shown' 0 'cp "$texts/begun" j; bnc show j >out' j=begun out=shown_begun
 try 'a finished journal, resumed' 0 'bnc resume j c >out' c=cert out=lines
 try 'a finished journal, shown' 0 'bnc show j >out' out=shown
+try 'a journal of single events, solved' 0 'cp "$texts/older" j; bnc solve one.mps j c >out' j=older c=cert out=lines
+try 'a journal of single events, resumed' 0 'cp "$texts/older" j; bnc resume j c >out' j=older c=cert out=lines
+try 'a journal of single events, shown' 0 'cp "$texts/older" j; bnc show j >out' j=older out=shown
 try 'a journal through a link' 0 'mv j there; ln -s there j; bnc solve one.mps j c >out' there=journal c=cert out=lines
 try 'a journal through a link to no file' 0 'ln -s new link; bnc solve one.mps link c >out' new=journal c=cert out=lines
 try 'the certificate is written by another run' 0 'bnc solve one.mps new none/c >first || bnc solve one.mps new c >out' new=journal first=sink c=cert out=lines
@@ -290,6 +302,9 @@ tag Damaged $offer_at
 point Damaged $offer_at
 twice Damaged $close_at
 no_record Damaged 8
+group_of_65 Damaged $offer_at
+group_cut Damaged $offer_at
+third_refused Damaged $offer_at
 END
 try 'no model in it, shown' 4 'cp "$texts/bare" j; bnc show j >out' j=bare out=NoModel
 try 'no model in it, resumed' 4 'cp "$texts/bare" j; bnc resume j c >out' j=bare out=NoModel c=none

@@ -18,7 +18,7 @@ import models
 import written
 from people import TOOLS, Skipped, Tests, example, inside, need
 from bnc_tools import report
-from bnc_tools.journal import records
+from bnc_tools.journal import records, single_events
 
 FIRST = "a knapsack with its journal"
 SIZES = (("wide", 1280, 800), ("phone", 390, 844))
@@ -322,29 +322,18 @@ def journals(tests):
     return f"{ends.get(4, 0)} journals refused, {ends.get(0, 0)} taken"
 
 
-def grouped(payloads):
-    """The payloads with each two that may stand in a group in one of them."""
-    made = payloads[:1]
-    for payload in payloads[1:]:
-        if made[-1][0] == 3 and payload[0] == 5:
-            made[-1] = b"\x06\x02" + made[-1] + payload
-        else:
-            made.append(payload)
-    return made
-
-
-def groups(tests):
-    """a journal whose records are groups of events tells the same search"""
+def older_form(tests):
+    """a journal of which each record is one event, as it was before there were groups, tells the same search"""
     model, journal, certificate, _ = tests.solve("b", example("blend"))
     with open(journal, "rb") as file:
         payloads = [content for _, content in records(file, journal)]
-    made_of_groups = grouped(payloads)
-    need(len(made_of_groups) < len(payloads), "there is no group")
-    frames = b"".join(b"\x01" + len(payload).to_bytes(4, "little") + payload for payload in made_of_groups)
+    singles = payloads[:1] + [code for payload in payloads[1:] for code in single_events(payload)]
+    need(len(singles) > len(payloads), "there is no group")
+    frames = b"".join(b"\x01" + len(payload).to_bytes(4, "little") + payload for payload in singles)
     other = tests.path("b.journal2", b"BNCJRNL1" + frames + b"\x00")
     one, two = inside("bnc-report", model, certificate, journal), inside("bnc-report", model, certificate, other)
     need((two.status, two.error) == (0, "") and two.out == one.out.replace("b.journal", "b.journal2"), f"{two.status} {two.error}")
-    return f"{len(payloads)} records in {len(made_of_groups)}"
+    return f"{len(singles)} records and {len(payloads)}"
 
 
 # ---- pictures
@@ -366,7 +355,7 @@ def pictures(tests, folder):
         page.picture(os.path.join(folder, "report_dark.png"))
 
 
-CASES = [alone, names_that_hurt, left_out, in_browser, folding, bad_input, journals, groups]
+CASES = [alone, names_that_hurt, left_out, in_browser, folding, bad_input, journals, older_form]
 
 
 def main():

@@ -136,6 +136,19 @@ class Payload:
         return made
 
 
+def single_events(content: bytes) -> list[bytes]:
+    """The codes of the events of a record, each as the record of that event alone would have it."""
+    if content[:1] != bytes([GROUP]):
+        return [content]
+    payload, codes = Payload(content), []
+    payload.take(2)
+    for _ in range(content[1]):
+        begin = payload.at
+        payload.event()
+        codes.append(content[begin:payload.at])
+    return codes
+
+
 # ---- records
 
 def records(file: BinaryIO, path: str) -> Iterator[tuple[int, bytes]]:

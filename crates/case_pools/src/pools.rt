@@ -1,12 +1,9 @@
 // Pools with their journals in memory.
-ghost use Rattle.std.specs.Prelude.{◌≡◌, ◌≤◌, ◌+◌, [], length, IfOk, None};
-ghost use Rattle.std.specs.List.{AllByRecursion};
+ghost use Rattle.std.specs.Prelude.{◌≡◌, ◌≤◌, [], IfOk, None};
 ghost use Rattle.outside.specs.OnDisk.{disk_now};
 ghost use Rattle.node_journal.specs.Whole.{payloads_in};
 ghost use Rattle.event_core.specs.States.{first_state};
-ghost use Rattle.event_core.specs.Histories.{journaled};
 ghost use Rattle.node_pool.specs.Payloads.{IsJournalOf};
-ghost use Rattle.node_pool.specs.Stored.{IsStored};
 ghost use Rattle.node_tree.specs.Limits.{most_nodes};
 
 use anyhow::{Result, bail};
@@ -23,7 +20,6 @@ const MODEL: &[u8] = b"model";
 /// A journal of no payload.
 fn empty_journal(alloc: Global) -> Result<Journal<MemDisk>>
     ensures sound { IfOk result (λ j. j.fault ≡ None) }
-    ensures count { IfOk result (λ j. j.count ≡ 0) }
     ensures empty { IfOk result (λ j. payloads_in (disk_now j.disk) ≡ []) }
 {
     let mut disk = MemDisk::new(alloc);
@@ -39,7 +35,6 @@ fn empty_journal(alloc: Global) -> Result<Journal<MemDisk>>
 /// A journal of the model's record alone.
 fn first_journal(alloc: Global) -> Result<Journal<MemDisk>>
     ensures sound { IfOk result (λ j. j.fault ≡ None) }
-    ensures count { IfOk result (λ j. j.count ≡ 1) }
     ensures stands { IfOk result (λ j. IsJournalOf (payloads_in (disk_now j.disk)) []) }
 {
     let mut journal = empty_journal(alloc)?;
@@ -62,9 +57,7 @@ fn pool_of(
     requires few { budget ≤ most_nodes }
     requires unheld { state.state.holds ≡ [] }
     requires sound { journal.fault ≡ None }
-    requires counted { journal.count ≡ length (journaled state.history) + 1 }
     requires stands { IsJournalOf (payloads_in (disk_now journal.disk)) state.history }
-    requires stored { AllByRecursion IsStored (journaled state.history) }
     ensures state { IfOk result (λ p. p.state ≡ state) }
     ensures budget { IfOk result (λ p. p.budget ≡ budget) }
     ensures halt { IfOk result (λ p. p.halt ≡ None) }

@@ -1,15 +1,18 @@
 -- Histories that go on with events of worker 0.
-use Rattle.std.specs.Prelude.{◌≡◌, List, [], ◌∷◌, ◌++◌, Some, refl}
+use Rattle.std.specs.Prelude.{◌≡◌, true, List, [], ◌∷◌, ◌++◌, All, Some, refl}
 use Rattle.std.proofs.Common.{sym, ap, ◌∙◌, subst, append_assoc}
 use Rattle.std.proofs.lemmas.List.{append-nil}
-use Rattle.std.proofs.lemmas.List.Elements.{All-nil, All-cons, All-append}
+use Rattle.std.proofs.lemmas.List.Elements.{All-nil, All-cons, All-head, All-tail, All-append}
 use Rattle.node_events.specs.declared.event.Event.{Event}
+use Rattle.node_events.specs.declared.event.Event.TheVariants.{Claim, Release, Cut, Offer, Split, Close}
 use Rattle.event_core.specs.declared.entry.Entry.{Entry}
 use Rattle.event_core.specs.States.{State}
 use Rattle.event_core.specs.After.{after}
-use Rattle.event_core.specs.Histories.{state_from}
+use Rattle.event_core.specs.Histories.{is_journaled, state_from}
 use Rattle.event_core.specs.Rooms.{Recorded}
 use Rattle.event_core.specs.Lemmas.Running.{state_from-append, from-problem}
+use Rattle.expand.specs.Laws.{entries_of}
+use Rattle.node_pool.specs.Applied.{AppliesAll}
 use Rattle.core_search.specs.Entries.{IsOfWorker, IsGreatestIfClaim, AreGreatestClaims, ExtendsHistory}
 
 abbrev entry : Event → Entry
@@ -27,6 +30,35 @@ one_event old new e s h g = record {
   state = s;
   of_worker = All-cons IsOfWorker (entry e) [] refl (All-nil IsOfWorker);
   greatest = (g, tt);
+}
+
+-- events that a journal has: none is a claim
+all_of_worker : (es : List Event) → All IsOfWorker (entries_of 0 es)
+all_of_worker [] = All-nil IsOfWorker
+all_of_worker (e ∷ es) = All-cons IsOfWorker (entry e) (entries_of 0 es) refl (all_of_worker es)
+
+no_claim : (s : State) (e : Event) → is_journaled e ≡ true → IsGreatestIfClaim s e
+no_claim s (Claim i) j = cc
+no_claim s (Release i) j = tt
+no_claim s (Cut mult) j = tt
+no_claim s (Offer x) j = tt
+no_claim s (Split i j b r) h = tt
+no_claim s (Close i proof) j = tt
+
+no_claims : (s : State) (es : List Event) → All (λ e. is_journaled e ≡ true) es → AreGreatestClaims s (entries_of 0 es)
+no_claims s [] j = tt
+no_claims s (e ∷ es) j = (
+  no_claim s e (All-head (λ (f : Event). is_journaled f ≡ true) e es j),
+  no_claims (after s (Some 0) e) es (All-tail (λ (f : Event). is_journaled f ≡ true) e es j),
+)
+
+pub journaled_events : (old new : Recorded) (es : List Event) → All (λ e. is_journaled e ≡ true) es → AppliesAll old (Some 0) es new → ExtendsHistory old new
+journaled_events old new es j h = record {
+  entries = entries_of 0 es;
+  history = h.history;
+  state = h.state;
+  of_worker = all_of_worker es;
+  greatest = no_claims old.state es j;
 }
 
 claims_on : (s : State) (es fs : List Entry) → AreGreatestClaims s es → AreGreatestClaims (state_from s es) fs → AreGreatestClaims s (es ++ fs)

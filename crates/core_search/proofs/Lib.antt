@@ -9,5 +9,6 @@ pub mod EndedBy
 pub mod Stepping
 pub mod Looking
 pub mod Separating
+pub mod Closing
 pub mod Visiting
 mod Limiting

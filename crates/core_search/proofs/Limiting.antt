@@ -1,12 +1,10 @@
 -- The limit on cuts is kept.
-use Rattle.std.specs.Prelude.{◌≡◌, ◌≤◌, ◌+◌, ◌-◌, max, ℕ, List, ◌∷◌, length, take, Some, refl}
-use Rattle.std.proofs.Common.{sym, subst, arith}
+use Rattle.std.specs.Prelude.{◌≤◌, ◌+◌, ◌-◌, max, ℕ, List, length, take, refl}
+use Rattle.std.proofs.Common.{arith}
 use Rattle.std.proofs.lemmas.List.{length-take}
 use Rattle.problem_box.specs.declared.span.Span.{Span}
 use Rattle.problem.specs.Linear.{Multipliers}
-use Rattle.node_events.specs.declared.event.Event.TheVariants.{Cut}
 use Rattle.event_core.specs.States.{State}
-use Rattle.event_core.specs.After.{after}
 use Rattle.expand.specs.declared.finding.Finding.{Finding}
 use Rattle.expand.specs.declared.finding.Finding.TheVariants.{Cuts, Shut, Whole, Solved, Loose}
 use Rattle.expand.specs.declared.settlement.Settlement.{Settlement}
@@ -14,7 +12,6 @@ use Rattle.expand.specs.declared.settlement.Settlement.TheVariants.{Separated, C
 use Rattle.expand.specs.Settling.{settled}
 use Rattle.expand.specs.Lemmas.Rooms.{IsNotSeparated, without_cuts}
 use Rattle.core_search.specs.Deciding.{KeepsToLimit}
-use Rattle.event_core.specs.Lemmas.Frames.{cuts_after}
 
 -- ---- what is to be made
 no_cuts_fit : (limit : ℕ) (s : State) (g : Settlement) → IsNotSeparated g → KeepsToLimit limit s g
@@ -37,13 +34,6 @@ settled_fits limit s box (Shut proof) = tt
 settled_fits limit s box (Whole x) = no_cuts_fit limit s _ (without_cuts s box limit (Whole x) (λ mults e. cc))
 settled_fits limit s box (Solved k x mult v column) = no_cuts_fit limit s _ (without_cuts s box limit (Solved k x mult v column) (λ mults e. cc))
 settled_fits limit s box (Loose reason j b) = no_cuts_fit limit s _ (without_cuts s box limit (Loose reason j b) (λ mults e. cc))
-
--- ---- what is made
-pub few_still : (s t : State) (mult : Multipliers) (mults : List Multipliers) (most : ℕ) → t ≡ after s (Some 0) (Cut mult)
-    → length s.cuts + length (mult ∷ mults) ≤ most → length t.cuts + length mults ≤ most
-few_still s t mult mults most e h =
-    let n : length t.cuts ≤ length s.cuts + 1 = subst (λ (u : State). length u.cuts ≤ length s.cuts + 1) (sym e) (cuts_after s (Some 0) (Cut mult)).1 in
-    omega (arith, n, h)
 
 -- one after the other
 pub joined_few : (limit a b c : ℕ) → b ≤ max limit a → c ≤ max limit b → c ≤ max limit a

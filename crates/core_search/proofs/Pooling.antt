@@ -1,8 +1,8 @@
 -- How a pool goes on, one call after another.
-use Rattle.std.specs.Prelude.{◌≡◌, List, [], ◌∷◌, ◌++◌, Some, slice_get, refl}
-use Rattle.std.proofs.Common.{sym, ap, ◌∙◌, subst}
+use Rattle.std.specs.Prelude.{◌≡◌, ◌<◌, ℕ, IsSome, List, [], ◌∷◌, ◌++◌, length, Option, Some, None, Err, slice_get, refl}
+use Rattle.std.proofs.Common.{sym, ap, ◌∙◌, subst, arith}
+use Rattle.std.proofs.lemmas.Bool.{false≢true}
 use Rattle.outside.specs.declared.disk.Disk.{Ghosts}
-use Rattle.outside.specs.Faults.{Counts}
 use Rattle.node_events.specs.declared.event.Event.{Event}
 use Rattle.event_core.specs.declared.entry.Entry.{Entry}
 use Rattle.event_core.specs.States.{State}
@@ -10,13 +10,15 @@ use Rattle.event_core.specs.After.{after}
 use Rattle.event_core.specs.Rooms.{Recorded}
 use Rattle.node_journal.specs.declared.journal.Journal.{Journal}
 use Rattle.node_journal.specs.Whole.{payloads_in}
-use Rattle.node_pool.specs.Halting.{is_disk_fault}
+use Rattle.node_pool.specs.Halting.{halt_after}
 use Rattle.node_pool.specs.Payloads.{model_in}
 use Rattle.node_pool.specs.Applied.{Applies, AppliesNothing}
 use Rattle.node_pool.specs.declared.answers.CommitFault.{CommitFault}
+use Rattle.node_pool.specs.declared.answers.CommitFault.TheVariants as fault
+use Rattle.node_pool.specs.declared.halt.Halt.{Halt}
 use Rattle.node_pool.specs.declared.pool.Pool.{Pool}
 use Rattle.core_search.specs.Entries.{ExtendsHistory, IsGreatestIfClaim}
-use Rattle.core_search.specs.Pools.{PoolGoesOn, StaysSound, FailsBy}
+use Rattle.core_search.specs.Pools.{PoolGoesOn, StaysSound, IsFaultHalt}
 use Rattle.core_search.proofs.Entering.{one_event, joined, stays}
 
 -- an event after nothing
@@ -53,5 +55,11 @@ module _ {D : Type 0} {d : Ghosts D} where
   pub sound_still : (a b c : Pool D d) → StaysSound a b → StaysSound b c → StaysSound a c
   sound_still a b c h k = record { halt = k.halt; count = k.count ∙ h.count }
 
-  pub fails_then : (a b c : Pool D d) (f : CommitFault) → StaysSound a b → FailsBy f b c → FailsBy f a c
-  fails_then a b c f h k = record { halt = k.halt; count = subst (λ n. Counts n (d.count c.journal.disk) (is_disk_fault f)) h.count k.count }
+-- ---- how a commit fails
+-- the halt of a pool that wasn't halted before
+pub fault_halt : (f : CommitFault) (es : List Event) (count : ℕ) (old new : Option Halt) → 0 < length es → old ≡ None → (f ≡ fault.Halted → IsSome old) → new ≡ halt_after old (Err f) es count → IsFaultHalt f new
+fault_halt fault.Disk es count old new some h u e = (count, es, e)
+fault_halt fault.Budget [] count old new some h u e = absurd (omega (arith, some))
+fault_halt fault.Budget (x ∷ es) count old new some h u e = (x, e)
+fault_halt fault.Memory es count old new some h u e = e ∙ h
+fault_halt fault.Halted es count old new some h u e = absurd (false≢true (subst IsSome h (u refl)))

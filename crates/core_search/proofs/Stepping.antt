@@ -1,7 +1,7 @@
 -- What a step does to the state and to the list of the open nodes.
 use Rattle.std.specs.Prelude.{◌≡◌, ◌<◌, ◌≤◌, ◌+◌, ◌-◌, ℕ, ℤ, pos, ◌≤ℤ◌, ◌<ℤ◌, nat_abs, true, List, [], ◌∷◌, ◌++◌, length, max, All, Option, Some, None, slice_get, slice_index_or, Result, Ok, Err, OnOk, OnErr, refl}
 use Rattle.std.specs.Option.{ForSome}
-use Rattle.std.proofs.Common.{sym, ap, ◌∙◌, subst, arith, to_z, of_z, w64}
+use Rattle.std.proofs.Common.{sym, ap, ◌∙◌, subst, arith}
 use Rattle.std.proofs.Math.Nat.{le-max_left, max-le}
 use Rattle.std.proofs.lemmas.Int.{ints}
 use Rattle.std.proofs.lemmas.List.Elements.{All-get_or}
@@ -20,15 +20,16 @@ use Rattle.event_core.specs.States.{State, tree_of, is_open, box_of, cutoff}
 use Rattle.event_core.specs.Judging.{judged}
 use Rattle.event_core.specs.Splits.{has_both, is_reason}
 use Rattle.event_core.specs.After.{after_claim, after_close, after_offer, after_split}
-use Rattle.event_core.specs.Histories.{IsLegal}
+use Rattle.event_core.specs.Histories.{state_from}
 use Rattle.event_core.specs.Laws.{unheld}
 use Rattle.event_core.specs.Lemmas.Passing.{passing}
 use Rattle.event_core.specs.Lemmas.Boxes.{both_within, both_tells}
 use Rattle.event_core.specs.Lemmas.Ended.{left_within}
 use Rattle.expand.specs.declared.settlement.Branching.{Branching}
-use Rattle.expand.specs.Settlements.{IsBranching}
-use Rattle.expand.specs.Lemmas.Bounds.{kept_bound}
-use Rattle.expand.specs.Lemmas.Events.{split_legal}
+use Rattle.expand.specs.declared.settlement.Settlement.{Settlement}
+use Rattle.expand.specs.declared.settlement.Settlement.TheVariants.{Separated, Closed, Improved, Branched}
+use Rattle.expand.specs.Laws.{entries_of}
+use Rattle.expand.specs.Settlements.{events_of, IsBranching, IsSettlement}
 use Rattle.core_search.specs.declared.worker.Worker.{Worker}
 use Rattle.core_search.specs.Deciding.{IsSameButCuts}
 use Rattle.core_search.specs.Workers.{IsPrepared}
@@ -37,8 +38,8 @@ use Rattle.core_search.specs.declared.open_node.OpenNode.{OpenNode}
 use Rattle.core_search.specs.Holding.{IsHeldAlone}
 use Rattle.core_search.specs.OpenNodes.{IsOpenNode, AreOpenNodes, children, work_left}
 use Rattle.core_search.specs.Entries.{IsGreatest}
-use Rattle.core_search.specs.Processing.{EndsNode, IsExhausted}
-use Rattle.core_search.proofs.Acting.{yours, claimed, given_back}
+use Rattle.core_search.specs.Processing.{EndsNode, IsClosing, IsExhausted}
+use Rattle.core_search.proofs.Acting.{claimed, given_back}
 use Rattle.core_search.proofs.OpenLists.{closed_nodes, split_nodes, offered_nodes, cut_nodes, less_closed, less_split}
 
 -- ---- results
@@ -50,6 +51,11 @@ pub on_any_err : {A E P : Type 0} (r : Result A E) → P → OnErr r P
 on_any_err (Ok x) h = tt
 on_any_err (Err e) h = h
 
+-- whatever the result is
+pub on_either : {A E P Q R : Type 0} (r : Result A E) → (P → R) → (Q → R) → OnOk r P → OnErr r Q → R
+on_either (Ok x) f g p q = f p
+on_either (Err e) f g p q = g q
+
 pub on_both_ok : {A E P Q R : Type 0} (r : Result A E) → (P → Q → R) → OnOk r P → OnOk r Q → OnOk r R
 on_both_ok (Ok x) f h k = f h k
 on_both_ok (Err e) f h k = tt
@@ -59,21 +65,28 @@ on_both_ok (Err e) f h k = tt
 pub joined_within : (budget : ℕ) (s t u : State) → length t.nodes ≤ max budget (length s.nodes) → length u.nodes ≤ max budget (length t.nodes) → length u.nodes ≤ max budget (length s.nodes)
 joined_within budget s t u h k = let m = max-le (le-max_left budget (length s.nodes)) h in omega (arith, k, m)
 
--- ---- the node stays held
 -- ---- closings
 -- the node has ended
-pub ends_closed : (budget : ℕ) (s t : State) (os : List OpenNode) (o : OpenNode) → t ≡ after_close s o.number → IsHeldAlone s o.number → AreOpenNodes s (os ++ o ∷ []) → EndsNode budget s (os ++ o ∷ []) t os
+ends_closed : (budget : ℕ) (s t : State) (os : List OpenNode) (o : OpenNode) → t ≡ after_close s o.number → IsHeldAlone s o.number → AreOpenNodes s (os ++ o ∷ []) → EndsNode budget s (os ++ o ∷ []) t os
 ends_closed budget s t os o e h b = subst (λ (u : State). EndsNode budget s (os ++ o ∷ []) u os) (sym e) (record {
   unheld = given_back s o.number h;
   nodes = closed_nodes s os o b;
   less = less_closed budget (length s.nodes) os o;
 })
 
-pub ends_point : (budget : ℕ) (s t : State) (x : List ℤ) (os : List OpenNode) (o : OpenNode) → t ≡ after_close (after_offer s x) o.number → IsHeldAlone s o.number → AreOpenNodes s (os ++ o ∷ [])
+ends_point : (budget : ℕ) (s t : State) (x : List ℤ) (os : List OpenNode) (o : OpenNode) → t ≡ after_close (after_offer s x) o.number → IsHeldAlone s o.number → AreOpenNodes s (os ++ o ∷ [])
     → EndsNode budget s (os ++ o ∷ []) t os
 ends_point budget s t x os o e h b =
     let r = ends_closed budget (after_offer s x) t os o e (record { held = h.held; opened = h.opened }) (offered_nodes s x (os ++ o ∷ []) b) in
     record { unheld = r.unheld; nodes = r.nodes; less = r.less }
+
+-- by the events that close it
+ends_closing : (budget : ℕ) (s t : State) (os : List OpenNode) (o : OpenNode) (g : Settlement) → IsClosing g → t ≡ state_from s (entries_of 0 (events_of o.number g)) → IsHeldAlone s o.number
+    → AreOpenNodes s (os ++ o ∷ []) → EndsNode budget s (os ++ o ∷ []) t os
+ends_closing budget s t os o (Separated mults) k e h b = absurd k
+ends_closing budget s t os o (Closed proof) k e h b = ends_closed budget s t os o e h b
+ends_closing budget s t os o (Improved x proof) k e h b = ends_point budget s t x os o e h b
+ends_closing budget s t os o (Branched branching) k e h b = absurd k
 
 -- ---- splits
 abbrev no_span : Span
@@ -86,8 +99,8 @@ module _ (s : State) (o : OpenNode) (open_node : IsOpenNode s o) (b : Branching)
   reason : is_reason s.problem s.cuts (box_of s o.number) (cutoff s) b.place.column b.place.bound b.reason ≡ true
   reason = ap (λ ss. is_reason s.problem s.cuts ss (cutoff s) b.place.column b.place.bound b.reason) (sym open_node.area) ∙ h.holds
 
-  pub split_is_legal : IsHeldAlone s o.number → IsLegal s (Some 0) (Split o.number b.place.column b.place.bound b.reason)
-  split_is_legal held = split_legal s 0 o.number open_node.opened (yours s o.number held) b.place.column b.place.bound b.reason both reason
+  pub split_settles : IsSettlement s (box_of s o.number) (Branched b)
+  split_settles = record { both = both; holds = reason }
 
   split_admitted : judged s None (Split o.number b.place.column b.place.bound b.reason) ≡ Yes
   split_admitted =
@@ -124,13 +137,6 @@ module _ (ss : List Span) (j : ℕ) (b : ℤ) (h : has_both (slice_get ss j) b �
       let k = left_at (slice_index_or ss j no_span) there in
       let n = All-get_or IsModestSpan ss j no_span l m in
       omega (arith, ints, k.0, k.1, n.0, n.1)
-
-module _ (s : State) (box : List Span) (b : Branching) (h : IsBranching s box b) (m : All IsModestSpan box) where
-  pub kept_is : to_z w64 (of_z w64 b.place.bound) ≡ b.place.bound
-  kept_is = kept_bound b.place.bound (bound_modest box b.place.column b.place.bound h.both m)
-
-  pub kept_branching : IsBranching s box (record { place = record { column = b.place.column; bound = to_z w64 (of_z w64 b.place.bound) }; reason = b.reason; value = b.value })
-  kept_branching = subst (λ y. IsBranching s box (record { place = record { column = b.place.column; bound = y }; reason = b.reason; value = b.value })) (sym kept_is) (record { both = h.both; holds = h.holds })
 
 pub ends_split : (budget : ℕ) (s t : State) (os us : List OpenNode) (o : OpenNode) (j : ℕ) (b : ℤ) (value : Option ℚ) → t ≡ after_split s o.number j b → us ≡ os ++ children (length s.nodes) o.area j b value
     → IsHeldAlone s o.number → AreOpenNodes s (os ++ o ∷ []) → IsTree (tree_of s) → length s.ended ≡ length s.nodes → j < length s.problem.spans → length s.nodes + 2 ≤ budget
@@ -179,12 +185,7 @@ ends_after_cuts budget s t u before after e h = record {
   less = subst (λ n. work_left budget u after < budget - n + length before) (ap (λ (v : State). length v.nodes) e) h.less;
 }
 
-pub closed_after_cuts : (budget : ℕ) (s t u : State) (os : List OpenNode) (o : OpenNode) → IsSameButCuts s t → u ≡ after_close t o.number → IsHeldAlone s o.number → AreOpenNodes s (os ++ o ∷ [])
-    → EndsNode budget s (os ++ o ∷ []) u os
-closed_after_cuts budget s t u os o c e h b =
-    ends_after_cuts budget s t u (os ++ o ∷ []) os c (ends_closed budget t u os o e (held_cuts s t o.number c h) (nodes_cuts s t (os ++ o ∷ []) c b))
-
-pub point_after_cuts : (budget : ℕ) (s t u : State) (x : List ℤ) (os : List OpenNode) (o : OpenNode) → IsSameButCuts s t → u ≡ after_close (after_offer t x) o.number → IsHeldAlone s o.number
+pub closing_after_cuts : (budget : ℕ) (s t u : State) (os : List OpenNode) (o : OpenNode) (g : Settlement) → IsSameButCuts s t → IsClosing g → u ≡ state_from t (entries_of 0 (events_of o.number g)) → IsHeldAlone s o.number
     → AreOpenNodes s (os ++ o ∷ []) → EndsNode budget s (os ++ o ∷ []) u os
-point_after_cuts budget s t u x os o c e h b =
-    ends_after_cuts budget s t u (os ++ o ∷ []) os c (ends_point budget t u x os o e (held_cuts s t o.number c h) (nodes_cuts s t (os ++ o ∷ []) c b))
+closing_after_cuts budget s t u os o g c k e h b =
+    ends_after_cuts budget s t u (os ++ o ∷ []) os c (ends_closing budget t u os o g k e (held_cuts s t o.number c h) (nodes_cuts s t (os ++ o ∷ []) c b))

@@ -1,6 +1,6 @@
 -- Events of the worker, one after another, and the visits that they make up.
-use Rattle.std.specs.Prelude.{◌≡◌, ℕ, List, [], ◌∷◌, ◌++◌, length, map, All, Some, refl}
-use Rattle.std.proofs.Common.{sym, ap, ◌∙◌, subst, arith, append_assoc}
+use Rattle.std.specs.Prelude.{◌≡◌, ℕ, List, [], ◌∷◌, ◌++◌, map, All, Some, refl}
+use Rattle.std.proofs.Common.{sym, ap, ◌∙◌, append_assoc}
 use Rattle.std.proofs.lemmas.List.{append-nil, map-append}
 use Rattle.std.proofs.lemmas.List.Elements.{All-nil, All-cons, All-append}
 use Rattle.problem.specs.Linear.{Multipliers}
@@ -12,7 +12,7 @@ use Rattle.event_core.specs.Histories.{state_from}
 use Rattle.event_core.specs.Rooms.{Recorded}
 use Rattle.event_core.specs.Lemmas.Running.{state_from-append}
 use Rattle.expand.specs.Laws.{entries_of}
-use Rattle.node_pool.specs.Applied.{Applies, AppliesNothing}
+use Rattle.node_pool.specs.Applied.{Applies, AppliesAll, AppliesNothing}
 use Rattle.pseudo_cost.specs.declared.column_gains.ColumnGains.{ColumnGains}
 use Rattle.expand.specs.declared.settlement.Settlement.{Settlement}
 use Rattle.core_search.specs.declared.open_node.OpenNode.{OpenNode}
@@ -28,8 +28,11 @@ nothing a b h = record { history = h.history ∙ sym (append-nil a.history); sta
 pub no_change : (a : Recorded) → Makes [] a a
 no_change a = record { history = sym (append-nil a.history); state = refl }
 
+pub several : (a b : Recorded) (es : List Event) → AppliesAll a (Some 0) es b → Makes es a b
+several a b es h = record { history = h.history; state = h.state }
+
 pub one : (a b : Recorded) (e : Event) → Applies a (Some 0) e b → Makes (e ∷ []) a b
-one a b e h = record { history = h.history; state = h.state }
+one a b e h = several a b (e ∷ []) h
 
 pub both : (a b c : Recorded) (es fs : List Event) → Makes es a b → Makes fs b c → Makes (es ++ fs) a c
 both a b c es fs h k = record {
@@ -63,29 +66,6 @@ cuts_end_none (m ∷ ms) = All-cons EndsNone (Cut m) (map Cut ms) tt (cuts_end_n
 
 pub unended_cuts : (a b : Recorded) (mults : List Multipliers) → Makes (map Cut mults) a b → EndsNoNode a b
 unended_cuts a b mults h = unended a b (map Cut mults) (cuts_end_none mults) h
-
--- ---- the first of some cuts
-pub record MakesFirst (all rest : List Multipliers) (a b : Recorded) : Type 0 where
-  pub first : List Multipliers
-  pub parts : all ≡ first ++ rest
-  pub makes : Makes (map Cut first) a b
-
-pub first_none : (all : List Multipliers) (a : Recorded) → MakesFirst all all a a
-first_none all a = record { first = []; parts = refl; makes = no_change a }
-
-pub first_more : (all rest : List Multipliers) (m : Multipliers) (a b c : Recorded) → MakesFirst all (m ∷ rest) a b → Makes (Cut m ∷ []) b c → MakesFirst all rest a c
-first_more all rest m a b c h k = record {
-  first = h.first ++ m ∷ [];
-  parts = h.parts ∙ sym (append_assoc h.first (m ∷ []) rest);
-  makes = subst (λ es. Makes es a c) (sym (map-append Cut h.first (m ∷ []))) (both a b c (map Cut h.first) (Cut m ∷ []) h.makes k);
-}
-
-pub first_all : (all rest : List Multipliers) (a b : Recorded) → length rest ≡ 0 → MakesFirst all rest a b → Makes (map Cut all) a b
-first_all all [] a b e h = subst (λ ms. Makes (map Cut ms) a b) (sym (h.parts ∙ append-nil h.first)) h.makes
-first_all all (m ∷ ms) a b e h = absurd (omega (arith, e))
-
-pub first_unended : (all rest : List Multipliers) (a b : Recorded) → MakesFirst all rest a b → EndsNoNode a b
-first_unended all rest a b h = unended_cuts a b h.first h.makes
 
 -- ---- a node is decided
 pub decision_unended : (limit : ℕ) (o : OpenNode) (old new : Recorded) (before after : List ColumnGains) (g : Settlement) → IsDecision limit o old new before after g → EndsNoNode old new

@@ -1,5 +1,5 @@
 -- How a pool goes on, and how it is halted.
-use Rattle.std.specs.Prelude.{◌≡◌, ℕ, Bool, true, false, [], ◌∷◌, ◌++◌, Option, Some, None}
+use Rattle.std.specs.Prelude.{◌≡◌, ℕ, Bool, true, false, List, [], ◌∷◌, ◌++◌, Option, Some, None}
 use Rattle.outside.specs.declared.disk.Disk.{Ghosts}
 use Rattle.outside.specs.Faults.{Counts}
 use Rattle.node_events.specs.declared.event.Event.{Event}
@@ -32,7 +32,7 @@ pub record StaysSound {D : Type 0} {d : Ghosts D} (old new : Pool D d) : Type 0 
 
 -- why a pool is halted
 abbrev pub IsDiskHalt : Option Halt → Type 0
-IsDiskHalt h = (n : ℕ) × (e : Event) × (h ≡ Some (halt.Disk n e))
+IsDiskHalt h = (n : ℕ) × (es : List Event) × (h ≡ Some (halt.Disk n es))
 
 -- a search that stopped because its budget of nodes was used up
 abbrev pub IsBudgetHalt : Option Halt → Type 0

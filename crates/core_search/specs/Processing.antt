@@ -1,6 +1,8 @@
 -- What a step does with its node, and how it ends a search.
 use Rattle.std.specs.Prelude.{◌≡◌, ◌<◌, ℕ, List, []}
 use Rattle.event_core.specs.States.{State, open_count}
+use Rattle.expand.specs.declared.settlement.Settlement.{Settlement}
+use Rattle.expand.specs.declared.settlement.Settlement.TheVariants.{Separated, Closed, Improved, Branched}
 use Rattle.core_search.specs.declared.open_node.OpenNode.{OpenNode}
 use Rattle.core_search.specs.declared.node_loop.Ending.{Ending}
 use Rattle.core_search.specs.declared.node_loop.Ending.TheVariants.{Finished, Spent, Disk, Memory}
@@ -23,3 +25,10 @@ IsEnding budget Finished s = open_count s ≡ 0
 IsEnding budget Spent s = IsExhausted budget s
 IsEnding budget Disk s = Unit {0}
 IsEnding budget Memory s = Unit {0}
+
+-- the settlement closes its node
+abbrev pub IsClosing : Settlement → Type 0
+IsClosing (Separated mults) = ⊥
+IsClosing (Closed proof) = Unit {0}
+IsClosing (Improved x proof) = Unit {0}
+IsClosing (Branched b) = ⊥

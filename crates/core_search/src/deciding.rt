@@ -1,5 +1,5 @@
 // How the node that the worker holds is settled.
-ghost use Rattle.std.specs.Prelude.{◌≡◌, ◌≤◌, ◌+◌, max, map, None, IfOk, IfErr, OnOk, OnErr, IsErrOf, length};
+ghost use Rattle.std.specs.Prelude.{◌≡◌, ◌≤◌, ◌+◌, [], max, map, None, IfOk, IfErr, OnOk, OnErr, IsErrOf, length};
 ghost use Rattle.node_events.specs.declared.event.Event.TheVariants.{Cut};
 ghost use Rattle.event_core.specs.States.{cutoff};
 ghost use Rattle.expand.specs.Expansion.{IsExpansion, costs_after};
@@ -12,12 +12,11 @@ ghost use Rattle.core_search.specs.Visits.{Makes, EndsNoNode, IsLook, IsDecision
 ghost use Rattle.core_search.specs.Workers.{IsPrepared};
 ghost use Rattle.problem.specs.Limits.{most_cuts};
 
-use crate::events::apply_event;
+use crate::events::settle_node;
 use crate::open_node::{OpenNode, node_conditions_hold};
 use crate::worker::Worker;
 use event_core::State;
 use expand::{Finding, Mults, Settlement, Subproblem, expand, settle};
-use node_events::Event;
 use node_pool::{CommitFault, Pool};
 use outside::Disk;
 use std::alloc::{AllocError, Global};
@@ -91,8 +90,13 @@ fn settle_again(
     settlement(alloc, state, worker, node, 0)
 }
 
-/// Makes cuts. At an error the first of them may be made.
-fn add_cuts<D: Disk>(alloc: Global, pool: &mut Pool<D>, mults: Mults) -> Result<(), CommitFault>
+/// Makes cuts, all in one payload, if there are any. At an error none of them is made.
+fn add_cuts<D: Disk>(
+    alloc: Global,
+    pool: &mut Pool<D>,
+    node: u32,
+    mults: Mults,
+) -> Result<(), CommitFault>
     requires sound { pool.old.halt ≡ None }
     requires new { AreNewCuts pool.old.state.state mults }
     ensures goes_on { PoolGoesOn pool.old pool.new }
@@ -102,12 +106,12 @@ fn add_cuts<D: Disk>(alloc: Global, pool: &mut Pool<D>, mults: Mults) -> Result<
     ensures same { IsSameButCuts pool.old.state.state pool.new.state.state }
     ensures few { length pool.new.state.state.cuts ≤ length pool.old.state.state.cuts + length mults }
     ensures made { OnOk result (Makes (map Cut mults) pool.old.state pool.new.state) }
-    ensures unended { OnErr result (EndsNoNode pool.old.state pool.new.state) }
+    ensures unmade { OnErr result (Makes [] pool.old.state pool.new.state) }
 {
-    for mult in mults.into_vec() {
-        apply_event(alloc, pool, Event::Cut { mult })?;
+    if mults.is_empty() {
+        return Ok(());
     }
-    Ok(())
+    settle_node(alloc, pool, node, Settlement::Separated { mults })
 }
 
 /// Decides how the node that is held is settled. Where cuts are found, they are made first, and the node is looked at again. At an error the node is
@@ -142,7 +146,7 @@ pub fn decide<D: Disk>(
     let Settlement::Separated { mults } = first else {
         return Ok(first);
     };
-    add_cuts(alloc, pool, mults)?;
+    add_cuts(alloc, pool, node.number, mults)?;
     match settle_again(alloc, pool.state(), worker, node) {
         Ok(settlement) => Ok(settlement),
         Err(_) => Err(CommitFault::Memory),

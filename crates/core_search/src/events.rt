@@ -1,17 +1,19 @@
 // Events of the worker that searches.
-ghost use Rattle.std.specs.Prelude.{◌≡◌, ◌↔◌, [], ◌∷◌, true, Some, None, OnOk, OnErr, IfErr, IsErrOf, length};
+ghost use Rattle.std.specs.Prelude.{◌≡◌, ◌<◌, [], ◌∷◌, true, false, Some, None, OnOk, OnErr, IfErr, IsErrOf, length};
 ghost use Rattle.event_core.specs.States.{is_open};
-ghost use Rattle.event_core.specs.After.{after, after_claim};
-ghost use Rattle.event_core.specs.Histories.{IsLegal, is_journaled};
+ghost use Rattle.event_core.specs.After.{after_claim};
+ghost use Rattle.event_core.specs.Histories.{AreLegalFrom};
 ghost use Rattle.event_core.specs.Laws.{unheld};
-ghost use Rattle.node_pool.specs.Halting.{passes_budget};
+ghost use Rattle.expand.specs.Laws.{entries_of, FitOnePayload};
+ghost use Rattle.expand.specs.Settlements.{events_of};
+ghost use Rattle.node_pool.specs.Halting.{spends};
 ghost use Rattle.core_search.specs.Entries.{IsGreatest};
 ghost use Rattle.core_search.specs.Holding.{IsHeldAlone};
 ghost use Rattle.node_events.specs.declared.event.Event.TheVariants as event;
 ghost use Rattle.core_search.specs.Pools.{PoolGoesOn, StaysSound, FailsBy};
 ghost use Rattle.core_search.specs.Visits.{EndsNoNode, Makes};
 
-use node_events::Event;
+use expand::Settlement;
 use node_pool::{Claim, CommitFault, Pool};
 use outside::Disk;
 use std::alloc::{AllocError, Global};
@@ -42,26 +44,30 @@ pub fn claim_node<D: Disk>(alloc: Global, pool: &mut Pool<D>, node: u32) -> Resu
     }
 }
 
-/// Adds a legal event of the worker to the journal and applies it. At an error the state stays. The error is `Budget` exactly where the event is a
-/// split that passes the budget.
-pub fn apply_event<D: Disk>(
+/// Makes the events that settle a node, all in one payload of the journal. At an error none of them is made. The error is `Budget` only where there is a
+/// split that passes the budget, and there no event is made.
+pub fn settle_node<D: Disk>(
     alloc: Global,
     pool: &mut Pool<D>,
-    event: Event,
+    node: u32,
+    settlement: Settlement,
 ) -> Result<(), CommitFault>
     requires sound { pool.old.halt ≡ None }
-    requires legal { IsLegal pool.old.state.state (Some 0) event }
-    requires journaled { is_journaled event ≡ true }
+    requires some { 0 < length (events_of node settlement) }
+    requires legal { AreLegalFrom pool.old.state.state (entries_of 0 (events_of node settlement)) }
+    requires fits { FitOnePayload (events_of node settlement) }
     ensures goes_on { PoolGoesOn pool.old pool.new }
     ensures sound { OnOk result (StaysSound pool.old pool.new) }
     ensures faulty { IfErr result (λ f. FailsBy f pool.old pool.new) }
-    ensures spent { IsErrOf result CommitFault.Budget ↔ (passes_budget pool.old.budget (length pool.old.state.state.nodes) event ≡ true) }
-    ensures applied { OnOk result (pool.new.state.state ≡ after pool.old.state.state (Some 0) event) }
-    ensures failed { OnErr result (pool.new.state.state ≡ pool.old.state.state) }
-    ensures made { OnOk result (Makes (event ∷ []) pool.old.state pool.new.state) }
+    ensures spent { IsErrOf result CommitFault.Budget → spends pool.old.budget (length pool.old.state.state.nodes) (events_of node settlement) ≡ true }
+    ensures within { OnOk result (spends pool.old.budget (length pool.old.state.state.nodes) (events_of node settlement) ≡ false) }
+    ensures made { OnOk result (Makes (events_of node settlement) pool.old.state pool.new.state) }
     ensures unmade { OnErr result (Makes [] pool.old.state pool.new.state) }
 {
-    match pool.commit(alloc, WORKER, event) {
+    let Ok(events) = settlement.into_events(alloc, node) else {
+        return Err(CommitFault::Memory);
+    };
+    match pool.commit_all(alloc, WORKER, events) {
         Ok(_) => Ok(()),
         Err(fault) => Err(fault),
     }

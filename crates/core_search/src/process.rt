@@ -1,77 +1,46 @@
 // What is done with a node that the worker holds: it is closed or split.
 ghost use Rattle.std.specs.Prelude.{◌≡◌, ◌≤◌, ◌++◌, ◌∷◌, [], max, true, None, IfErr, OnOk, OnErr, IsErrOf, length};
-ghost use Rattle.derivation_book.specs.Legal.{is_legal_proof};
-ghost use Rattle.event_core.specs.States.{box_of, cutoff};
-ghost use Rattle.event_core.specs.After.{after_offer, after_close};
-ghost use Rattle.expand.specs.Settlements.{IsBetterPoint, IsBranching};
+ghost use Rattle.event_core.specs.States.{box_of};
+ghost use Rattle.expand.specs.Settlements.{events_of, IsBranching, IsSettlement};
 ghost use Rattle.core_search.specs.Holding.{IsHeldAlone};
 ghost use Rattle.core_search.specs.OpenNodes.{IsOpenNode, AreOpenNodes, children};
 ghost use Rattle.core_search.specs.Pools.{PoolGoesOn, StaysSound, FailsBy};
-ghost use Rattle.core_search.specs.Processing.{EndsNode, IsExhausted};
+ghost use Rattle.core_search.specs.Processing.{EndsNode, IsClosing, IsExhausted};
 ghost use Rattle.node_events.specs.declared.event.Event.TheVariants as event;
 ghost use Rattle.core_search.specs.Visits.{Makes, EndsNoNode, IsSettledBy};
 ghost use Rattle.core_search.specs.Workers.{IsPrepared};
 
 use crate::deciding::decide;
-use crate::events::apply_event;
+use crate::events::settle_node;
 use crate::open_node::{OpenNode, node_conditions_hold, push_children};
 use crate::worker::Worker;
 use expand::{Branching, Settlement};
-use node_events::{Event, Proof};
 use node_pool::{CommitFault, Pool};
 use outside::Disk;
-use problem::Point;
 use std::alloc::Global;
 
-/// Closes the node that is held. At an error it is held still.
+/// Closes the node that is held, once its point is offered if it has one that is better than the incumbent, all in one payload. At an error it is held
+/// still, and nothing is made.
 fn close<D: Disk>(
     alloc: Global,
     pool: &mut Pool<D>,
     node: u32,
-    proof: Proof,
+    settlement: Settlement,
 ) -> Result<(), CommitFault>
     requires sound { pool.old.halt ≡ None }
     requires held { IsHeldAlone pool.old.state.state node }
-    requires legal { is_legal_proof pool.old.state.state.problem pool.old.state.state.cuts (box_of pool.old.state.state node) (cutoff pool.old.state.state) proof ≡ true }
+    requires closing { IsClosing settlement }
+    requires legal { IsSettlement pool.old.state.state (box_of pool.old.state.state node) settlement }
     ensures goes_on { PoolGoesOn pool.old pool.new }
     ensures sound { OnOk result (StaysSound pool.old pool.new) }
     ensures faulty { IfErr result (λ f. FailsBy f pool.old pool.new) }
     ensures unspent { ¬ IsErrOf result CommitFault.Budget }
     ensures nodes { pool.new.state.state.nodes ≡ pool.old.state.state.nodes }
     ensures cuts { pool.new.state.state.cuts ≡ pool.old.state.state.cuts }
-    ensures closed { OnOk result (pool.new.state.state ≡ after_close pool.old.state.state node) }
-    ensures failed { OnErr result (IsHeldAlone pool.new.state.state node) }
-    ensures made { OnOk result (Makes (event.Close node proof ∷ []) pool.old.state pool.new.state) }
-    ensures unended { OnErr result (EndsNoNode pool.old.state pool.new.state) }
+    ensures made { OnOk result (Makes (events_of node settlement) pool.old.state pool.new.state) }
+    ensures unmade { OnErr result (Makes [] pool.old.state pool.new.state) }
 {
-    apply_event(alloc, pool, Event::Close { node, proof })
-}
-
-/// Offers a point that is better than the incumbent, and closes the node that is held by the new cutoff. At an error the node is held still.
-fn offer_point<D: Disk>(
-    alloc: Global,
-    pool: &mut Pool<D>,
-    node: &OpenNode,
-    point: Point,
-    proof: Proof,
-) -> Result<(), CommitFault>
-    requires sound { pool.old.halt ≡ None }
-    requires held { IsHeldAlone pool.old.state.state node.now.number }
-    requires area { IsOpenNode pool.old.state.state node.now }
-    requires better { IsBetterPoint pool.old.state.state node.now.area point proof }
-    ensures goes_on { PoolGoesOn pool.old pool.new }
-    ensures sound { OnOk result (StaysSound pool.old pool.new) }
-    ensures faulty { IfErr result (λ f. FailsBy f pool.old pool.new) }
-    ensures unspent { ¬ IsErrOf result CommitFault.Budget }
-    ensures nodes { pool.new.state.state.nodes ≡ pool.old.state.state.nodes }
-    ensures cuts { pool.new.state.state.cuts ≡ pool.old.state.state.cuts }
-    ensures closed { OnOk result (pool.new.state.state ≡ after_close (after_offer pool.old.state.state point) node.now.number) }
-    ensures failed { OnErr result (IsHeldAlone pool.new.state.state node.now.number) }
-    ensures made { OnOk result (Makes (event.Offer point ∷ event.Close node.now.number proof ∷ []) pool.old.state pool.new.state) }
-    ensures unended { OnErr result (EndsNoNode pool.old.state pool.new.state) }
-{
-    apply_event(alloc, pool, Event::Offer { point })?;
-    close(alloc, pool, node.number, proof)
+    settle_node(alloc, pool, node, settlement)
 }
 
 /// Splits the node that is held. Where its two children would pass the budget, their boxes aren't made, and the pool is halted with the split. At an
@@ -102,24 +71,16 @@ fn split<D: Disk>(
     node_conditions_hold(pool.state(), &node);
     pool.history_holds();
     let number = pool.state().tree().len();
-    let Branching {
-        place,
-        reason,
-        value,
-    } = branching;
-    let event = Event::Split {
-        node: node.number,
-        column: place.column,
-        bound: place.bound,
-        reason,
-    };
+    let place = branching.place;
+    let value = branching.value;
+    let settlement = Settlement::Branched { branching };
     if (pool.budget() as usize).saturating_sub(number) < 2 {
-        return apply_event(alloc, pool, event);
+        return settle_node(alloc, pool, node.number, settlement);
     }
     let Ok(()) = push_children(alloc, nodes, number as u32, node.area, place, value) else {
         return Err(CommitFault::Memory);
     };
-    apply_event(alloc, pool, event)
+    settle_node(alloc, pool, node.number, settlement)
 }
 
 /// Closes or splits the node that is held. Cuts that are found are made first. At an error the node is held still.
@@ -148,9 +109,8 @@ pub fn process<D: Disk>(
     ensures unended { OnErr result (EndsNoNode pool.old.state pool.new.state) }
 {
     match decide(alloc, pool, worker, &node)? {
-        Settlement::Closed { proof } => close(alloc, pool, node.number, proof),
-        Settlement::Improved { point, proof } => offer_point(alloc, pool, &node, point, proof),
         Settlement::Branched { branching } => split(alloc, pool, nodes, node, branching),
         Settlement::Separated { .. } => unreachable!(),
+        settlement => close(alloc, pool, node.number, settlement),
     }
 }

@@ -1,5 +1,5 @@
 -- What follows from one call of a gate, whatever gate it is.
-use Rattle.std.specs.Prelude.{◌≡◌, ◌⊎◌, ℕ, ◌-◌, length, take, true, false, nat_eq, ◌&&◌, List, [], ◌∷◌, ◌++◌, All, Option, Some, None, IsSome, is_some, Ok, Err, refl}
+use Rattle.std.specs.Prelude.{◌≡◌, ◌⊎◌, ℕ, ◌-◌, length, take, true, false, nat_eq, ◌&&◌, List, [], ◌∷◌, ◌++◌, Option, Some, None, IsSome, is_some, Ok, Err, refl}
 use Rattle.std.proofs.Common.{inl, inr, sym, ap, ◌∙◌, subst}
 use Rattle.std.specs.declared.alloc.AllocError.{AllocError}
 use Rattle.std.specs.List.{list_any}
@@ -19,26 +19,24 @@ use Rattle.node_pool.specs.declared.answers.CommitFault.{CommitFault}
 use Rattle.node_pool.specs.declared.answers.CommitFault.TheVariants as fault
 use Rattle.expand.specs.declared.finding.Finding.{Finding}
 use Rattle.expand.specs.declared.finding.Finding.TheVariants.{Cuts, Shut, Whole, Solved, Loose}
-use Rattle.expand.specs.Settlements.{events_of}
 use Rattle.expand.specs.Settling.{settled}
 use Rattle.expand.specs.Laws.{entries_of}
 use Rattle.expand.specs.Lemmas.Rooms.{IsNoCuts, without_cuts}
 use Rattle.worker_gate.specs.declared.entry.PoolEntry.{PoolEntry}
-use Rattle.worker_gate.specs.declared.entry.PoolEntry.TheVariants.{Halted}
-use Rattle.worker_gate.specs.Calls.{entry_by, Claims, Commits, Releases, Halts, halting, settling, AreFirstOf}
+use Rattle.worker_gate.specs.Calls.{entry_by, Claims, Commits, Releases, Halts, halting, settling}
 use Rattle.worker_gate.specs.Conditions.{HoldsNone, HoldsNode}
-use Rattle.worker_gate.specs.Entries.{happened, is_opened, opening_in, events_in, halt_in, state_in}
+use Rattle.worker_gate.specs.Entries.{is_opened, opening_in, events_in, halt_in, state_in}
 use Rattle.worker_gate.specs.Gates.{Stepped}
 use Rattle.worker_gate.specs.Laws.{KeepsConditions}
 use Rattle.worker_gate.specs.Lemmas.Holding.{held_open}
-use Rattle.worker_gate.specs.Lemmas.Lists.{events-append, events-happened, halt-first, halt-none, state-append}
+use Rattle.worker_gate.specs.Lemmas.Lists.{events-happened, halt-first, halt-none, state-append}
 use Rattle.worker_gate.specs.Lemmas.Staying.{kept_in, conditions_stay}
 use Rattle.crew.specs.declared.node_work.Step.{Step}
 use Rattle.crew.specs.declared.node_work.Step.TheVariants.{Ended, Separated, Refused}
 use Rattle.crew.specs.Lists.{IsFront, Worked, IsHolding, IsOver}
 use Rattle.crew.specs.WorkerSteps.{Leaves, AreAllHeld, step_of}
 use Rattle.crew.proofs.Fronts.{front_on}
-use Rattle.crew.proofs.Holding.{IsJournaled, all_first, all_quiet, settled_journaled, separated_holds, ended_none, ended_closed, claimed_held, lone}
+use Rattle.crew.proofs.Holding.{separated_holds, ended_none, ended_closed, claimed_held, lone}
 
 module _ (w : ℕ) (old new : List PoolEntry) (Made : List PoolEntry → List PoolEntry → Type 0) (step : Stepped w old new Made) where
   abbrev pub found : List PoolEntry
@@ -166,8 +164,8 @@ module _ (w node : ℕ) (f : Finding) (old new : List PoolEntry) (opened : is_op
     abbrev Made : List PoolEntry → List PoolEntry → Type 0
     Made = Commits w node f (Ok r)
 
-    events_are : events_in step.makes.own ≡ settling w node f step.at
-    events_are = ap events_in step.makes.does.made ∙ events-happened (settling w node f step.at)
+    events_are : events_in step.makes.own ≡ entries_of w (settling node f step.at)
+    events_are = ap events_in step.makes.does.made ∙ events-happened (entries_of w (settling node f step.at))
 
     ended : IsNoCuts f → Worked w old new × (is_open (state_in new) node ≡ false)
     ended n =
@@ -176,8 +174,8 @@ module _ (w node : ℕ) (f : Finding) (old new : List PoolEntry) (opened : is_op
         let kept = kept_at w old new Made step in
         let here = (stays_at w old new Made step opened).node node holds in
         let not_separated = without_cuts s (box_of s node) (opening_in step.at).cuts f n in (
-          none_now w old new Made step (settling w node f step.at) events_are (ended_none s w node g not_separated kept.apart here),
-          ap (λ (t : State). is_open t node) (state_new w old new Made step (settling w node f step.at) events_are)
+          none_now w old new Made step (entries_of w (settling node f step.at)) events_are (ended_none s w node g not_separated kept.apart here),
+          ap (λ (t : State). is_open t node) (state_new w old new Made step (entries_of w (settling node f step.at)) events_are)
               ∙ ended_closed s w node g not_separated (held_open w node s.ended s.holds kept.holds_open here),
         )
 
@@ -190,8 +188,8 @@ module _ (w node : ℕ) (f : Finding) (old new : List PoolEntry) (opened : is_op
         where
           separated : (g : Finding) → step_of g ≡ Separated → (r : Receipt) → Stepped w old new (Commits w node g (Ok r)) → IsHolding w node old new
           separated (Cuts ms) e r step =
-              held_still w old new (Commits w node (Cuts ms) (Ok r)) step node (settling w node (Cuts ms) step.at) opened
-              (ap events_in step.makes.does.made ∙ events-happened (settling w node (Cuts ms) step.at))
+              held_still w old new (Commits w node (Cuts ms) (Ok r)) step node (entries_of w (settling node (Cuts ms) step.at)) opened
+              (ap events_in step.makes.does.made ∙ events-happened (entries_of w (settling node (Cuts ms) step.at)))
               (separated_holds (state_in step.at) w node (take ((opening_in step.at).cuts - length (state_in step.at).cuts) ms)) holds
           separated (Shut proof) e r step = cc
           separated (Whole x) e r step = cc
@@ -206,27 +204,11 @@ module _ (w node : ℕ) (f : Finding) (old new : List PoolEntry) (opened : is_op
           never (Solved k x mult v column) e = cc
           never (Loose reason j b) e = cc
 
-  -- the first events were made, and none that ends the node
-  first_holds : (s : State) (limit : ℕ) (made left : List Entry) → AreFirstOf (entries_of w (events_of node (settled s (box_of s node) limit f))) made left → (state_from s made).holds ≡ s.holds
-  first_holds s limit made left firsts =
-      all_quiet s made (all_first IsJournaled made left (subst (All IsJournaled) firsts.parted (settled_journaled w node (settled s (box_of s node) limit f)))) firsts.unended
-
-  halted_events : (es : List Entry) (h : Halt) → events_in (happened es ++ Halted h ∷ []) ≡ es
-  halted_events es h = events-append (happened es) (Halted h ∷ []) ∙ (append-nil (events_in (happened es)) ∙ events-happened es)
-
+  -- none of them was made
   pub refused : (fault : CommitFault) → Stepped w old new (Commits w node f (Err fault)) → IsHolding w node old new
-  refused fault.Memory step =
-      let d = step.makes.does in
-      held_still w old new (Commits w node f (Err fault.Memory)) step node d.events opened (ap events_in d.made ∙ events-happened d.events)
-      (first_holds (state_in step.at) (opening_in step.at).cuts d.events d.left d.firsts) holds
-  refused fault.Disk step =
-      let d = step.makes.does in
-      held_still w old new (Commits w node f (Err fault.Disk)) step node d.events opened (ap events_in d.made ∙ halted_events d.events d.halt)
-      (first_holds (state_in step.at) (opening_in step.at).cuts d.events (d.next ∷ d.left) d.firsts) holds
-  refused fault.Budget step =
-      let d = step.makes.does in
-      held_still w old new (Commits w node f (Err fault.Budget)) step node d.events opened (ap events_in d.made ∙ halted_events d.events d.halt)
-      (first_holds (state_in step.at) (opening_in step.at).cuts d.events (d.next ∷ d.left) d.firsts) holds
+  refused fault.Memory step = still_holds w old new (Commits w node f (Err fault.Memory)) step node opened step.makes.does.made holds
+  refused fault.Disk step = held_still w old new (Commits w node f (Err fault.Disk)) step node [] opened (ap events_in step.makes.does.made) refl holds
+  refused fault.Budget step = held_still w old new (Commits w node f (Err fault.Budget)) step node [] opened (ap events_in step.makes.does.made) refl holds
   refused fault.Halted step = still_holds w old new (Commits w node f (Err fault.Halted)) step node opened step.makes.does.1 holds
 
 -- ---- one after the other

@@ -1,7 +1,6 @@
 -- Lists that begin with an older one: what they have of its state.
-use Rattle.std.specs.Prelude.{◌≡◌, true, List, [], ◌++◌}
+use Rattle.std.specs.Prelude.{◌≡◌, true, List, ◌++◌}
 use Rattle.std.proofs.Common.{sym, ap, ◌∙◌, subst, append_assoc}
-use Rattle.std.proofs.lemmas.List.{append-nil}
 use Rattle.problem.specs.Problem.{Problem}
 use Rattle.derivation_book.specs.declared.cut.Cut.{Cut as MadeCut}
 use Rattle.event_core.specs.States.{State}
@@ -10,15 +9,12 @@ use Rattle.event_core.specs.Lemmas.Running.{from-problem}
 use Rattle.worker_gate.specs.declared.entry.PoolEntry.{PoolEntry}
 use Rattle.worker_gate.specs.Entries.{is_opened, opening_in, events_in, state_in}
 use Rattle.worker_gate.specs.Legal.{IsLegalList}
-use Rattle.worker_gate.specs.Lemmas.Lists.{opened-append, opening-append, state-append}
+use Rattle.worker_gate.specs.Lemmas.Lists.{opening-append, state-append}
 use Rattle.worker_gate.specs.Lemmas.Staying.{legal_behind}
 use Rattle.crew.specs.Lists.{IsFront}
 use Rattle.crew.specs.declared.worker.Worker.{Worker}
 use Rattle.crew.specs.Workers.{HasFirst, Knows}
 use Rattle.event_core.specs.Lemmas.Frames.{cuts_from}
-
-pub front_here : (a : List PoolEntry) → IsFront a a
-front_here a = ([], sym (append-nil a))
 
 pub front_on : (a b c : List PoolEntry) → IsFront a b → IsFront b c → IsFront a c
 front_on a b c ab bc = (ab.0 ++ bc.0, bc.1 ∙ (ap (λ (l : List PoolEntry). l ++ bc.0) ab.1 ∙ append_assoc a ab.0 bc.0))
@@ -30,9 +26,6 @@ first_on cs s t h k = (h.0 ++ k.0, k.1 ∙ (ap (λ (l : List MadeCut). l ++ k.0)
 
 -- ---- what a longer list has of the first one
 module _ (a b : List PoolEntry) (front : IsFront a b) (opened : is_opened a ≡ true) where
-  pub front_opened : is_opened b ≡ true
-  front_opened = ap is_opened front.1 ∙ opened-append a front.0 opened
-
   pub front_opening : opening_in b ≡ opening_in a
   front_opening = ap opening_in front.1 ∙ opening-append a front.0 opened
 

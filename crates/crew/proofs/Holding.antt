@@ -1,19 +1,16 @@
 -- Who holds a node after events of a worker who holds one.
-use Rattle.std.specs.Prelude.{◌≡◌, ℕ, zero, suc, Bool, true, false, not, nat_eq, ◌&&◌, ◌||◌, cond, List, [], ◌∷◌, ◌++◌, map, slice_set, All, Option, Some, None, refl, is_some}
+use Rattle.std.specs.Prelude.{◌≡◌, ℕ, zero, suc, Bool, true, false, not, nat_eq, ◌&&◌, ◌||◌, cond, List, [], ◌∷◌, ◌++◌, slice_set, Some, refl}
 use Rattle.std.specs.List.{list_any}
 use Rattle.std.proofs.Common.{sym, ap, ◌∙◌, subst}
 use Rattle.std.proofs.lemmas.Bool.{eq-eqb, eqb-true}
-use Rattle.std.proofs.lemmas.List.Elements.{All-nil, All-cons, All-head, All-tail}
 use Rattle.std.proofs.lemmas.List.Folds.{list_any-append}
 use Rattle.problem.specs.Linear.{Multipliers}
-use Rattle.node_events.specs.declared.event.Event.{Event}
-use Rattle.node_events.specs.declared.event.Event.TheVariants.{Claim, Cut, Offer, Close}
-use Rattle.event_core.specs.declared.entry.Entry.{Entry}
+use Rattle.node_events.specs.declared.event.Event.TheVariants.{Claim, Cut}
 use Rattle.event_core.specs.declared.entry.Holder.{Holder}
 use Rattle.event_core.specs.States.{State, is_open}
 use Rattle.event_core.specs.Holds.{is_holding, holds_node, without_hold}
 use Rattle.event_core.specs.After.{after}
-use Rattle.event_core.specs.Histories.{state_from, is_journaled}
+use Rattle.event_core.specs.Histories.{state_from}
 use Rattle.event_core.specs.Lemmas.Ended.{is_left}
 use Rattle.event_core.specs.Sound.{AreApart}
 use Rattle.expand.specs.declared.settlement.Settlement.{Settlement}
@@ -21,19 +18,14 @@ use Rattle.expand.specs.declared.settlement.Settlement.TheVariants.{Separated, C
 use Rattle.expand.specs.Laws.{entries_of}
 use Rattle.expand.specs.Settlements.{events_of}
 use Rattle.expand.specs.Lemmas.Rooms.{IsNotSeparated}
-use Rattle.worker_gate.specs.Calls.{ends_node}
 use Rattle.worker_gate.specs.Lemmas.Holding.{none_without}
-use Rattle.event_core.specs.Frames.{ended_by}
-use Rattle.event_core.specs.Lemmas.Frames.{journaled_claims, journaled_frees, quiet_holds}
+use Rattle.event_core.specs.Lemmas.Frames.{quiet_holds}
 
 abbrev is_of : ℕ → ℕ → Holder → Bool
 is_of w i h = nat_eq h.worker w && nat_eq h.node i
 
 abbrev is_by : ℕ → Holder → Bool
 is_by w h = nat_eq h.worker w
-
-abbrev is_at : ℕ → Holder → Bool
-is_at i h = nat_eq h.node i
 
 -- ---- a claim
 pub claimed_held : (s : State) (w i : ℕ) → holds_node (after s (Some w) (Claim i)) w i ≡ true
@@ -71,51 +63,11 @@ lone w i (h ∷ hs) a e = step (nat_eq h.worker w) (nat_eq h.node i) refl e (λ 
     step false true q k f = f k
     step false false q k f = ap (λ c. c || list_any (is_by w) (without_hold i hs)) q ∙ f k
 
--- ---- events that end no node
-unending_holds : (s : State) (w : Option ℕ) (e : Event) → is_journaled e ≡ true → ends_node e ≡ false → (after s w e).holds ≡ s.holds
-unending_holds s w e j n = quiet_holds s w e (journaled_frees e j ∙ none (ended_by e) n) (journaled_claims e j)
-  where
-    none : (o : Option ℕ) → is_some o ≡ false → o ≡ None
-    none None n = refl
-    none (Some i) n = cc
-
-abbrev pub IsJournaled : Entry → Type 0
-IsJournaled e = is_journaled e.event ≡ true
-
-abbrev pub IsUnending : Entry → Type 0
-IsUnending e = ends_node e.event ≡ false
-
-pub all_quiet : (s : State) (es : List Entry) → All IsJournaled es → All IsUnending es → (state_from s es).holds ≡ s.holds
-all_quiet s [] j n = refl
-all_quiet s (e ∷ es) j n =
-    all_quiet (after s e.worker e.event) es (All-tail IsJournaled e es j) (All-tail IsUnending e es n)
-    ∙ unending_holds s e.worker e.event (All-head IsJournaled e es j) (All-head IsUnending e es n)
-
 -- ---- the events of a settlement
-cuts_journaled : (w : ℕ) (mults : List Multipliers) → All IsJournaled (entries_of w (map Cut mults))
-cuts_journaled w [] = All-nil IsJournaled
-cuts_journaled w (m ∷ ms) = All-cons IsJournaled (record { worker = Some w; event = Cut m }) (entries_of w (map Cut ms)) refl (cuts_journaled w ms)
-
-cuts_unending : (w : ℕ) (mults : List Multipliers) → All IsUnending (entries_of w (map Cut mults))
-cuts_unending w [] = All-nil IsUnending
-cuts_unending w (m ∷ ms) = All-cons IsUnending (record { worker = Some w; event = Cut m }) (entries_of w (map Cut ms)) refl (cuts_unending w ms)
-
-one_journaled : (e : Entry) → IsJournaled e → All IsJournaled (e ∷ [])
-one_journaled e j = All-cons IsJournaled e [] j (All-nil IsJournaled)
-
-pub settled_journaled : (w i : ℕ) (g : Settlement) → All IsJournaled (entries_of w (events_of i g))
-settled_journaled w i (Separated mults) = cuts_journaled w mults
-settled_journaled w i (Closed proof) = one_journaled _ refl
-settled_journaled w i (Improved x proof) = All-cons IsJournaled (record { worker = Some w; event = Offer x }) (record { worker = Some w; event = Close i proof } ∷ []) refl (one_journaled _ refl)
-settled_journaled w i (Branched b) = one_journaled _ refl
-
-pub all_first : (P : Entry → Type 0) (xs ys : List Entry) → All P (xs ++ ys) → All P xs
-all_first P [] ys a = All-nil P
-all_first P (x ∷ xs) ys a = All-cons P x xs (All-head P x (xs ++ ys) a) (all_first P xs ys (All-tail P x (xs ++ ys) a))
-
 -- cuts leave the holds as they are
 pub separated_holds : (s : State) (w i : ℕ) (mults : List Multipliers) → (state_from s (entries_of w (events_of i (Separated mults)))).holds ≡ s.holds
-separated_holds s w i mults = all_quiet s (entries_of w (map Cut mults)) (cuts_journaled w mults) (cuts_unending w mults)
+separated_holds s w i [] = refl
+separated_holds s w i (m ∷ ms) = separated_holds (after s (Some w) (Cut m)) w i ms ∙ quiet_holds s (Some w) (Cut m) refl refl
 
 -- and all else takes away that of the node
 pub ended_none : (s : State) (w i : ℕ) (g : Settlement) → IsNotSeparated g → AreApart s.holds → holds_node s w i ≡ true → is_holding (state_from s (entries_of w (events_of i g))) w ≡ false

@@ -33,9 +33,6 @@ cuts_after p before [] ys h = subst (λ (l : List Cut). AreCutsAfter p l ys) (sy
 cuts_after p before (x ∷ xs) ys h = subst (λ (l : List Cut). AreCutsAfter p l ys) (append_assoc before (x ∷ []) xs) (cuts_after p (before ++ x ∷ []) xs ys h.1)
 
 module _ (cs : List Cut) (s : State) (first : HasFirst cs s) where
-  pub known_there : length cs ≤ length s.cuts
-  known_there = omega (arith, ap (λ (l : List Cut). length l) first.1, length-append cs first.0)
-
   pub told_rest : drop (length cs) s.cuts ≡ first.0
   told_rest = ap (drop (length cs)) first.1 ∙ drop-append_seam cs first.0
 

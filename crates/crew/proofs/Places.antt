@@ -18,9 +18,6 @@ module _ {T : Type 0} where
   at_last (y ∷ xs) x d = at_last xs x d
 
   module _ (P : ℕ → T → Type 0) where
-    pub each_none : EachAt P []
-    each_none i d h = absurd (omega (arith, h))
-
     pub each_push : (xs : List T) (x : T) → EachAt P xs → P (length xs) x → EachAt P (xs ++ x ∷ [])
     each_push xs x each here i d h = ⊎_elim
         (λ (l : i < length xs). subst (P i) (sym (at_first xs (x ∷ []) i d l)) (each i d l))

@@ -23,6 +23,7 @@ use Rattle.event_core.specs.contracts.entry.Entry.{the_row as EntryRow, the_type
 use Rattle.event_core.specs.contracts.parts.Parts.{the_row as PartsRow}
 use Rattle.event_core.specs.contracts.state.State.{the_row as StateRow}
 use Rattle.node_pool.specs.contracts.pool.Pool.{the_field as PoolField}
+use Rattle.node_pool.specs.contracts.events.Events.{the_row as EventsRow}
 use Rattle.node_pool.specs.contracts.halt.Halt.{the_row as HaltRow, the_type as HaltType}
 use Rattle.turn_lock.specs.declared.kept.Kept as Kept
 use Rattle.turn_lock.specs.contracts.lock.TurnLock.{the_row as LockRow}
@@ -46,8 +47,11 @@ mult_send = search (terms_send, sendable, crosses) depth 40 fits 20000
 event_send : IsSend EventField.row
 event_send = search (mult_send, point_send, sendable, crosses) depth 40 fits 20000
 
+events_send : IsSend EventsRow
+events_send = search (event_send, sendable, crosses) depth 40 fits 20000
+
 halt_send : IsSend HaltRow
-halt_send = recorded_send _ _ _ HaltType.to_one (enum_send (enum_shape HaltType) (tt, ((search (sendable, crosses) depth 20, (event_send, tt)), ((event_send, tt), tt))))
+halt_send = recorded_send _ _ _ HaltType.to_one (enum_send (enum_shape HaltType) (tt, ((search (sendable, crosses) depth 20, (events_send, tt)), ((event_send, tt), tt))))
 
 box_send : IsSend BoxRow
 box_send = search (sendable, crosses) depth 40 fits 20000
@@ -80,7 +84,7 @@ parts_send : IsSend PartsRow
 parts_send = search (problem_send, tree_send, book_send, incumbent_send, sendable, crosses) depth 40 fits 20000
 
 state_send : IsSend StateRow
-state_send = search (parts_send, entry_send, cut_send, point_send, sendable, crosses) depth 40 fits 20000
+state_send = search (parts_send, entry_send, sendable, crosses) depth 40 fits 20000
 
 module _ (V E : RattleType) (g : Kept.Ghosts V.Denot E.Denot) (s : IsSend V) where
   lock_sync : IsSync (LockRow V E g)

@@ -1,5 +1,5 @@
 -- A pool that was halted by its budget.
-use Rattle.std.specs.Prelude.{◌≡◌, ◌⊎◌, ◌<◌, ◌≤◌, ◌+◌, ℕ, true, false, [], length, Option, Some, None, IsSome, nat_lt, Bool, ◌&&◌, refl}
+use Rattle.std.specs.Prelude.{◌≡◌, ◌⊎◌, ◌<◌, ◌≤◌, ◌+◌, ℕ, true, false, List, [], length, Option, Some, None, IsSome, nat_lt, Bool, ◌&&◌, refl}
 use Rattle.std.proofs.Common.{⊎_elim, sym, ap, subst}
 use borrow.Author.Tests.{ltb-true}
 use Rattle.node_events.specs.declared.event.Event.{Event}
@@ -37,11 +37,11 @@ module _ (faults budget count : ℕ) (fault : Option ℕ) (s : State) (nobody : 
   pub budget_spent : (h : Option Halt) (e : Event) → h ≡ Some (halt.Budget e) → IsHalt faults budget count fault s h → IsSpent budget s × (0 < open_count s)
   budget_spent h e is held = spent_by e (subst (IsHalt faults budget count fault s) is held)
 
-  rose_by : (n : ℕ) (e : Event) → faults ≤ count → IsDiskHalt faults budget count fault s n e → (faults ≤ count) × Rose faults count
-  rose_by n e rising h = (rising, rw h.counted h.rose)
+  rose_by : (n : ℕ) (es : List Event) → faults ≤ count → IsDiskHalt faults budget count fault s n es → (faults ≤ count) × Rose faults count
+  rose_by n es rising h = (rising, rw h.counted h.rose)
 
-  pub disk_rose : (h : Option Halt) (n : ℕ) (e : Event) → h ≡ Some (halt.Disk n e) → faults ≤ count → IsHalt faults budget count fault s h → (faults ≤ count) × Rose faults count
-  disk_rose h n e is rising held = rose_by n e rising (subst (IsHalt faults budget count fault s) is held)
+  pub disk_rose : (h : Option Halt) (n : ℕ) (es : List Event) → h ≡ Some (halt.Disk n es) → faults ≤ count → IsHalt faults budget count fault s h → (faults ≤ count) × Rose faults count
+  disk_rose h n es is rising held = rose_by n es rising (subst (IsHalt faults budget count fault s) is held)
 
   pub none_open : (h : Option Halt) → h ≡ None → IsSome h ⊎ (open_count s ≡ 0) → open_count s ≡ 0
   none_open None e over = ⊎_elim (λ (bad : false ≡ true). cc) (λ z. z) over

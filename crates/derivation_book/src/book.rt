@@ -1,6 +1,6 @@
 //! The cuts of a problem.
 
-ghost use Rattle.std.specs.Prelude.{◌≡◌, ◌<◌, ◌≤◌, ◌+◌, ◌++◌, ◌∷◌, [], IfOk, OnOk, OnErr, MatchBool, All, length, option_map, slice_get, Some, None};
+ghost use Rattle.std.specs.Prelude.{◌≡◌, ◌<◌, ◌≤◌, ◌+◌, ◌++◌, ◌∷◌, [], IfOk, OnOk, OnErr, MatchBool, All, length, take, option_map, slice_get, Some, None};
 ghost use Rattle.cert_rows.specs.Lines.{row_at};
 ghost use Rattle.derivation_book.specs.Known.{known_lines};
 ghost use Rattle.derivation_book.specs.Sums.{combined};
@@ -103,6 +103,14 @@ impl Book {
             Ok(()) => {}
             Err(_) => unreachable!(),
         }
+    }
+
+    /// Takes the cuts from this number on away, and keeps their room. So a cut can be made over others that aren't to stay yet.
+    pub fn truncate(&mut self, cuts: usize)
+        ensures cuts { self.new.cuts ≡ take cuts self.old.cuts }
+        ensures room { length self.old.cuts + self.old.room ≤ length self.new.cuts + self.new.room }
+    {
+        self.cuts.truncate(cuts);
     }
 
     /// How many rows have a number.

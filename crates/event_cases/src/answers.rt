@@ -161,9 +161,9 @@ fn event_of(alloc: Global, plan: Plan) -> Result<Event> {
 fn answer(alloc: Global, state: &mut State, event: &Event) -> Result<Admit, AllocError> {
     let answer = state.admits(alloc, Some(0), event)?;
     if answer == Admit::Yes && state.tree().len() <= 1000 {
-        state.reserve(alloc, event)?;
+        let made = state.reserve(alloc, event)?;
         let copy = event.copy(alloc)?;
-        state.apply(Some(0), copy);
+        state.apply(Some(0), copy, made);
     }
     Ok(answer)
 }

@@ -1,7 +1,8 @@
 -- The laws of groups: what is read is spelled so, and what is spelled so is read.
 use Rattle.std.proofs.Common.{◌≡◌, ℕ, ◌<◌, ◌≤◌, Bool, true, false, cond, eqb, List, [], ◌∷◌, ◌++◌, length, Result, Ok, Err, refl, sym, ap, subst, ◌∙◌, inl, inr, arith}
-use Rattle.std.specs.Prelude.{IfOk}
+use Rattle.std.specs.Prelude.{IfOk, OnOk, All}
 use Rattle.std.specs.Global.{Vec}
+use Rattle.std.specs.declared.alloc.AllocError.{AllocError}
 use Rattle.std.specs.List.{flat_map, AllByRecursion}
 use Rattle.std.proofs.lemmas.Bool.{eqb-true, ltb-true, leb-true, lt-ltb, le-leb, and_parts, and_from, cases_Bool}
 use Rattle.std.proofs.lemmas.Bool.Decides.{eqb_tells}
@@ -154,3 +155,9 @@ group_is_found bytes (Err e) fits given = tt
 
 pub groups_apart : (a b : List Event) → IsGroup a → IsGroup b → group_code a ≡ group_code b → a ≡ b
 groups_apart a b is is' e = ok_is a b (sym (whole_group_again a is) ∙ ap group_of e ∙ whole_group_again b is')
+
+-- a payload that spells events reads back as them
+pub group_reads_back : (events : List Event) (r : Result (Vec ℕ) AllocError) → 0 < length events → length events ≤ most_group_events → All IsCodable events
+    → IfOk r (λ v. v.items ≡ group_code events) → OnOk r (All IsEvent events) → IfOk r (λ v. group_of v.items ≡ Ok events)
+group_reads_back events (Ok v) some few codable spelled typed = ap group_of spelled ∙ whole_group_again events (record { some = some; few = few; codable = codable; typed = typed })
+group_reads_back events (Err e) some few codable spelled typed = tt

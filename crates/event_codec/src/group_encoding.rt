@@ -1,10 +1,10 @@
 //! Codes of groups of events.
 
-ghost use Rattle.std.specs.Prelude.{◌≡◌, ◌++◌, ◌<◌, ◌≤◌, OnOk, IfOk, All, length};
+ghost use Rattle.std.specs.Prelude.{◌≡◌, ◌++◌, ◌<◌, ◌≤◌, Ok, OnOk, IfOk, All, length};
 ghost use Rattle.std.specs.List.{flat_map};
 ghost use Rattle.event_codec.specs.Codes.{code, IsCodable};
 ghost use Rattle.event_codec.specs.Types.{IsEvent};
-ghost use Rattle.event_codec.specs.Groups.{group_code, most_group_events};
+ghost use Rattle.event_codec.specs.Groups.{group_code, group_of, most_group_events};
 
 use crate::encoding::put_event;
 use crate::tags::SEVERAL;
@@ -26,15 +26,12 @@ fn put_events(out: &mut Vec<u8>, events: &[Event]) -> Result<(), AllocError>
     Ok(())
 }
 
-/// The code of a group, as one payload: of one event its own code, of several a tag, their number and their codes. None of them is a claim or a
-/// release. The one error is want of memory.
+/// The code of a group: of one event its own code, of several a tag, their number and their codes. The one error is want of memory.
 #[tactic(auto, unfolding(crate::specs::Groups::group_code))]
-pub fn encode_group(alloc: Global, events: &[Event]) -> Result<Vec<u8>, AllocError>
-    requires some { 0 < length events.now }
+fn group_code(alloc: Global, events: &[Event]) -> Result<Vec<u8>, AllocError>
     requires few { length events.now ≤ most_group_events }
     requires codable { All IsCodable events.now }
     ensures spelled { IfOk result (λ v. v.items ≡ group_code events.now) }
-    // They have the ranges and the order of their types, which `decode_group` and the laws ask of events in specifications.
     ensures typed { OnOk result (All IsEvent events.now) }
 {
     let mut out = Vec::new(alloc);
@@ -44,4 +41,17 @@ pub fn encode_group(alloc: Global, events: &[Event]) -> Result<Vec<u8>, AllocErr
     }
     put_events(&mut out, events)?;
     Ok(out)
+}
+
+/// The code of a group, as one payload, which reads back as its events. None of them is a claim or a release. The one error is want of memory.
+pub fn encode_group(alloc: Global, events: &[Event]) -> Result<Vec<u8>, AllocError>
+    requires some { 0 < length events.now }
+    requires few { length events.now ≤ most_group_events }
+    requires codable { All IsCodable events.now }
+    ensures spelled { IfOk result (λ v. v.items ≡ group_code events.now) }
+    // They have the ranges and the order of their types, which `decode_group` and the laws ask of events in specifications.
+    ensures typed { OnOk result (All IsEvent events.now) }
+    ensures read { IfOk result (λ v. group_of v.items ≡ Ok events.now) }
+{
+    group_code(alloc, events)
 }

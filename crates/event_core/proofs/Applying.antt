@@ -2,7 +2,6 @@
 use Rattle.std.specs.Prelude.{◌≡◌, ◌≤◌, ◌+◌, ℕ, ℤ, List, [], ◌∷◌, ◌++◌, length, Option, Some, None, refl}
 use Rattle.std.proofs.Common.{sym, ap, ◌∙◌, subst, arith}
 use Rattle.std.proofs.lemmas.List.{length_push}
-use Rattle.std.proofs.lemmas.Option.{same_Some}
 use Rattle.fraction.specs.Rational.{ℚ}
 use Rattle.problem.specs.declared.row.Row.{Row}
 use Rattle.problem.specs.Problem.{Problem}
@@ -16,7 +15,11 @@ use Rattle.event_core.specs.declared.entry.Holder.{Holder}
 use Rattle.event_core.specs.States.{State, first_state}
 use Rattle.event_core.specs.After.{after, after_cut}
 use Rattle.event_core.specs.Histories.{IsLegal, state_of, AreLegal}
-use Rattle.event_core.specs.Rooms.{HasEntryRoom, IsMade}
+use Rattle.event_core.specs.Rooms.{HasEntryRoom}
+use Rattle.event_core.specs.declared.made.Made.{Made}
+use Rattle.event_core.specs.declared.made.Made.TheVariants as made
+use Rattle.event_core.specs.Made.{made_cut, made_for}
+use Rattle.problem.specs.Linear.{Multipliers}
 use Rattle.event_core.specs.Sound.{IsSound}
 use Rattle.event_core.specs.Lemmas.Passing.{release_passed}
 use Rattle.event_core.specs.Lemmas.Running.{state_from-append, legal_more, after-problem}
@@ -33,12 +36,40 @@ pub sound_history : (s : State) (es : List Entry) → s ≡ state_of s.problem e
 sound_history s es e l = subst IsSound (sym e) (legal_sound s.problem es l)
 
 -- the point that was made for an offer is better than the incumbent
-pub offer_made : (s : State) (w : Option ℕ) (e : Event) (x y : List ℤ) (cut : Option MadeCut) (o : Option (List ℤ)) → e ≡ Offer x → IsLegal s w e → IsMade s cut o e → o ≡ Some y
+pub offer_made : (s : State) (w : Option ℕ) (e : Event) (x y : List ℤ) (m : Made) → e ≡ Offer x → IsLegal s w e → m ≡ made_for s.problem s.cuts e → m ≡ made.Point y
     → IsImprovement s.problem s.incumbent y
-offer_made s w e x y cut o p l m q =
-    let made : o ≡ Some x = subst (IsMade s cut o) p m in
-    let same : x ≡ y = same_Some x y (sym made ∙ q) in
+offer_made s w e x y m p l is q =
+    let made : m ≡ made.Point x = is ∙ ap (λ (f : Event). made_for s.problem s.cuts f) p in
+    let same : x ≡ y = same_point x y (sym made ∙ q) in
     subst (IsImprovement s.problem s.incumbent) same (is_improvement s w x (subst (IsLegal s w) p l))
+  where
+    point_of : Made → List ℤ
+    point_of made.Nothing = []
+    point_of (made.Cut c) = []
+    point_of (made.Point z) = z
+
+    same_point : (a b : List ℤ) → made.Point a ≡ made.Point b → a ≡ b
+    same_point a b h = ap point_of h
+
+-- the cut that was made for an event is the rounded row of its multipliers
+pub cut_made : (s : State) (e : Event) (mult : Multipliers) (m : Made) (c : MadeCut) → e ≡ Cut mult → m ≡ made_for s.problem s.cuts e → m ≡ made.Cut c
+    → (c.mult ≡ mult) × (rounded_row s.problem s.cuts mult ≡ Some c.row)
+cut_made s e mult m c p is q = step (rounded_row s.problem s.cuts mult) (sym (is ∙ ap (λ (f : Event). made_for s.problem s.cuts f) p) ∙ q)
+  where
+    step : (o : Option Row) → made_cut mult o ≡ made.Cut c → (c.mult ≡ mult) × (o ≡ Some c.row)
+    step None h = cc
+    step (Some r) h = (ap mult_of (sym h), ap (λ (d : MadeCut). Some d.row) (cut_of_made h))
+      where
+        cut_in : Made → MadeCut
+        cut_in made.Nothing = c
+        cut_in (made.Cut d) = d
+        cut_in (made.Point z) = c
+
+        mult_of : Made → Multipliers
+        mult_of x = (cut_in x).mult
+
+        cut_of_made : made.Cut (record { row = r; mult = mult }) ≡ made.Cut c → record { row = r; mult = mult } ≡ c
+        cut_of_made g = ap cut_in g
 
 -- ---- room for the releases
 cut_holds : (s : State) (mult : List (ℕ × ℚ)) (o : Option Row) → (after_cut s mult o).holds ≡ s.holds

@@ -1,5 +1,5 @@
 -- Events in the order in which they came.
-use Rattle.std.specs.Prelude.{◌≡◌, ℕ, Bool, true, false, if◌then◌else◌, List, [], ◌∷◌, Option, Some, None}
+use Rattle.std.specs.Prelude.{◌≡◌, ℕ, Bool, true, false, if◌then◌else◌, List, [], ◌∷◌, map, Option, Some, None}
 use Rattle.problem.specs.Problem.{Problem}
 use Rattle.node_events.specs.declared.event.Event.{Event}
 use Rattle.node_events.specs.declared.event.Event.TheVariants.{Claim, Release, Cut, Offer, Split, Close}
@@ -27,6 +27,10 @@ MayStand s (Some w) e = Unit {0}
 pub record IsLegal (s : State) (worker : Option ℕ) (event : Event) : Type 0 where
   pub admitted : judged s worker event ≡ Yes
   pub stands : MayStand s worker event
+
+-- events of this worker, or of none
+abbrev pub entries_by : Option ℕ → List Event → List Entry
+entries_by worker es = map (λ (e : Event). record { worker = worker; event = e }) es
 
 -- the state after a list of events, from a state
 abbrev pub state_from : State → List Entry → State

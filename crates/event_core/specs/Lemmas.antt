@@ -9,3 +9,4 @@ pub mod Boxes
 pub mod Reasons
 pub mod Sounding
 pub mod Kept
+pub mod Counting

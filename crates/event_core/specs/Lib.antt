@@ -8,6 +8,7 @@ pub mod After
 pub mod Histories
 pub mod Frames
 pub mod Rooms
+pub mod Made
 pub mod Sound
 pub mod Laws
 pub mod Lemmas

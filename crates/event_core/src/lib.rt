@@ -9,6 +9,8 @@ mod changes;
 mod entry;
 mod judge;
 pub mod laws;
+mod made;
+mod making;
 mod parts;
 mod relaxed;
 mod split_place;
@@ -17,5 +19,6 @@ mod state;
 
 pub use admit::Admit;
 pub use entry::{Entry, Holder};
+pub use made::Made;
 pub use split_place::{SplitPlace, middle};
 pub use state::State;

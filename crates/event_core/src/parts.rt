@@ -1,14 +1,10 @@
 // A state without its history.
-ghost use Rattle.std.specs.Prelude.{◌≡◌, ◌<◌, ◌≤◌, ◌+◌, length, IfOk, OnOk};
-ghost use Rattle.derivation_book.specs.Rounded.{rounded_row};
+ghost use Rattle.std.specs.Prelude.{◌≡◌, IfOk};
 ghost use Rattle.event_core.specs.States.{first_state};
-ghost use Rattle.event_core.specs.Rooms.{cut_with};
-ghost use Rattle.node_tree.specs.Limits.{most_nodes};
 
 use crate::entry::Holder;
-use derivation_book::{Book, Cut};
+use derivation_book::Book;
 use incumbent::Incumbent;
-use node_events::Mult;
 use node_tree::Tree;
 use problem::Problem;
 use std::alloc::{AllocError, Global};
@@ -57,39 +53,5 @@ impl Parts {
             incumbent: Incumbent::none(),
             holds: Vec::new(alloc),
         })
-    }
-
-    /// Makes room for one more hold. The one error is want of memory.
-    pub(crate) fn reserve_hold(&mut self) -> Result<(), AllocError>
-        ensures same { self.new.state ≡ self.old.state }
-        ensures ok { OnOk result (0 < self.new.room.holds) }
-    {
-        self.holds.reserve(1)
-    }
-
-    /// Makes room for one more cut, and the cut of these multipliers if they have a row. The one error is want of memory.
-    pub(crate) fn make_cut(&mut self, alloc: Global, mult: &Mult) -> Result<Option<Cut>, AllocError>
-        ensures same { self.new.state ≡ self.old.state }
-        ensures room { OnOk result (0 < self.new.room.cuts) }
-        ensures made { IfOk result (λ c. c ≡ cut_with mult.now (rounded_row self.old.state.problem self.old.state.cuts mult.now)) }
-    {
-        self.book.reserve(1)?;
-        match self.book.cg_row(alloc, &self.problem, mult)? {
-            Some(row) => {
-                let mult = mult.copy(alloc)?;
-                Ok(Some(Cut { row, mult }))
-            }
-            None => Ok(None),
-        }
-    }
-
-    /// Makes room for one more split, whose nodes are few enough. The one error is want of memory.
-    pub(crate) fn reserve_split(&mut self) -> Result<(), AllocError>
-        requires { length self.old.state.nodes + 2 ≤ most_nodes }
-        ensures same { self.new.state ≡ self.old.state }
-        ensures ok { OnOk result ((0 < self.new.room.splits) × (2 ≤ self.new.room.nodes)) }
-    {
-        self.ended.reserve(2)?;
-        self.tree.reserve(1)
     }
 }

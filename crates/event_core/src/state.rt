@@ -1,36 +1,35 @@
 // The state of a search.
-ghost use Rattle.std.specs.Prelude.{◌≡◌, ◌++◌, ◌∷◌, [], None, IfOk, OnOk};
+ghost use Rattle.std.specs.Prelude.{◌≡◌, ◌≤◌, ◌+◌, ◌*◌, ◌++◌, ◌∷◌, [], IfOk, OnOk, length};
 ghost use Rattle.dual_simplex.specs.Prepared.{IsKept};
 ghost use Rattle.event_core.specs.States.{first_state, is_open, open_count};
 ghost use Rattle.event_core.specs.Judging.{judged};
 ghost use Rattle.event_core.specs.After.{after};
-ghost use Rattle.event_core.specs.Histories.{IsLegal, state_of, AreLegal};
-ghost use Rattle.event_core.specs.Rooms.{HasNumbers, IsReady};
+ghost use Rattle.event_core.specs.Histories.{IsLegal, state_of, AreLegal, entries_by, state_from, AreLegalFrom};
+ghost use Rattle.event_core.specs.Rooms.{HasNumbers, IsReady, AreReady, StaysReady, LeavesRooms, split_count};
+ghost use Rattle.event_core.specs.Made.{made_for, made_for_each};
+ghost use Rattle.node_tree.specs.Limits.{most_nodes};
 ghost use Rattle.event_core.specs.Sound.{IsSound};
 
 use crate::admit::Admit;
 use crate::entry::Entry;
+use crate::made::Made;
 use crate::parts::Parts;
-use derivation_book::{Book, Cut};
+use derivation_book::Book;
 use dual_simplex::KeptRelaxation;
 use incumbent::Incumbent;
 use node_events::Event;
 use node_tree::Tree;
-use problem::{Point, Problem};
+use problem::Problem;
 use std::alloc::{AllocError, Global};
 use std::marker::Model;
 
-/// The state of a search of one problem with its history, seen as both with the room that there is and what was made ready.
+/// The state of a search of one problem with its history, seen as both with the room that there is.
 ///
 /// The state is what the events of the history lead to, and each of these was legal in the state after those before it.
 #[derive(Drop)]
 pub struct State {
     parts: Parts,
     history: Vec<Entry>,
-    /// The cut that was made ready.
-    cut: Option<Cut>,
-    /// The point that was made ready.
-    point: Option<Point>,
 }
 
 impl Model for State {
@@ -40,7 +39,7 @@ impl Model for State {
 
     ghost Value = { Recorded };
 
-    ghost view = { λ a. record { state = a.parts.state; history = a.history.items; room = a.parts.room; entries = vec_capacity a.history - vec_len a.history; cut = a.cut; point = a.point } };
+    ghost view = { λ a. record { state = a.parts.state; history = a.history.items; room = a.parts.room; entries = vec_capacity a.history - vec_len a.history } };
 
     ghost invariant = { λ a. (a.parts.state ≡ state_of a.parts.state.problem a.history.items) × AreLegal a.parts.state.problem a.history.items × (length a.parts.state.holds ≤ vec_capacity a.history - vec_len a.history) };
 }
@@ -55,8 +54,6 @@ impl State {
         Ok(State {
             parts,
             history: Vec::new(alloc),
-            cut: None,
-            point: None,
         })
     }
 
@@ -155,42 +152,63 @@ impl State {
         self.parts.approach(event);
     }
 
-    /// Makes ready what `apply` needs for the event, so that it takes no memory: for a claim also what the release of its node needs. The nodes of a
-    /// split are few enough.
+    /// Makes room for the event, for a claim also for the release of its node, and hands out what was made for it: with that `apply` takes no memory, as
+    /// long as nothing else is applied before. The nodes of a split are few enough.
     ///
-    /// The one error is want of memory; the state and its history stay also then.
-    pub fn reserve(&mut self, alloc: Global, event: &Event) -> Result<(), AllocError>
+    /// The one error is want of memory. Also then the state and its history stay, and what was ready for an event before stays ready.
+    pub fn reserve(&mut self, alloc: Global, event: &Event) -> Result<Made, AllocError>
         requires { HasNumbers self.old.state event.now }
-        ensures state { self.new.state ≡ self.old.state }
-        ensures history { self.new.history ≡ self.old.history }
+        ensures stays { StaysReady self.old self.new }
         ensures ready { OnOk result (IsReady self.new event.now) }
+        ensures made { IfOk result (λ m. m ≡ made_for self.old.state.problem self.old.state.cuts event.now) }
     {
         self.history.reserve(self.parts.holds.len() + 2)?;
-        match event {
-            Event::Claim { .. } => self.parts.reserve_hold(),
-            Event::Cut { mult } => {
-                self.cut = self.parts.make_cut(alloc, mult)?;
-                Ok(())
-            }
-            Event::Offer { point } => {
-                self.point = Some(point.copy(alloc)?);
-                Ok(())
-            }
-            Event::Split { .. } => self.parts.reserve_split(),
-            Event::Release { .. } | Event::Close { .. } => Ok(()),
-        }
+        self.parts.reserve(event)?;
+        self.parts.make_for(alloc, event)
     }
 
-    /// Applies a legal event of this worker, or of none, for which all is ready. It takes no memory.
-    pub fn apply(&mut self, worker: Option<u32>, event: Event)
+    /// The same for the events of a list, each of which is applied after those before it: a cut is rounded over the cuts that there are, and over those of
+    /// the events before it.
+    pub fn reserve_all(&mut self, alloc: Global, events: &[Event]) -> Result<Vec<Made>, AllocError>
+        requires { length self.old.state.nodes + 2 * split_count events.now ≤ most_nodes }
+        ensures stays { StaysReady self.old self.new }
+        ensures ready { OnOk result (AreReady self.new events.now) }
+        ensures made { IfOk result (λ v. v.items ≡ made_for_each self.old.state.problem self.old.state.cuts events.now) }
+    {
+        self.history
+            .reserve(self.parts.holds.len() + 2 * events.len())?;
+        self.parts.reserve_for(events)?;
+        self.parts.make_for_each(alloc, events)
+    }
+
+    /// Applies a legal event of this worker, or of none, for which there is room, and for which this was made. It takes no memory.
+    pub fn apply(&mut self, worker: Option<u32>, event: Event, made: Made)
         requires legal { IsLegal self.old.state worker event }
         requires ready { IsReady self.old event }
+        requires made { made ≡ made_for self.old.state.problem self.old.state.cuts event }
         ensures state { self.new.state ≡ after self.old.state worker event }
         ensures history { self.new.history ≡ self.old.history ++ record { worker = worker; event = event } ∷ [] }
+        ensures rooms { LeavesRooms self.old.room event self.new.room }
+        ensures entries { self.old.entries ≤ self.new.entries + 1 }
     {
-        let cut = self.cut.take();
-        let point = self.point.take();
-        self.parts.change(worker, &event, cut, point);
+        self.parts.change(worker, &event, made);
         self.history.push_reserved(Entry { worker, event });
+    }
+
+    /// Applies the events of a list, each legal after those before it, for which there is room, and for which these were made. It takes no memory.
+    pub fn apply_all(&mut self, worker: Option<u32>, events: Vec<Event>, made: Vec<Made>)
+        requires legal { AreLegalFrom self.old.state (entries_by worker events.items) }
+        requires ready { AreReady self.old events.items }
+        requires made { made.items ≡ made_for_each self.old.state.problem self.old.state.cuts events.items }
+        ensures state { self.new.state ≡ state_from self.old.state (entries_by worker events.items) }
+        ensures history { self.new.history ≡ self.old.history ++ entries_by worker events.items }
+    {
+        let mut made = made.into_iter();
+        for event in events {
+            let Some(made) = made.next() else {
+                unreachable!();
+            };
+            self.apply(worker, event, made);
+        }
     }
 }

@@ -72,6 +72,7 @@ module _ (s : State) (box : List Span) where
   cuts_settle : (limit : ℕ) (mults : List Multipliers) → limit ≤ most_cuts → length s.cuts ≤ most_cuts → AreCutsFound s.problem s.cuts mults → AreNewCuts s (take (limit - length s.cuts) mults)
   cuts_settle limit mults l few h = record {
     rows = All-take (HasRow s.problem s.cuts) (limit - length s.cuts) mults h.rows;
+    few_together = omega (arith, h.few, length-take (limit - length s.cuts) mults);
     few = omega (arith, l, few, length-take (limit - length s.cuts) mults);
   }
 

@@ -1,5 +1,5 @@
 -- What crashes leave of a pool's journal.
-use Rattle.std.specs.Prelude.{◌≡◌, ◌≤◌, ℕ, List, [], ◌∷◌, ◌++◌, length, take, Option, Some, None, refl}
+use Rattle.std.specs.Prelude.{◌≡◌, ◌≤◌, ℕ, List, [], ◌∷◌, ◌++◌, length, take, Option, Some, None, Ok, refl}
 use Rattle.std.proofs.Common.{sym, ap, ◌∙◌, subst, inl, arith, ⊎_elim, length-take}
 use Rattle.std.proofs.lemmas.List.{take_all}
 use Rattle.outside.specs.Images.{IsImage, Leaves, LeavesOnly, NoMomentPasses}
@@ -8,7 +8,7 @@ use Rattle.outside.specs.declared.moment.Moment.{Moment}
 use Rattle.node_events.specs.declared.event.Event.{Event}
 use Rattle.event_core.specs.declared.entry.Entry.{Entry}
 use Rattle.event_core.specs.Histories.{journaled}
-use Rattle.event_codec.specs.Codes.{code}
+use Rattle.event_codec.specs.Groups.{group_of}
 use Rattle.node_journal.specs.Appends.{IsWithOrWithout}
 use Rattle.node_journal.specs.History.{first_of, count_of, BeginsWith, IsPrefixOf, Keeps, EachFrom, KeepsHistory}
 use Rattle.node_journal.specs.Records.{Records, Intact, payloads_held, records}
@@ -16,33 +16,28 @@ use Rattle.node_journal.specs.Whole.{payloads_in}
 use Rattle.node_journal.specs.Lemmas.Histories.{get_seam}
 use Rattle.node_pool.specs.declared.halt.Halt.{Halt}
 use Rattle.node_pool.specs.declared.halt.Halt.TheVariants as halt
-use Rattle.node_pool.specs.Payloads.{codes, codes_given, model_in, IsJournalOf, LeavesPrefixes}
+use Rattle.node_pool.specs.Payloads.{events_given, model_in, IsJournalOf, IsBeginningOf, LeavesBeginnings}
+use Rattle.node_pool.proofs.Spelling.{beginning_sound, beginning_failed, model_stays}
 
 -- ---- since the journal was opened
--- while the journal is sound, each crash leaves a prefix of what stands on the disk
+-- while the journal is sound, each crash leaves a beginning of what stands on the disk
 pub leaves_sound : (from : ℕ) (past : List Moment) (now : Moment) (history : List Entry) (h : Option Halt) → KeepsHistory from past now (payloads_in now) None → IsJournalOf (payloads_in now) history
-    → codes_given history h ≡ codes (journaled history) → LeavesPrefixes from past now history h
-leaves_sound from past now history h kept stands given i m c ge at is =
-    subst (λ (ps : List (List ℕ)). IsPrefixOf ps (records c)) (stands ∙ ap (λ (l : List (List ℕ)). model_in (payloads_in now) ∷ l) (sym given)) (kept.prefixes refl i m c ge at is)
+    → events_given history h ≡ journaled history → LeavesBeginnings from past now history h
+leaves_sound from past now history h kept stands given i m c ge at is = beginning_sound (payloads_in now) history h (records c) stands given (kept.prefixes refl i m c ge at is)
 
--- where the disk failed while an event was added, perhaps with its code
-pub leaves_failed : (from : ℕ) (now : Moment) (past' : List Moment) (now' : Moment) (history : List Entry) (n : ℕ) (e : Event) (payload : List ℕ) → payload ≡ code e → IsJournalOf (payloads_in now) history
+-- where the disk failed while events were added, perhaps with all of them
+pub leaves_failed : (from : ℕ) (now : Moment) (past' : List Moment) (now' : Moment) (history : List Entry) (n : ℕ) (es : List Event) (payload : List ℕ) → group_of payload ≡ Ok es → IsJournalOf (payloads_in now) history
     → model_in (payloads_in now') ≡ model_in (payloads_in now) → EachFrom from (past' ++ now' ∷ []) (λ c. IsPrefixOf (payloads_in now ++ payload ∷ []) (records c))
-    → LeavesPrefixes from past' now' history (Some (halt.Disk n e))
-leaves_failed from now past' now' history n e payload spelled stands same since i m c ge at is =
-    subst (λ (ps : List (List ℕ)). IsPrefixOf ps (records c)) moved (since i m c ge at is)
-  where
-    moved : payloads_in now ++ payload ∷ [] ≡ model_in (payloads_in now') ∷ (codes (journaled history) ++ code e ∷ [])
-    moved =
-        ap (λ (p : List ℕ). payloads_in now ++ p ∷ []) spelled
-        ∙ ap (λ (l : List (List ℕ)). l ++ code e ∷ []) stands
-        ∙ ap (λ (x : List ℕ). x ∷ (codes (journaled history) ++ code e ∷ [])) (sym same)
+    → LeavesBeginnings from past' now' history (Some (halt.Disk n es))
+leaves_failed from now past' now' history n es payload read stands same since i m c ge at is =
+    subst (λ (model : List ℕ). IsBeginningOf model history (Some (halt.Disk n es)) (records c)) (sym same)
+    (beginning_failed (payloads_in now) payload history es (Some (halt.Disk n es)) stands read refl (records c) (since i m c ge at is))
 
 -- no moment went by
-pub leaves_stands : (from : ℕ) (past : List Moment) (now : Moment) (past' : List Moment) (now' : Moment) (es : List Entry) (h : Option Halt) → NoMomentPasses past now past' now' → LeavesPrefixes from past now es h
-    → LeavesPrefixes from past' now' es h
+pub leaves_stands : (from : ℕ) (past : List Moment) (now : Moment) (past' : List Moment) (now' : Moment) (es : List Entry) (h : Option Halt) → NoMomentPasses past now past' now' → LeavesBeginnings from past now es h
+    → LeavesBeginnings from past' now' es h
 leaves_stands from past now past' now' es h stands all =
-    subst (λ (m : Moment). LeavesPrefixes from past' m es h) (sym stands.same) (subst (λ (l : List Moment). LeavesPrefixes from l now es h) (sym stands.none) all)
+    subst (λ (m : Moment). LeavesBeginnings from past' m es h) (sym stands.same) (subst (λ (l : List Moment). LeavesBeginnings from l now es h) (sym stands.none) all)
 
 -- ---- while one event is added
 -- a prefix of payloads that begins with all of them is all of them
@@ -93,5 +88,5 @@ module _ (past : List Moment) (now : Moment) (past' : List Moment) (now' : Momen
   unfolding payloads_in
   model_kept run is = ⊎_elim
       (λ old. ap (λ (r : Records). model_in (payloads_held r)) old)
-      (λ new. ap (λ (r : Records). model_in (payloads_held r)) new ∙ ap (λ (l : List (List ℕ)). model_in (l ++ p ∷ [])) stands)
+      (λ new. ap (λ (r : Records). model_in (payloads_held r)) new ∙ model_stays (payloads_in now) p (journaled history) stands)
       (run_last past now past' now' (IsWithOrWithout (payloads_in now) p) run now'.seen is)

@@ -1,5 +1,5 @@
 -- The list of the free nodes, event by event.
-use Rattle.std.specs.Prelude.{◌≡◌, ◌<◌, ◌+◌, ℕ, ℤ, Bool, true, false, not, ◌&&◌, ◌||◌, nat_eq, List, [], ◌∷◌, ◌++◌, length, Option, Some, None, slice_index_or, slice_set, refl, cond, pos}
+use Rattle.std.specs.Prelude.{◌≡◌, ◌<◌, ◌+◌, ◌*◌, ℕ, ℤ, Bool, true, false, not, ◌&&◌, ◌||◌, nat_eq, List, [], ◌∷◌, ◌++◌, length, Option, Some, None, slice_index_or, slice_set, refl, cond, pos}
 use Rattle.std.specs.List.{list_any}
 use Rattle.std.proofs.Common.{sym, ap, ◌∙◌, subst, inl, inr, arith}
 use Rattle.std.proofs.lemmas.Bool.{false_from_ne_true, or_cases, cases_lt, eqb-true, eq-eqb}
@@ -8,15 +8,22 @@ use Rattle.std.proofs.lemmas.List.Folds.{list_any-append, list_any_at}
 use Rattle.node_events.specs.declared.event.Event.{Event}
 use Rattle.event_core.specs.declared.entry.Holder.{Holder}
 use Rattle.event_core.specs.declared.admit.Admit.TheVariants.{Yes}
-use Rattle.event_core.specs.States.{State, is_open}
+use Rattle.problem.specs.Problem.{Problem}
+use Rattle.event_core.specs.declared.entry.Entry.{Entry}
+use Rattle.event_core.specs.States.{State, is_open, first_state}
 use Rattle.event_core.specs.Holds.{is_held, holds_node}
 use Rattle.event_core.specs.Judging.{judged}
 use Rattle.event_core.specs.After.{after, after_claim, after_release, after_split, after_close}
-use Rattle.event_core.specs.Histories.{is_journaled}
+use Rattle.event_core.specs.Histories.{is_journaled, IsLegal, AreLegal, AreLegalFrom, state_of, state_from, entries_by}
+use Rattle.event_core.specs.Rooms.{split_count}
+use Rattle.event_core.specs.Lemmas.Counting.{splits_are}
 use Rattle.event_core.specs.Sound.{IsSound}
 use Rattle.event_core.specs.Lemmas.Ended.{is_left, left_within}
-use Rattle.node_pool.specs.Free.{has_node, AreRising, AreFreeNodes, children_of}
+use Rattle.event_core.specs.Lemmas.Running.{state_from-append, legal_more}
+use Rattle.event_core.specs.Lemmas.Sounding.{legal_sound}
+use Rattle.node_pool.specs.Free.{has_node, AreRising, AreFreeNodes, children_of, children_of_all}
 use Rattle.node_pool.specs.Answers.{IsGreatestFree}
+use Rattle.node_pool.proofs.Spelling.{AreJournaledEvents}
 use Rattle.node_pool.proofs.RisingLists.{or_end, has-push, AreBelow, missing, rising-push, below-push, rising-front, below-last, greatest_last, has_last, fewer, below_has}
 use Rattle.node_pool.proofs.OpenAndHeld.{and_no, and_yes, or_no, left-set, left-two, is_of_two, held-push, held-without, held_by, held_open, given, given_back, split_off}
 use Rattle.event_core.specs.Frames.{is_split, ended_by, opened_by, with_ended, without_holds, KeepsFrame}
@@ -181,10 +188,34 @@ module _ (s : State) (w : ℕ) (e : Event) (ns : List ℕ) (sound : IsSound s) (
 pub moved_nodes : (s t : State) (ns ms : List ℕ) → t ≡ s → ms ≡ ns → AreFreeNodes s ns → AreFreeNodes t ms
 moved_nodes s t ns ms e f h = subst (λ (u : State). AreFreeNodes u ms) (sym e) (subst (AreFreeNodes s) (sym f) h)
 
-pub added_listed : (s t : State) (w : ℕ) (e : Event) (ns ms : List ℕ) (n : ℕ) → IsSound s → judged s (Some w) e ≡ Yes → is_journaled e ≡ true → AreFreeNodes s ns → t ≡ after s (Some w) e → n ≡ length s.nodes
-    → ms ≡ ns ++ children_of e n → AreFreeNodes t ms
-added_listed s t w e ns ms n sound admitted journaled h state number items =
-    moved_nodes (after s (Some w) e) t (ns ++ children_of e (length s.nodes)) ms state (items ∙ ap (λ k. ns ++ children_of e k) number) (added_nodes s w e ns sound admitted journaled h)
+-- ---- a list of events
+pub added_all : (p : Problem) (before : List Entry) (s : State) (w : ℕ) (es : List Event) (ns : List ℕ) → s ≡ state_of p before → AreLegal p before → AreLegalFrom s (entries_by (Some w) es) → AreJournaledEvents es
+    → AreFreeNodes s ns → AreFreeNodes (state_from s (entries_by (Some w) es)) (ns ++ children_of_all es (length s.nodes))
+added_all p before s w [] ns is legal more all h = subst (AreFreeNodes s) (sym (append-nil ns)) h
+added_all p before s w (e ∷ es) ns is legal more all h =
+    let t = after s (Some w) e in
+    let entry : Entry = record { worker = Some w; event = e } in
+    let one = added_nodes s w e ns (subst IsSound (sym is) (legal_sound p before legal)) more.0.admitted all.0 h in
+    let here : IsLegal (state_of p before) (Some w) e = subst (λ (u : State). IsLegal u (Some w) e) is more.0 in
+    let then : t ≡ state_of p (before ++ entry ∷ []) = ap (λ (u : State). after u (Some w) e) is ∙ sym (state_from-append (first_state p) before (entry ∷ [])) in
+    let rest = added_all p (before ++ entry ∷ []) t w es (ns ++ children_of e (length s.nodes)) then (legal_more (first_state p) before entry legal here) more.1 all.1 one in
+    subst (AreFreeNodes (state_from t (entries_by (Some w) es)))
+    (append_assoc ns (children_of e (length s.nodes)) (children_of_all es (length t.nodes)) ∙ ap (λ (n : ℕ). ns ++ (children_of e (length s.nodes) ++ children_of_all es n)) (keeps_frame s (Some w) e).node_count)
+    rest
+
+pub added_listed : (p : Problem) (before : List Entry) (s t : State) (w : ℕ) (es : List Event) (ns ms : List ℕ) (n : ℕ) → s ≡ state_of p before → AreLegal p before → AreLegalFrom s (entries_by (Some w) es)
+    → AreJournaledEvents es → AreFreeNodes s ns → t ≡ state_from s (entries_by (Some w) es) → n ≡ length s.nodes → ms ≡ ns ++ children_of_all es n → AreFreeNodes t ms
+added_listed p before s t w es ns ms n is legal more all h state number items =
+    moved_nodes (state_from s (entries_by (Some w) es)) t (ns ++ children_of_all es (length s.nodes)) ms state (items ∙ ap (λ k. ns ++ children_of_all es k) number) (added_all p before s w es ns is legal more all h)
+
+-- the nodes of a tree after these events
+pub nodes_added : (s : State) (w : Option ℕ) (es : List Event) → length (state_from s (entries_by w es)).nodes ≡ length s.nodes + 2 * split_count es
+nodes_added s w [] = omega arith
+nodes_added s w (e ∷ es) = omega (arith, nodes_added (after s w e) w es, (keeps_frame s w e).node_count, one (is_split e), splits_are e es)
+  where
+    one : (b : Bool) → cond b 2 0 ≡ 2 * cond b 1 0
+    one true = refl
+    one false = refl
 
 -- ---- the list is made
 -- the open nodes below n, where nobody holds a node

@@ -1,10 +1,10 @@
 -- The open nodes that nobody holds.
-use Rattle.std.specs.Prelude.{◌≡◌, ◌<◌, ◌+◌, ℕ, Bool, not, if◌then◌else◌, ◌&&◌, nat_eq, List, [], ◌∷◌}
+use Rattle.std.specs.Prelude.{◌≡◌, ◌<◌, ◌+◌, ℕ, Bool, true, not, if◌then◌else◌, ◌&&◌, nat_eq, List, [], ◌∷◌, ◌++◌, length}
 use Rattle.std.specs.List.{AllPairs, list_any}
 use Rattle.node_events.specs.declared.event.Event.{Event}
 use Rattle.event_core.specs.States.{State, is_open}
 use Rattle.event_core.specs.Holds.{is_held}
-use Rattle.event_core.specs.Frames.{is_split}
+use Rattle.event_core.specs.Frames.{is_split, nodes_made}
 
 -- the node is open, and nobody holds it
 abbrev pub is_free : State → ℕ → Bool
@@ -26,3 +26,12 @@ pub record AreFreeNodes (s : State) (ns : List ℕ) : Type 0 where
 -- the children of the node that the event splits, where the next node has this number
 abbrev pub children_of : Event → ℕ → List ℕ
 children_of e n = if is_split e then n ∷ (n + 1) ∷ [] else []
+
+-- the children of the nodes that the events split, where the next node has this number
+abbrev pub children_of_all : List Event → ℕ → List ℕ
+children_of_all [] n = []
+children_of_all (e ∷ es) n = children_of e n ++ children_of_all es (n + nodes_made e)
+
+-- a split is alone in its list
+abbrev pub SplitsAlone : List Event → Type 0
+SplitsAlone es = list_any is_split es ≡ true → length es ≡ 1

@@ -1,15 +1,15 @@
 -- What a halt says of its pool.
-use Rattle.std.specs.Prelude.{◌≡◌, ℕ, ◌+◌, Bool, true, false, ◌&&◌, nat_lt, length, Option, Some, None, Result, Ok, Err}
+use Rattle.std.specs.Prelude.{◌≡◌, ℕ, ◌+◌, ◌≤◌, max, Bool, true, false, ◌&&◌, nat_lt, List, [], ◌∷◌, length, Option, Some, None, Result, Ok, Err}
+use Rattle.std.specs.List.{list_any}
 use Rattle.outside.specs.Faults.{Rose}
 use Rattle.node_events.specs.declared.event.Event.{Event}
 use Rattle.event_core.specs.declared.admit.Admit.TheVariants.{Yes}
 use Rattle.event_core.specs.States.{State}
 use Rattle.event_core.specs.Judging.{judged}
-use Rattle.event_core.specs.Histories.{is_journaled}
+use Rattle.event_core.specs.Histories.{is_journaled, entries_by, state_from, AreLegalFrom}
 use Rattle.event_core.specs.Laws.{unheld}
 use Rattle.event_core.specs.Frames.{is_split}
-use Rattle.event_codec.specs.Codes.{IsCodable}
-use Rattle.event_codec.specs.Types.{IsEvent}
+use Rattle.event_codec.specs.Groups.{group_code, group_of}
 use Rattle.node_pool.specs.declared.halt.Halt.{Halt}
 use Rattle.node_pool.specs.declared.halt.Halt.TheVariants as halt
 use Rattle.node_pool.specs.declared.answers.Receipt.{Receipt}
@@ -19,6 +19,10 @@ use Rattle.node_pool.specs.declared.answers.CommitFault.TheVariants as fault
 -- the event splits a node of a tree of so many, and with the two children the nodes are more than the budget
 abbrev pub passes_budget : ℕ → ℕ → Event → Bool
 passes_budget budget nodes e = is_split e && nat_lt budget (nodes + 2)
+
+-- one of the events does
+abbrev pub spends : ℕ → ℕ → List Event → Bool
+spends budget nodes es = list_any (passes_budget budget nodes) es
 
 -- A journal may have the event next: it is admitted without a worker in this state, in which nobody holds a node.
 pub record IsNext (s : State) (e : Event) : Type 0 where
@@ -30,16 +34,15 @@ pub record IsUnfailed (faults count : ℕ) (fault : Option ℕ) : Type 0 where
   pub sound : fault ≡ None
   pub unchanged : count ≡ faults
 
--- The disk failed while this event was added, and counted it: the count was the first number at the beginning, and is the second now. The event has a
--- code and the ranges of its type, and is no split past the budget.
-pub record IsDiskHalt (faults budget count : ℕ) (fault : Option ℕ) (s : State) (n : ℕ) (e : Event) : Type 0 where
+-- The disk failed while these events were added, and counted it: the count was the first number at the beginning, and is the second now. A journal may have
+-- the events next, their payload reads back as them, and by them the tree has no more nodes than the budget says, or than there were.
+pub record IsDiskHalt (faults budget count : ℕ) (fault : Option ℕ) (s : State) (n : ℕ) (es : List Event) : Type 0 where
   pub failed : fault ≡ Some n
   pub counted : count ≡ n
   pub rose : Rose faults n
-  pub next : IsNext (unheld s) e
-  pub codable : IsCodable e
-  pub typed : IsEvent e
-  pub within : passes_budget budget (length s.nodes) e ≡ false
+  pub next : AreLegalFrom (unheld s) (entries_by None es)
+  pub read : group_of (group_code es) ≡ Ok es
+  pub few : length (state_from (unheld s) (entries_by None es)).nodes ≤ max budget (length s.nodes)
 
 -- this split would pass the budget
 pub record IsBudgetHalt (faults budget count : ℕ) (fault : Option ℕ) (s : State) (e : Event) : Type 0 where
@@ -51,16 +54,21 @@ pub record IsBudgetHalt (faults budget count : ℕ) (fault : Option ℕ) (s : St
 abbrev pub IsHalt : ℕ → ℕ → ℕ → Option ℕ → State → Option Halt → Type 0
 IsHalt faults budget count fault s None = IsUnfailed faults count fault
 IsHalt faults budget count fault s (Some halt.Memory) = IsUnfailed faults count fault
-IsHalt faults budget count fault s (Some (halt.Disk n e)) = IsDiskHalt faults budget count fault s n e
+IsHalt faults budget count fault s (Some (halt.Disk n es)) = IsDiskHalt faults budget count fault s n es
 IsHalt faults budget count fault s (Some (halt.Budget e)) = IsBudgetHalt faults budget count fault s e
 
--- the halt after a commit of an event with this result, by the halt before and the disk's count then
-abbrev pub halt_after : Option Halt → Result Receipt CommitFault → Event → ℕ → Option Halt
-halt_after h (Ok r) e count = h
-halt_after h (Err fault.Memory) e count = h
-halt_after h (Err fault.Halted) e count = h
-halt_after h (Err fault.Budget) e count = Some (halt.Budget e)
-halt_after h (Err fault.Disk) e count = Some (halt.Disk count e)
+-- the first of the events, which is a split that is alone, passes the budget; `h` is the halt where there is none
+abbrev pub budget_halt : Option Halt → List Event → Option Halt
+budget_halt h [] = h
+budget_halt h (e ∷ es) = Some (halt.Budget e)
+
+-- the halt after a commit of these events with this result, by the halt before and the disk's count then
+abbrev pub halt_after : Option Halt → Result Receipt CommitFault → List Event → ℕ → Option Halt
+halt_after h (Ok r) es count = h
+halt_after h (Err fault.Memory) es count = h
+halt_after h (Err fault.Halted) es count = h
+halt_after h (Err fault.Budget) es count = budget_halt h es
+halt_after h (Err fault.Disk) es count = Some (halt.Disk count es)
 
 -- the fault is the disk's
 abbrev pub is_disk_fault : CommitFault → Bool

@@ -1,2 +1,2 @@
 pub mod Props
-pub mod Stored
+pub mod Groups

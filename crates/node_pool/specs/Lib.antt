@@ -1,5 +1,4 @@
 pub mod Payloads
-pub mod Stored
 pub mod Free
 pub mod Halting
 pub mod Answers

@@ -17,18 +17,18 @@ pub enum Claim {
 /// What was acknowledged.
 #[derive(Clone, Copy, Debug, PartialEq, Eq, Drop)]
 pub struct Receipt {
-    /// The number in the journal of the first payload; the model's record has number 0.
+    /// The number in the journal of the payload that has the events; the model's record has number 0.
     pub first: u64,
-    /// How many payloads there are.
+    /// How many events there are.
     pub count: u32,
 }
 
-/// Why an event was not taken.
+/// Why events were not taken. None of them is made then.
 #[derive(Clone, Copy, Debug, PartialEq, Eq, Drop)]
 pub enum CommitFault {
     /// The disk failed, and counted it. The pool is halted.
     Disk,
-    /// There was no memory for the event. It is not made, and the pool isn't halted by it.
+    /// There was no memory for them. The pool isn't halted by that.
     Memory,
     /// The two children of the node that was to be split would pass the budget. The pool is halted.
     Budget,

@@ -6,6 +6,7 @@ ghost use Rattle.node_pool.specs.Answers.{IsClaim, IsReadyToClaim};
 ghost use Rattle.node_pool.specs.Applied.{Applies, AppliesNothing};
 
 use crate::{Claim, Pool};
+use event_core::Made;
 use node_events::Event;
 use outside::Disk;
 use std::alloc::{AllocError, Global};
@@ -20,7 +21,8 @@ impl<D: Disk> Pool<D> {
         ensures budget { self.new.budget ≡ self.old.budget }
         ensures faults { self.new.faults ≡ self.old.faults }
     {
-        self.state.reserve(alloc, &Event::Claim { node: 0 })
+        let _nothing = self.state.reserve(alloc, &Event::Claim { node: 0 })?;
+        Ok(())
     }
 
     /// Gives the worker, who holds no node, the greatest of the open nodes that nobody holds, or says why it gets none. `ready` was called before, so
@@ -48,7 +50,8 @@ impl<D: Disk> Pool<D> {
                 Claim::Idle
             };
         };
-        self.state.apply(Some(worker), Event::Claim { node });
+        self.state
+            .apply(Some(worker), Event::Claim { node }, Made::Nothing);
         Claim::Node(node)
     }
 }

@@ -1,6 +1,8 @@
 // The list of the open nodes that nobody holds.
-ghost use Rattle.std.specs.Prelude.{◌≡◌, ◌≤◌, ◌<◌, ◌+◌, ◌^◌, ◌++◌, ◌||◌, [], ℕ, false, nat_eq, OnOk, IfOk, length, vec_len, vec_capacity};
-ghost use Rattle.node_pool.specs.Free.{AreFreeNodes, AreRising, has_node, children_of};
+ghost use Rattle.std.specs.Prelude.{◌≡◌, ◌≤◌, ◌<◌, ◌+◌, ◌*◌, ◌^◌, ◌++◌, ◌||◌, [], ℕ, false, nat_eq, OnOk, IfOk, length, vec_len, vec_capacity};
+ghost use Rattle.event_core.specs.Frames.{nodes_made};
+ghost use Rattle.event_core.specs.Rooms.{split_count};
+ghost use Rattle.node_pool.specs.Free.{AreFreeNodes, AreRising, has_node, children_of, children_of_all};
 
 use event_core::State;
 use node_events::Event;
@@ -35,16 +37,34 @@ pub fn reserve_for(free: &mut Vec<u32>, nodes: usize) -> Result<(), AllocError>
     Ok(())
 }
 
-/// Adds the children of the node that the event splits, if it splits one. The first of them has this number.
-pub fn add_children(free: &mut Vec<u32>, event: &Event, number: u32)
-    requires room { vec_len free.old + 2 ≤ vec_capacity free.old }
-    requires few { number + 1 < 2 ^ 32 }
+/// Adds the children of the node that the event splits, if it splits one, and answers the number of the next node. The first of them has this number.
+fn add_children_of(free: &mut Vec<u32>, event: &Event, number: u32) -> u32
+    requires room { vec_len free.old + nodes_made event.now ≤ vec_capacity free.old }
+    requires few { number + nodes_made event.now < 2 ^ 32 }
     ensures items { free.new.items ≡ free.old.items ++ children_of event.now number }
     ensures capacity { vec_capacity free.new ≡ vec_capacity free.old }
+    ensures next { result ≡ number + nodes_made event.now }
 {
-    if let Event::Split { .. } = event {
-        free.push_reserved(number);
-        free.push_reserved(number + 1);
+    match event {
+        Event::Split { .. } => {
+            free.push_reserved(number);
+            free.push_reserved(number + 1);
+            number + 2
+        }
+        _ => number,
+    }
+}
+
+/// Adds the children of the nodes that the events split. The first of them has this number.
+pub fn add_children(free: &mut Vec<u32>, events: &[Event], number: u32)
+    requires room { vec_len free.old + 2 * split_count events.now ≤ vec_capacity free.old }
+    requires few { number + 2 * split_count events.now < 2 ^ 32 }
+    ensures items { free.new.items ≡ free.old.items ++ children_of_all events.now number }
+    ensures capacity { vec_capacity free.new ≡ vec_capacity free.old }
+{
+    let mut next = number;
+    for event in events {
+        next = add_children_of(free, event, next);
     }
 }
 

@@ -1,5 +1,6 @@
 // Why a pool takes no more events.
 
+use crate::Events;
 use node_events::Event;
 
 /// Why a pool takes no more events.
@@ -7,12 +8,12 @@ use node_events::Event;
 pub enum Halt {
     /// A worker had no memory for what it had to do.
     Memory,
-    /// The disk failed while an event was added to the journal, where it may stand or not.
+    /// The disk failed while the events of a call were added to the journal, where all of them may stand, or none.
     Disk {
         /// The disk's count of faults then.
         faults: u64,
-        /// The event.
-        event: Event,
+        /// The events.
+        events: Events,
     },
     /// The two children of a node that was to be split would pass the budget.
     Budget {

@@ -1,10 +1,10 @@
-// The payload of an event.
-ghost use Rattle.std.specs.Prelude.{◌≡◌, ◌<◌, ◌^◌, ◌↔◌, true, IsTrue, IfOk, OnOk, length};
+// The payload of events.
+ghost use Rattle.std.specs.Prelude.{◌≡◌, ◌<◌, ◌≤◌, ◌^◌, ◌↔◌, true, IsTrue, IfOk, OnOk, Ok, All, length};
 ghost use Rattle.event_core.specs.Histories.{is_journaled};
-ghost use Rattle.event_codec.specs.Codes.{code, IsCodable};
-ghost use Rattle.event_codec.specs.Types.{IsEvent};
+ghost use Rattle.event_codec.specs.Codes.{IsCodable};
+ghost use Rattle.event_codec.specs.Groups.{most_group_events, group_code, group_of};
 
-use event_codec::encode;
+use event_codec::encode_group;
 use node_events::{Event, Proof, Reason};
 use std::alloc::{AllocError, Global};
 
@@ -31,19 +31,33 @@ fn is_codable(event: &Event) -> bool
     }
 }
 
-/// The payload of an event that a journal has. The one error is want of memory; it also comes where the code or a list in it would have 2^32 elements
-/// or more.
-pub fn payload_of(alloc: Global, event: &Event) -> Result<Vec<u8>, AllocError>
-    requires { is_journaled event.now ≡ true }
-    ensures spelled { IfOk result (λ v. v.items ≡ code event.now) }
-    ensures small { IfOk result (λ v. length v.items < 2 ^ 32) }
-    ensures codable { OnOk result (IsCodable event.now) }
-    ensures typed { OnOk result (IsEvent event.now) }
+/// Whether each of the events is so.
+fn are_codable(events: &[Event]) -> bool
+    requires { All (λ e. is_journaled e ≡ true) events.now }
+    ensures { IsTrue result ↔ All IsCodable events.now }
 {
-    if !is_codable(event) {
+    for event in events {
+        if !is_codable(event) {
+            return false;
+        }
+    }
+    true
+}
+
+/// The payload of events that a journal has, 1 to 64, which reads back as them. The one error is want of memory; it also comes where the payload or a list
+/// in it would have 2^32 elements or more.
+pub fn payload_of(alloc: Global, events: &[Event]) -> Result<Vec<u8>, AllocError>
+    requires some { 0 < length events.now }
+    requires few { length events.now ≤ most_group_events }
+    requires journaled { All (λ e. is_journaled e ≡ true) events.now }
+    ensures spelled { IfOk result (λ v. v.items ≡ group_code events.now) }
+    ensures read { OnOk result (group_of (group_code events.now) ≡ Ok events.now) }
+    ensures small { IfOk result (λ v. length v.items < 2 ^ 32) }
+{
+    if !are_codable(events) {
         return Err(AllocError);
     }
-    let payload = encode(alloc, event)?;
+    let payload = encode_group(alloc, events)?;
     if payload.len() >= LIMIT {
         return Err(AllocError);
     }

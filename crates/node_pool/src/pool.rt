@@ -1,14 +1,11 @@
 // The state of a search with its journal.
-ghost use Rattle.std.specs.Prelude.{◌≡◌, ◌+◌, ◌≤◌, [], ℕ, true, length, vec_capacity, option_copied, unwrap_or, IfOk, IfErr, Some, None};
-ghost use Rattle.std.specs.List.{AllByRecursion};
-ghost use Rattle.event_core.specs.Histories.{journaled};
+ghost use Rattle.std.specs.Prelude.{◌≡◌, ◌≤◌, [], true, length, vec_capacity, option_copied, unwrap_or, IfOk, IfErr, Some, None};
 ghost use Rattle.node_journal.specs.History.{KeepsHistory};
 ghost use Rattle.node_journal.specs.Whole.{payloads_in};
 ghost use Rattle.node_pool.specs.Free.{AreFreeNodes};
 ghost use Rattle.node_pool.specs.Halting.{IsHalt};
-ghost use Rattle.node_pool.specs.Payloads.{IsJournalOf, LeavesPrefixes};
-ghost use Rattle.node_pool.specs.Stored.{IsStored};
-ghost use Rattle.node_pool.specs.Lemmas.Props.{AllStored-prop, IsHalt-prop};
+ghost use Rattle.node_pool.specs.Payloads.{IsJournalOf, LeavesBeginnings};
+ghost use Rattle.node_pool.specs.Lemmas.Props.{IsHalt-prop};
 ghost use Rattle.node_tree.specs.Limits.{most_nodes};
 
 use crate::Halt;
@@ -33,16 +30,13 @@ pub struct Pool<D: Disk> {
     // A release takes no memory.
     ghost room: { length state.state.nodes ≤ vec_capacity free },
     ghost few: { budget ≤ most_nodes },
-    ghost counted: { journal.count ≡ length (journaled state.history) + 1 },
-    ghost stored: { AllByRecursion IsStored (journaled state.history) } by { AllStored-prop (journaled state.history) },
     ghost stands: { D.tells ≡ true → journal.fault ≡ None → IsJournalOf (payloads_in (D.now journal.disk)) state.history },
-    ghost crashes: { D.tells ≡ true → LeavesPrefixes journal.opened (D.past journal.disk) (D.now journal.disk) state.history halt },
+    ghost crashes: { D.tells ≡ true → LeavesBeginnings journal.opened (D.past journal.disk) (D.now journal.disk) state.history halt },
     ghost halts: { IsHalt faults budget (D.count journal.disk) journal.fault state.state halt } by { IsHalt-prop faults budget (D.count journal.disk) journal.fault state.state halt },
 }
 
 impl<D: Disk> Pool<D> {
-    /// A pool of a state and the journal that stands for its history, by the model's record and the events that a journal has, each with a code and the
-    /// ranges of its type. The budget is how many nodes the tree may have. At want of memory, the one error, state and journal come back.
+    /// A pool of a state and the journal that stands for its history, by the model's record and the events that a journal has. The budget is how many nodes the tree may have. At want of memory, the one error, state and journal come back.
     pub fn make(
         alloc: Global,
         state: State,
@@ -52,8 +46,6 @@ impl<D: Disk> Pool<D> {
         requires few { budget ≤ most_nodes }
         requires unheld { state.state.holds ≡ [] }
         requires sound { journal.fault ≡ None }
-        requires counted { journal.count ≡ length (journaled state.history) + 1 }
-        requires stored { AllByRecursion IsStored (journaled state.history) }
         requires stands { D.tells ≡ true → IsJournalOf (payloads_in (D.now journal.disk)) state.history }
         ensures state { IfOk result (λ p. p.state ≡ state) }
         ensures journal { IfOk result (λ p. p.journal ≡ journal) }
@@ -98,7 +90,7 @@ impl<D: Disk> Pool<D> {
         self.budget
     }
 
-    /// How many payloads were given to the journal and acknowledged: the model's record, and the events that a journal has.
+    /// How many payloads were given to the journal and acknowledged: the model's record, and one for the events of each call.
     pub fn payloads(&self) -> u64
         ensures { result ≡ self.now.journal.count }
     {
@@ -121,12 +113,10 @@ impl<D: Disk> Pool<D> {
 
     /// What each pool keeps. This computes nothing: its contract is for callers' proofs.
     pub fn history_holds(&self)
-        ensures counted { self.now.journal.count ≡ length (journaled self.now.state.history) + 1 }
-        ensures stored { AllByRecursion IsStored (journaled self.now.state.history) }
-        // While the journal is sound, the disk has the model's record and the codes of the history's events.
+        // While the journal is sound, the disk has the model's record and what spells the history's events.
         ensures stands { D.tells ≡ true → self.now.journal.fault ≡ None → IsJournalOf (payloads_in (D.now self.now.journal.disk)) self.now.state.history }
-        // Each crash since the journal was opened leaves a prefix of them, perhaps with the event in whose call the disk failed.
-        ensures crashes { D.tells ≡ true → LeavesPrefixes self.now.journal.opened (D.past self.now.journal.disk) (D.now self.now.journal.disk) self.now.state.history self.now.halt }
+        // Each crash since the journal was opened leaves a beginning of them, perhaps with all events in whose call the disk failed.
+        ensures crashes { D.tells ≡ true → LeavesBeginnings self.now.journal.opened (D.past self.now.journal.disk) (D.now self.now.journal.disk) self.now.state.history self.now.halt }
         ensures halted { IsHalt self.now.faults self.now.budget (D.count self.now.journal.disk) self.now.journal.fault self.now.state.state self.now.halt }
         ensures kept { D.tells ≡ true → KeepsHistory self.now.journal.opened (D.past self.now.journal.disk) (D.now self.now.journal.disk) (payloads_in (D.now self.now.journal.disk)) self.now.journal.fault }
         ensures few { self.now.budget ≤ most_nodes }
@@ -142,10 +132,8 @@ impl<D: Disk> Pool<D> {
         ensures state { result.0 ≡ self.state }
         ensures journal { result.1 ≡ self.journal }
         ensures halt { result.2 ≡ self.halt }
-        ensures counted { result.1.count ≡ length (journaled result.0.history) + 1 }
-        ensures stored { AllByRecursion IsStored (journaled result.0.history) }
         ensures stands { D.tells ≡ true → result.1.fault ≡ None → IsJournalOf (payloads_in (D.now result.1.disk)) result.0.history }
-        ensures crashes { D.tells ≡ true → LeavesPrefixes result.1.opened (D.past result.1.disk) (D.now result.1.disk) result.0.history result.2 }
+        ensures crashes { D.tells ≡ true → LeavesBeginnings result.1.opened (D.past result.1.disk) (D.now result.1.disk) result.0.history result.2 }
         ensures halted { IsHalt self.faults self.budget (D.count result.1.disk) result.1.fault result.0.state result.2 }
     {
         let Pool {

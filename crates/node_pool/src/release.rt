@@ -6,6 +6,7 @@ ghost use Rattle.node_pool.specs.Applied.{Applies};
 
 use crate::Pool;
 use crate::free::insert_node;
+use event_core::Made;
 use node_events::Event;
 use outside::Disk;
 
@@ -21,6 +22,7 @@ impl<D: Disk> Pool<D> {
     {
         self.state.conditions_hold();
         insert_node(&mut self.free, node);
-        self.state.apply(Some(worker), Event::Release { node });
+        self.state
+            .apply(Some(worker), Event::Release { node }, Made::Nothing);
     }
 }

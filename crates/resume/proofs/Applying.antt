@@ -1,33 +1,21 @@
--- One event after another.
-use Rattle.std.specs.Prelude.{◌≡◌, ◌≢◌, ℕ, ◌+◌, ◌≤◌, true, List, length, None, Ok, Err, refl, cond, Bool, false}
-use Rattle.std.proofs.Common.{arith, subst, ap, ◌∙◌}
+-- The events of a payload, one after another.
+use Rattle.std.specs.Prelude.{◌≡◌, ℕ, ◌+◌, ◌≤◌, true, List, [], ◌∷◌, ◌++◌, length, All, Option, Some, None, refl, cond, Bool, false}
+use Rattle.std.proofs.Common.{arith, sym, subst, ap, ◌∙◌}
+use Rattle.std.proofs.lemmas.List.{append_assoc}
+use Rattle.std.proofs.lemmas.List.Elements.{All-tail}
 use Rattle.node_events.specs.declared.event.Event.{Event}
-use Rattle.node_events.specs.declared.event.Event.TheVariants.{Claim, Release, Cut, Offer, Split, Close}
-use Rattle.event_codec.specs.declared.fault.CodecFault.{CodecFault}
-use Rattle.event_codec.specs.Codes.{code, IsCodable}
-use Rattle.event_codec.specs.Types.{IsEvent}
-use Rattle.event_codec.specs.declared.fault.CodecError.TheVariants.{Fault}
-use Rattle.event_codec.specs.ReadResults.{Gives}
-use Rattle.event_core.specs.declared.admit.Admit.TheVariants.{Yes}
+use Rattle.event_core.specs.declared.entry.Entry.{Entry}
 use Rattle.event_core.specs.States.{State}
-use Rattle.event_core.specs.Judging.{judged}
 use Rattle.event_core.specs.After.{after}
-use Rattle.event_core.specs.Histories.{is_journaled}
-use Rattle.event_core.specs.Rooms.{HasNumbers}
-use Rattle.resume.specs.Events.{IsNoEvent}
+use Rattle.event_core.specs.Holds.{without_hold}
+use Rattle.event_core.specs.Histories.{is_journaled, state_from, IsLegal, AreLegalFrom}
+use Rattle.event_core.specs.Rooms.{HasNumbers, Recorded}
+use Rattle.event_core.specs.Frames.{is_split, freed_by, without_holds}
+use Rattle.event_core.specs.Lemmas.Frames.{keeps_frame, numbers_if, numbers_of, journaled_claims, freed_holds, nodes_from}
 use Rattle.node_tree.specs.Limits.{most_nodes}
-use Rattle.event_core.specs.Frames.{is_split}
-use Rattle.event_core.specs.Lemmas.Frames.{keeps_frame, numbers_if, numbers_of}
+use Rattle.resume.specs.Events.{read_entries}
 
--- an event that has a code is kept in a journal
-pub codable_stays : (e : Event) → IsCodable e → is_journaled e ≡ true
-codable_stays (Claim i) h = absurd h
-codable_stays (Release i) h = absurd h
-codable_stays (Cut mult) h = refl
-codable_stays (Offer x) h = refl
-codable_stays (Split i j b reason) h = refl
-codable_stays (Close i proof) h = refl
-
+-- ---- one event
 -- where the tree isn't too large after an event, it had room for it
 pub has_numbers : (s : State) (e : Event) → length (after s None e).nodes ≤ most_nodes → HasNumbers s e
 has_numbers s e h =
@@ -45,22 +33,51 @@ stays_few s e h numbers = step (is_split e) refl
     step : (b : Bool) → is_split e ≡ b → length (after s None e).nodes ≤ most_nodes
     step b q = within b ((keeps_frame s None e).node_count ∙ ap (λ (c : Bool). length s.nodes + cond c 2 0) q) (λ r. numbers_of s e numbers (q ∙ r))
 
--- what reading a payload gives is the event whose code it is
-pub event_is : (payload : List ℕ) (e d : Event) → ((x : Event) → IsCodable x → IsEvent x → payload ≡ code x → Gives (Ok d) (Ok x)) → IsCodable e → IsEvent e → payload ≡ code e → e ≡ d
-event_is payload e d only codable typed written = let h : Ok e ≡ Ok d = only e codable typed written in cc
+-- without a worker nobody comes to hold a node
+nobody_holds : (s : State) (e : Event) → s.holds ≡ [] → is_journaled e ≡ true → (after s None e).holds ≡ []
+nobody_holds s e h j = freed_holds s None e (journaled_claims e j) ∙ without (freed_by e)
+  where
+    without : (o : Option ℕ) → without_holds o s.holds ≡ []
+    without None = h
+    without (Some i) = ap (without_hold i) h
 
--- a payload that can't be read is the code of no event
-pub unread : (s : State) (payload : List ℕ) (f : CodecFault) → ((x : Event) → IsCodable x → IsEvent x → payload ≡ code x → Gives (Err (Fault f)) (Ok x)) → IsNoEvent s payload
-unread s payload f only e next = let h : Ok e ≡ Err f = only e next.codable next.typed next.written in cc
+-- ---- one event after another
+pub nobody_holds_after : (s : State) (es : List Event) → s.holds ≡ [] → AreLegalFrom s (read_entries es) → (state_from s (read_entries es)).holds ≡ []
+nobody_holds_after s [] h legal = h
+nobody_holds_after s (e ∷ es) h legal = nobody_holds_after (after s None e) es (nobody_holds s e h legal.0.stands.1) legal.1
 
--- an event that isn't admitted can't come next
-pub refused : (s : State) (payload : List ℕ) (d : Event) → ((x : Event) → IsCodable x → IsEvent x → payload ≡ code x → Gives (Ok d) (Ok x)) → judged s None d ≢ Yes → IsNoEvent s payload
-refused s payload d only never e next =
-    let same = event_is payload e d only next.codable next.typed next.written in
-    never (subst (λ (x : Event). judged s None x ≡ Yes) same next.legal.admitted)
+-- Some of the events were applied, and these are left: what they lead to is what all of them lead to, and they are legal where all of them are.
+pub record IsOnTheWay (old now : Recorded) (all left : List Event) : Type 0 where
+  pub legal_all : AreLegalFrom now.state (read_entries left) → AreLegalFrom old.state (read_entries all)
+  pub legal_left : AreLegalFrom old.state (read_entries all) → AreLegalFrom now.state (read_entries left)
+  pub state : state_from now.state (read_entries left) ≡ state_from old.state (read_entries all)
+  pub history : now.history ++ read_entries left ≡ old.history ++ read_entries all
+  pub unheld : now.state.holds ≡ []
+  pub few : length now.state.nodes ≤ most_nodes
+  pub journaled : All (λ e. is_journaled e ≡ true) left
 
--- nor can one that makes the tree too large
-pub crowded : (s : State) (payload : List ℕ) (d : Event) → ((x : Event) → IsCodable x → IsEvent x → payload ≡ code x → Gives (Ok d) (Ok x)) → (HasNumbers s d → ⊥) → IsNoEvent s payload
-crowded s payload d only never e next =
-    let same = event_is payload e d only next.codable next.typed next.written in
-    never (has_numbers s d (subst (λ (x : Event). length (after s None x).nodes ≤ most_nodes) same next.few))
+module _ (old now : Recorded) (all left : List Event) (e : Event) (way : IsOnTheWay old now all (e ∷ left)) where
+  -- the next of them was applied
+  pub one_applied : (new : Recorded) → IsLegal now.state None e → length new.state.nodes ≤ most_nodes → new.state ≡ after now.state None e → new.history ≡ now.history ++ read_entries (e ∷ [])
+      → IsOnTheWay old new all left
+  one_applied new legal few state history = record {
+    legal_all = λ h. way.legal_all (legal, subst (λ (s : State). AreLegalFrom s (read_entries left)) state h);
+    legal_left = λ h. subst (λ (s : State). AreLegalFrom s (read_entries left)) (sym state) (way.legal_left h).1;
+    state = ap (λ (s : State). state_from s (read_entries left)) state ∙ way.state;
+    history = ap (λ (l : List Entry). l ++ read_entries left) history ∙ append_assoc now.history (read_entries (e ∷ [])) (read_entries left) ∙ way.history;
+    unheld = ap (λ (s : State). s.holds) state ∙ nobody_holds now.state e way.unheld legal.stands.1;
+    few = few;
+    journaled = All-tail (λ e. is_journaled e ≡ true) e left way.journaled;
+  }
+
+  -- where the next of them may not come, not all of them may
+  pub none_further : (IsLegal now.state None e → length (after now.state None e).nodes ≤ most_nodes → ⊥) → AreLegalFrom old.state (read_entries all) → length (state_from old.state (read_entries all)).nodes ≤ most_nodes → ⊥
+  none_further never legal few =
+      let grown : length (after now.state None e).nodes ≤ length (state_from (after now.state None e) (read_entries left)).nodes = nodes_from (after now.state None e) (read_entries left) in
+      let same : length (state_from (after now.state None e) (read_entries left)).nodes ≡ length (state_from old.state (read_entries all)).nodes = ap (λ (s : State). length s.nodes) way.state in
+      never (way.legal_left legal).0 (omega (arith, grown, same, few))
+
+-- nothing was applied yet
+pub none_applied : (old : Recorded) (all left : List Event) → left ≡ all → old.state.holds ≡ [] → length old.state.nodes ≤ most_nodes → All (λ e. is_journaled e ≡ true) all → IsOnTheWay old old all left
+none_applied old all left same unheld few journaled =
+    subst (IsOnTheWay old old all) (sym same) (record { legal_all = λ h. h; legal_left = λ h. h; state = refl; history = refl; unheld = unheld; few = few; journaled = journaled })

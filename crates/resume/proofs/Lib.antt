@@ -1,5 +1,6 @@
 pub mod Applying
 pub mod Differences
+pub mod Groups
 pub mod KeptHistories
 pub mod Models
 pub mod OneRefusal

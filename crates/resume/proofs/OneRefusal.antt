@@ -1,31 +1,32 @@
 -- What is refused is refused for one reason.
-use Rattle.std.specs.Prelude.{◌≡◌, ◌⊎◌, ℕ, zero, suc, ◌<◌, true, List, [], ◌∷◌, take, slice_get, slice_index, slice_index_or, refl}
+use Rattle.std.specs.Prelude.{◌≡◌, ◌⊎◌, ℕ, zero, suc, ◌<◌, true, List, [], ◌∷◌, take, slice_get, slice_index, slice_index_or, Some, refl}
 use Rattle.std.proofs.Common.{arith, sym, ◌∙◌, ap, subst, inl, inr, length-take}
 use Rattle.std.proofs.lemmas.Bool.{cases_order}
 use Rattle.std.proofs.lemmas.List.{take-take}
+use Rattle.std.proofs.lemmas.Option.{same_Some}
 use Rattle.problem.specs.Problem.{Problem}
-use Rattle.event_codec.specs.Laws.{CodesTellApart, RecordsTellApart}
+use Rattle.event_codec.specs.Laws.{RecordsTellApart}
 use Rattle.event_core.specs.declared.entry.Entry.{Entry}
 use Rattle.event_core.specs.Histories.{state_of}
 use Rattle.node_journal.specs.Frames.{places_from}
 use Rattle.node_journal.specs.Records.{Records, Intact, Foreign, BrokenAt, records}
-use Rattle.node_pool.specs.Payloads.{model_in}
+use Rattle.node_pool.specs.Payloads.{entries_in, model_in}
 use Rattle.resume.specs.declared.fault.ResumeFault.{ResumeFault}
 use Rattle.resume.specs.declared.fault.ResumeFault.TheVariants as fault
 use Rattle.resume.specs.Models.{IsModelOf, IsOtherModel, DiffersFirstAt}
-use Rattle.resume.specs.Events.{IsNoEvent}
+use Rattle.resume.specs.Events.{IsNoGroup}
 use Rattle.resume.specs.Journals.{StandsFor, IsDamagedAt, IsDamagedModel, IsDamagedEvent}
 use Rattle.resume.specs.Refusals.{is_refusal, IsDamagedFor, Refuses, RefusesPayloads, RefusesPayloadsFor}
 use Rattle.resume.specs.Laws.{StandsForOne, OneRefusal}
 use Rattle.resume.specs.Lemmas.OneModel.{one_model}
-use Rattle.resume.proofs.Unrefused.{same_payloads, same_events, no_other, none_inside, damaged_at}
+use Rattle.resume.proofs.Unrefused.{same_payloads, no_other, none_inside, damaged_at}
 
 -- ---- one search
-pub stands_for_one : CodesTellApart → RecordsTellApart → StandsForOne
-stands_for_one law records_law ps p q es fs a b =
+pub stands_for_one : RecordsTellApart → StandsForOne
+stands_for_one law ps p q es fs a b =
     let whole : model_in ps ∷ a.rest ≡ model_in ps ∷ b.rest = sym a.parts ∙ b.parts in
-    let rest : a.rest ≡ b.rest = cc in
-    (one_model records_law (model_in ps) p q a.model b.model, same_events law es fs a.read.stored b.read.stored (sym a.read.written ∙ rest ∙ b.read.written))
+    let rest : b.rest ≡ a.rest = cc in
+    (one_model law (model_in ps) p q a.model b.model, same_Some es fs (sym a.read.written ∙ subst (λ (l : List (List ℕ)). entries_in l ≡ Some fs) rest b.read.written))
 
 -- ---- the first of a list
 index_take : (xs : List (List ℕ)) (m n : ℕ) → n < m → slice_index_or (take m xs) n [] ≡ slice_index_or xs n []
@@ -61,23 +62,23 @@ first_of_front (x ∷ xs) (suc n) p es stands = refl
 model_or_event : (ps : List (List ℕ)) (at at2 : ℕ) → IsDamagedModel ps at → IsDamagedEvent ps at2 → ⊥
 model_or_event ps at at2 m e = m.none e.problem (subst (λ (l : List ℕ). IsModelOf l e.problem) (first_of_front ps e.number e.problem e.events e.before) e.before.model)
 
-no_earlier_event : CodesTellApart → RecordsTellApart → (ps : List (List ℕ)) (at at2 : ℕ) (e : IsDamagedEvent ps at) (f : IsDamagedEvent ps at2) → e.number < f.number → ⊥
-no_earlier_event law records_law ps at at2 e f lt =
-    damaged_at law records_law f.problem e.problem (take f.number ps) f.events e.events e.number f.before (omega (arith, lt, f.inside, length-take f.number ps))
+no_earlier_event : RecordsTellApart → (ps : List (List ℕ)) (at at2 : ℕ) (e : IsDamagedEvent ps at) (f : IsDamagedEvent ps at2) → e.number < f.number → ⊥
+no_earlier_event law ps at at2 e f lt =
+    damaged_at law f.problem e.problem (take f.number ps) f.events e.events e.number f.before (omega (arith, lt, f.inside, length-take f.number ps))
     (subst (λ (l : List (List ℕ)). StandsFor e.problem l e.events) (sym (take-take e.number f.number ps (omega (arith, lt)))) e.before)
-    (subst (λ (l : List ℕ). IsNoEvent (state_of e.problem e.events) l) (sym (index_take ps f.number e.number lt)) e.none)
+    (subst (λ (l : List ℕ). IsNoGroup (state_of e.problem e.events) l) (sym (index_take ps f.number e.number lt)) e.none)
 
-one_event : CodesTellApart → RecordsTellApart → (ps : List (List ℕ)) (at at2 : ℕ) → IsDamagedEvent ps at → IsDamagedEvent ps at2 → at ≡ at2
-one_event law records_law ps at at2 e f = elim (cases_order e.number f.number) [
+one_event : RecordsTellApart → (ps : List (List ℕ)) (at at2 : ℕ) → IsDamagedEvent ps at → IsDamagedEvent ps at2 → at ≡ at2
+one_event law ps at at2 e f = elim (cases_order e.number f.number) [
   | inl same ↦ e.place ∙ ap (λ (n : ℕ). slice_index (places_from 8 ps) n) same ∙ sym f.place
-  | inr other ↦ elim other [ inl lt ↦ absurd (no_earlier_event law records_law ps at at2 e f lt) | inr gt ↦ absurd (no_earlier_event law records_law ps at2 at f e gt) ]
+  | inr other ↦ elim other [ inl lt ↦ absurd (no_earlier_event law ps at at2 e f lt) | inr gt ↦ absurd (no_earlier_event law ps at2 at f e gt) ]
 ]
 
-one_damage : CodesTellApart → RecordsTellApart → (ps : List (List ℕ)) (at at2 : ℕ) → IsDamagedAt ps at → IsDamagedAt ps at2 → at ≡ at2
-one_damage law records_law ps at at2 (inl a) (inl b) = a.place ∙ sym b.place
-one_damage law records_law ps at at2 (inl a) (inr b) = absurd (model_or_event ps at at2 a b)
-one_damage law records_law ps at at2 (inr a) (inl b) = absurd (model_or_event ps at2 at b a)
-one_damage law records_law ps at at2 (inr a) (inr b) = one_event law records_law ps at at2 a b
+one_damage : RecordsTellApart → (ps : List (List ℕ)) (at at2 : ℕ) → IsDamagedAt ps at → IsDamagedAt ps at2 → at ≡ at2
+one_damage law ps at at2 (inl a) (inl b) = a.place ∙ sym b.place
+one_damage law ps at at2 (inl a) (inr b) = absurd (model_or_event ps at at2 a b)
+one_damage law ps at at2 (inr a) (inl b) = absurd (model_or_event ps at2 at b a)
+one_damage law ps at at2 (inr a) (inr b) = one_event law ps at at2 a b
 
 damaged_for : (model : List ℕ) (ps : List (List ℕ)) (at : ℕ) → IsDamagedFor model ps at → IsDamagedAt ps at
 damaged_for model ps at (inl m) = inl m
@@ -99,7 +100,7 @@ damage_places P one r at at2 (inl a) (inr b) = let same : BrokenAt at ≡ Intact
 damage_places P one r at at2 (inr a) (inl b) = let same : BrokenAt at2 ≡ Intact a.0 = sym b ∙ a.1 in absurd cc
 damage_places P one r at at2 (inr a) (inr b) = one a.0 at at2 a.2 (subst (λ (l : List (List ℕ)). P l at2) (same_payloads a.0 b.0 r a.1 b.1) b.2)
 
-module _ (law : CodesTellApart) (records_law : RecordsTellApart) where
+module _ (law : RecordsTellApart) where
   one_of_any : (r : Records) (f g : ResumeFault) → is_refusal f ≡ true → is_refusal g ≡ true → Refuses RefusesPayloads f r → Refuses RefusesPayloads g r → f ≡ g
   one_of_any r fault.Disk g is is2 h k = absurd cc
   one_of_any r fault.Memory g is is2 h k = absurd cc
@@ -119,10 +120,10 @@ module _ (law : CodesTellApart) (records_law : RecordsTellApart) where
   one_of_any r fault.NoModel (fault.Damaged at) is is2 h (inr k) = absurd (none_damaged k.0 at (same_payloads h.0 k.0 r h.1 k.1 ∙ h.2) k.2)
   one_of_any r (fault.Damaged at) fault.NoModel is is2 (inl h) k = let same : BrokenAt at ≡ Intact k.0 = sym h ∙ k.1 in absurd cc
   one_of_any r (fault.Damaged at) fault.NoModel is is2 (inr h) k = absurd (none_damaged h.0 at (same_payloads k.0 h.0 r k.1 h.1 ∙ k.2) h.2)
-  one_of_any r (fault.Damaged at) (fault.Damaged at2) is is2 h k = ap fault.Damaged (damage_places IsDamagedAt (one_damage law records_law) r at at2 h k)
+  one_of_any r (fault.Damaged at) (fault.Damaged at2) is is2 h k = ap fault.Damaged (damage_places IsDamagedAt (one_damage law) r at at2 h k)
 
   one_place : (model : List ℕ) (ps : List (List ℕ)) (at at2 : ℕ) → IsDamagedFor model ps at → IsDamagedFor model ps at2 → at ≡ at2
-  one_place model ps at at2 a b = one_damage law records_law ps at at2 (damaged_for model ps at a) (damaged_for model ps at2 b)
+  one_place model ps at at2 a b = one_damage law ps at at2 (damaged_for model ps at a) (damaged_for model ps at2 b)
 
   one_of_own : (model : List ℕ) (r : Records) (f g : ResumeFault) → is_refusal f ≡ true → is_refusal g ≡ true → Refuses (RefusesPayloadsFor model) f r → Refuses (RefusesPayloadsFor model) g r → f ≡ g
   one_of_own model r fault.Disk g is is2 h k = absurd cc

@@ -1,41 +1,56 @@
 -- Journals that are opened.
-use Rattle.std.specs.Prelude.{◌≡◌, ℕ, ◌+◌, List, [], ◌∷◌, length, Result, Ok, Err, IfOk, IfErr, refl}
-use Rattle.std.specs.List.{AllByRecursion}
-use Rattle.std.proofs.Common.{arith, sym, ◌∙◌, ap, subst, inl, inr}
-use Rattle.std.proofs.lemmas.List.{length-map}
+use Rattle.std.specs.Prelude.{◌≡◌, ℕ, Bool, true, false, cond, List, [], ◌∷◌, Some, None, Result, Ok, Err, IfOk, IfErr, refl}
+use Rattle.std.proofs.Common.{sym, ◌∙◌, ap, subst, inl, inr}
 use Rattle.outside.specs.Images.{LeavesOnly, AtRest, NoMomentPasses}
 use Rattle.outside.specs.Lemmas.Passing.{weaker, started, joined, stays_on}
 use Rattle.outside.specs.declared.moment.Moment.{Moment}
 use Rattle.problem.specs.Problem.{Problem}
-use Rattle.event_codec.specs.Codes.{code}
+use Rattle.node_events.specs.declared.event.Event.{Event}
 use Rattle.event_core.specs.declared.entry.Entry.{Entry}
-use Rattle.event_core.specs.Histories.{journaled}
+use Rattle.event_core.specs.States.{State, first_state}
+use Rattle.event_core.specs.After.{after}
+use Rattle.event_core.specs.Histories.{is_journaled, journaled, AreLegal, AreLegalFrom}
+use Rattle.event_core.specs.Rooms.{Recorded}
 use Rattle.node_journal.specs.Records.{Records, Intact, records}
 use Rattle.node_journal.specs.Appends.{IsWithOrWithout}
-use Rattle.node_pool.specs.Payloads.{codes, model_in, IsJournalOf}
-use Rattle.node_pool.specs.Stored.{IsStored}
-use Rattle.resume.specs.Journals.{StandsFor}
+use Rattle.node_pool.specs.Payloads.{journal_entries, IsJournalOf}
+use Rattle.resume.specs.Models.{IsModelOf}
+use Rattle.resume.specs.Events.{read_entries, IsReadAs}
+use Rattle.resume.specs.Journals.{StandsFor, IsReadWith}
 use Rattle.resume.specs.Crashes.{IsAsBefore, IsAsBeforeOrBegun}
-use Rattle.resume.proofs.Applying.{codable_stays}
+use Rattle.resume.specs.Lemmas.Standing.{stands_alone}
+use Rattle.resume.proofs.Groups.{all_read}
 
--- events that were read are all journaled
-pub all_journaled : (es : List Entry) → AllByRecursion IsStored es → journaled es ≡ es
-all_journaled [] h = refl
-all_journaled (e ∷ es) h = rw (codable_stays e.event h.0.codable) (ap (λ (w : _). record { worker = w; event = e.event } ∷ journaled es) (sym h.0.worker) ∙ ap (λ (l : List Entry). e ∷ l) (all_journaled es h.1))
+-- legal events of no worker are all journaled
+journaled_read : (s : State) (es : List Event) → AreLegalFrom s (read_entries es) → journaled (read_entries es) ≡ read_entries es
+journaled_read s [] legal = refl
+journaled_read s (e ∷ es) legal = step (is_journaled e) legal.0.stands.1 (journaled_read (after s None e) es legal.1)
+  where
+    first : Entry
+    first = record { worker = None; event = e }
 
--- what the payloads stand for is written in them
-pub written : (p : Problem) (ps : List (List ℕ)) (es : List Entry) → StandsFor p ps es → ps ≡ model_in ps ∷ codes es
-written p ps es stands = stands.parts ∙ ap (λ (l : List (List ℕ)). model_in ps ∷ l) stands.read.written
+    step : (b : Bool) → b ≡ true → journaled (read_entries es) ≡ read_entries es → cond b (first ∷ journaled (read_entries es)) (journaled (read_entries es)) ≡ first ∷ read_entries es
+    step true is rest = ap (λ (l : List Entry). first ∷ l) rest
+    step false is rest = cc
 
-pub counted : (p : Problem) (ps : List (List ℕ)) (es : List Entry) → StandsFor p ps es → length ps ≡ length (journaled es) + 1
-counted p ps es stands =
-    let a : length ps ≡ length (model_in ps ∷ codes es) = ap length (written p ps es stands) in
-    let b : length (codes es) ≡ length es = length-map es (λ (e : Entry). code e.event) in
-    let d : length (journaled es) ≡ length es = ap length (all_journaled es stands.read.stored) in
-    omega (arith, a, b, d)
+-- so are the events that payloads spell
+journaled_all : (p : Problem) (ps : List (List ℕ)) (es : List Entry) → IsReadAs p ps es → journaled es ≡ es
+journaled_all p ps es read =
+    let r = all_read ps es read.written in
+    let legal : AreLegal p (read_entries r.events) = subst (λ (l : List Entry). AreLegal p l) r.same read.legal in
+    ap journaled r.same ∙ journaled_read (first_state p) r.events legal ∙ sym r.same
 
+-- what stands for a problem and events is the journal of these events
 pub is_journal : (p : Problem) (ps : List (List ℕ)) (es : List Entry) → StandsFor p ps es → IsJournalOf ps es
-is_journal p ps es stands = written p ps es stands ∙ ap (λ (l : List Entry). model_in ps ∷ codes l) (sym (all_journaled es stands.read.stored))
+is_journal p ps es stands = ap journal_entries stands.parts ∙ stands.read.written ∙ ap (λ (l : List Entry). Some l) (sym (journaled_all p stands.rest es stands.read))
+
+-- a search that was begun with the record of a model
+pub begun_with : (p : Problem) (model : List ℕ) (c : Recorded) → IsModelOf model p → c.state ≡ first_state p → c.history ≡ [] → IsReadWith model c
+begun_with p model c is first empty = (
+  model ∷ [],
+  refl,
+  subst (λ (es : List Entry). StandsFor c.state.problem (model ∷ []) es) (sym empty) (subst (λ (s : State). StandsFor s.problem (model ∷ []) []) (sym first) (stands_alone p model is)),
+)
 
 -- Nothing was written yet.
 pub untouched : (past past' : List Moment) (now now' : Moment) (P : List ℕ → Type 0) → AtRest now → P now.seen → NoMomentPasses past now past' now' → LeavesOnly past now past' now' P

@@ -8,9 +8,9 @@ use Rattle.node_journal.specs.Frames.{places_from}
 use Rattle.node_journal.specs.Records.{Intact, records}
 use Rattle.node_pool.specs.Payloads.{model_in}
 use Rattle.resume.specs.Models.{IsModelOf, IsNoModel}
-use Rattle.resume.specs.Events.{IsReadAs, IsNoEvent}
+use Rattle.resume.specs.Events.{IsReadAs, IsNoGroup}
 
--- the payloads are the record of a model of the problem, and behind it the codes of these events
+-- the payloads are the record of a model of the problem, and behind it those that spell these events
 pub record StandsFor (p : Problem) (ps : List (List ℕ)) (es : List Entry) : Type 0 where
   pub rest : List (List ℕ)
   pub parts : ps ≡ model_in ps ∷ rest
@@ -20,6 +20,10 @@ pub record StandsFor (p : Problem) (ps : List (List ℕ)) (es : List Entry) : Ty
 -- some payloads stand for the problem and the history of this state
 abbrev pub IsReadFrom : Recorded → Type 0
 IsReadFrom c = (ps : List (List ℕ)) × StandsFor c.state.problem ps c.history
+
+-- the same, with this record of the model
+abbrev pub IsReadWith : List ℕ → Recorded → Type 0
+IsReadWith model c = (ps : List (List ℕ)) × (model_in ps ≡ model) × StandsFor c.state.problem ps c.history
 
 -- the bytes stand for the problem and events of its search
 abbrev pub StandsOnDisk : Problem → List ℕ → Type 0
@@ -43,14 +47,14 @@ pub record IsDamagedModel (ps : List (List ℕ)) (at : ℕ) : Type 0 where
   pub none : IsNoModel (model_in ps)
   pub place : at ≡ 8
 
--- The payloads up to one stand for a problem and its events, and that one has no event that may come next. Its gate stands at this place.
+-- The payloads up to one stand for a problem and its events, and that one spells no events that may come next. Its gate stands at this place.
 pub record IsDamagedEvent (ps : List (List ℕ)) (at : ℕ) : Type 0 where
   pub number : ℕ
   pub inside : number < length ps
   pub problem : Problem
   pub events : List Entry
   pub before : StandsFor problem (take number ps) events
-  pub none : IsNoEvent (state_of problem events) (slice_index_or ps number [])
+  pub none : IsNoGroup (state_of problem events) (slice_index_or ps number [])
   pub place : at ≡ slice_index (places_from 8 ps) number
 
 -- the journal is damaged by the payload behind the gate at this place

@@ -2,13 +2,12 @@
 
 ghost use Rattle.resume.specs.Laws.{OneRefusal, StandingIsNotRefused, StandsForOne};
 
-use event_codec::laws::{codes_tell_apart, records_tell_apart};
+use event_codec::laws::records_tell_apart;
 
 /// The payloads of a journal stand for one problem and one list of events at most.
 pub fn a_journal_stands_for_one_search()
     ensures { StandsForOne }
 {
-    codes_tell_apart();
     records_tell_apart();
 }
 
@@ -16,7 +15,6 @@ pub fn a_journal_stands_for_one_search()
 pub fn what_stands_is_not_refused()
     ensures { StandingIsNotRefused }
 {
-    codes_tell_apart();
     records_tell_apart();
 }
 
@@ -25,6 +23,5 @@ pub fn what_stands_is_not_refused()
 pub fn a_refusal_has_one_cause()
     ensures { OneRefusal }
 {
-    codes_tell_apart();
     records_tell_apart();
 }

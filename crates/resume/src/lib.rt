@@ -1,5 +1,5 @@
-//! A journal on a disk becomes a pool again: its first payload is the record of the model, and the payloads behind it are the events of the
-//! search. A disk whose content is no such journal is refused before anything is written on it.
+//! A journal on a disk becomes a pool again: its first payload is the record of the model, and each payload behind it spells events of the
+//! search, one or more. A disk whose content is no such journal is refused before anything is written on it.
 #![tactic(auto)]
 
 mod difference;

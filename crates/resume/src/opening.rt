@@ -1,19 +1,16 @@
 // A journal is opened: it is read and checked, then recovered, and then a pool.
 ghost use Rattle.std.specs.Prelude.{◌≡◌, ◌⊎◌, ◌+◌, ◌≤◌, ◌<◌, ◌^◌, ℕ, List, [], ◌∷◌, ◌++◌, true, false, length, IfOk, IfErr, None};
-ghost use Rattle.std.specs.List.{AllByRecursion};
 ghost use Rattle.outside.specs.Faults.{Counts};
 ghost use Rattle.outside.specs.Images.{AtRest, LeavesOnly, NoMomentPasses};
 ghost use Rattle.event_codec.specs.Models.{model_code};
 ghost use Rattle.event_core.specs.States.{first_state};
-ghost use Rattle.event_core.specs.Histories.{journaled};
 ghost use Rattle.node_journal.specs.History.{Keeps, KeepsHistory};
 ghost use Rattle.node_journal.specs.Records.{records, Intact};
 ghost use Rattle.node_journal.specs.Views.{payloads_of, IsScanOf};
 ghost use Rattle.node_journal.specs.Whole.{payloads_in};
-ghost use Rattle.node_pool.specs.Payloads.{codes, IsJournalOf};
-ghost use Rattle.node_pool.specs.Stored.{IsStored};
+ghost use Rattle.node_pool.specs.Payloads.{model_in, IsJournalOf};
 ghost use Rattle.resume.specs.Models.{IsTextOf};
-ghost use Rattle.resume.specs.Journals.{StandsFor, StandsForSome, IsFreshOrOf, IsReadFrom, IsReplayed};
+ghost use Rattle.resume.specs.Journals.{StandsFor, StandsForSome, IsFreshOrOf, IsReadFrom, IsReadWith, IsReplayed};
 ghost use Rattle.resume.specs.Refusals.{Refuses, RefusesPayloads, RefusesPayloadsFor, is_disk, is_refusal};
 ghost use Rattle.resume.specs.Crashes.{IsAsBefore, IsAsBeforeOrBegun, LeavesHistory};
 ghost use Rattle.node_tree.specs.Limits.{most_nodes};
@@ -39,8 +36,6 @@ fn make_pool<D: Disk>(
     requires few { budget ≤ most_nodes }
     requires unheld { state.state.holds ≡ [] }
     requires sound { journal.fault ≡ None }
-    requires counted { journal.count ≡ length (journaled state.history) + 1 }
-    requires stored { AllByRecursion IsStored (journaled state.history) }
     requires stands { D.tells ≡ true → IsJournalOf (payloads_in (D.now journal.disk)) state.history }
     ensures state { IfOk result (λ p. p.state ≡ state) }
     ensures journal { IfOk result (λ p. p.journal ≡ journal) }
@@ -99,7 +94,6 @@ fn begin_journal<D: Disk>(
     requires none { payloads_of scanned ≡ [] }
     requires small { length model.now < 2 ^ 32 }
     ensures journal { D.tells ≡ true → IfOk result (λ j. payloads_in (D.now j.disk) ≡ model.now ∷ []) }
-    ensures count { IfOk result (λ j. j.count ≡ 1) }
     ensures sound { IfOk result (λ j. j.fault ≡ None) }
     ensures rests { D.tells ≡ true → IfOk result (λ j. AtRest (D.now j.disk)) }
     ensures before { D.tells ≡ true → records (D.now disk).seen ≡ Intact [] }
@@ -233,11 +227,11 @@ pub fn open_pool<B: BuildHasher + Drop, D: Disk>(
     // The journal held these payloads and still does, or it held none.
     ensures held { D.tells ≡ true → IfOk result (λ p. (records (D.now disk).seen ≡ Intact (payloads_in (D.now p.journal.disk))) ⊎ ((records (D.now disk).seen ≡ Intact []) × (p.state.history ≡ []))) }
     ensures stands { D.tells ≡ true → IfOk result (λ p. StandsFor problem (payloads_in (D.now p.journal.disk)) p.state.history) }
-    ensures journal { D.tells ≡ true → IfOk result (λ p. payloads_in (D.now p.journal.disk) ≡ model_code text.now upper ∷ codes p.state.history) }
+    ensures model { D.tells ≡ true → IfOk result (λ p. model_in (payloads_in (D.now p.journal.disk)) ≡ model_code text.now upper) }
     ensures problem { IfOk result (λ p. p.state.state.problem ≡ problem) }
     // Also on a disk that tells nothing: what was read stands for the problem and the events.
     ensures read { IfOk result (λ p. IsReadFrom p.state) }
-    ensures of_model { IfOk result (λ p. StandsFor problem (model_code text.now upper ∷ codes p.state.history) p.state.history) }
+    ensures of_model { IfOk result (λ p. IsReadWith (model_code text.now upper) p.state) }
     ensures unheld { IfOk result (λ p. p.state.state.holds ≡ []) }
     ensures budget { IfOk result (λ p. p.budget ≡ budget) }
     ensures halt { IfOk result (λ p. p.halt ≡ None) }

@@ -1,10 +1,14 @@
 // The payloads of a journal are applied as events.
-ghost use Rattle.std.specs.Prelude.{◌≡◌, ◌+◌, ◌≤◌, ◌<◌, [], IfOk, IfErr, OnOk, IsErrOf, IsTrue, ◌↔◌, length};
+ghost use Rattle.std.specs.Prelude.{◌≡◌, ◌+◌, ◌≤◌, ◌<◌, ◌++◌, ◌∷◌, [], true, None, All, IfOk, IfErr, OnOk, IsErrOf, IsTrue, ◌↔◌, length};
 ghost use Rattle.dual_simplex.specs.Prepared.{IsKept};
+ghost use Rattle.event_core.specs.declared.admit.Admit.TheVariants.{Yes};
+ghost use Rattle.event_core.specs.Judging.{judged};
+ghost use Rattle.event_core.specs.After.{after};
+ghost use Rattle.event_core.specs.Histories.{is_journaled, state_from, IsLegal, AreLegalFrom};
 ghost use Rattle.event_core.specs.Rooms.{HasNumbers};
 ghost use Rattle.node_journal.specs.Views.{payloads_of};
 ghost use Rattle.resume.specs.Models.{IsModelOf};
-ghost use Rattle.resume.specs.Events.{IsNoEvent, IsApplied};
+ghost use Rattle.resume.specs.Events.{read_entries, IsNoGroup, IsApplied};
 ghost use Rattle.node_pool.specs.Payloads.{model_in};
 ghost use Rattle.resume.specs.Journals.{IsReplayed};
 ghost use Rattle.resume.specs.Refusals.{RefusesEvents};
@@ -13,13 +17,13 @@ ghost use Rattle.node_tree.specs.Limits.{most_nodes};
 use crate::ResumeFault;
 use crate::fault::PayloadFault;
 use dual_simplex::KeptRelaxation;
-use event_codec::{CodecError, decode};
+use event_codec::{CodecError, decode_group};
 use event_core::{Admit, State};
 use node_events::Event;
 use node_journal::Scanned;
 use node_tree::MOST_NODES;
 use problem::Problem;
-use std::alloc::Global;
+use std::alloc::{AllocError, Global};
 
 /// Whether the tree has few enough nodes for the event.
 fn has_numbers(state: &State, event: &Event) -> bool
@@ -31,8 +35,76 @@ fn has_numbers(state: &State, event: &Event) -> bool
     }
 }
 
-/// Applies the event of a payload to a state in which nobody holds a node. `Damaged`: the payload is no event, or one that isn't legal there, or
-/// one by which the tree has too many nodes. The relaxation by which a step is judged is kept for the next one.
+/// Whether the event may come next without a worker: it is admitted, and the tree has few enough nodes for it.
+fn may_come(
+    alloc: Global,
+    state: &State,
+    kept: &mut KeptRelaxation,
+    event: &Event,
+) -> Result<bool, AllocError>
+    requires { IsKept state.now.state.problem state.now.state.cuts kept.old }
+    ensures may { IfOk result (λ b. IsTrue b ↔ ((judged state.now.state None event.now ≡ Yes) × HasNumbers state.now.state event.now)) }
+    ensures kept { IsKept state.now.state.problem state.now.state.cuts kept.new }
+{
+    let admit = state.admits_with(alloc, None, event, kept)?;
+    Ok(admit == Admit::Yes && has_numbers(state, event))
+}
+
+/// Applies an event to a state in which nobody holds a node. `Damaged`: it isn't legal there, or the tree has too many nodes by it. The relaxation by which
+/// a step is judged is kept for the next one.
+fn apply_event(
+    alloc: Global,
+    state: &mut State,
+    kept: &mut KeptRelaxation,
+    event: Event,
+) -> Result<(), PayloadFault>
+    requires kept { IsKept state.old.state.problem state.old.state.cuts kept.old }
+    requires unheld { state.old.state.holds ≡ [] }
+    requires few { length state.old.state.nodes ≤ most_nodes }
+    requires journaled { is_journaled event ≡ true }
+    ensures legal { OnOk result (IsLegal state.old.state None event) }
+    ensures few { OnOk result (length state.new.state.nodes ≤ most_nodes) }
+    ensures state { OnOk result (state.new.state ≡ after state.old.state None event) }
+    ensures history { OnOk result (state.new.history ≡ state.old.history ++ read_entries (event ∷ [])) }
+    ensures kept { OnOk result (IsKept state.new.state.problem state.new.state.cuts kept.new) }
+    ensures damaged { IsErrOf result PayloadFault.Damaged → IsLegal state.old.state None event → length (after state.old.state None event).nodes ≤ most_nodes → ⊥ }
+{
+    state.approach(&event);
+    if !may_come(alloc, state, kept, &event)? {
+        return Err(PayloadFault::Damaged);
+    }
+    let made = state.reserve(alloc, &event)?;
+    state.apply(None, event, made);
+    Ok(())
+}
+
+/// Applies events one after another, from a state in which nobody holds a node. `Damaged`: one of them isn't legal after those before it, or the tree has
+/// too many nodes by it. The state is then of no more use.
+fn apply_events(
+    alloc: Global,
+    state: &mut State,
+    kept: &mut KeptRelaxation,
+    events: Vec<Event>,
+) -> Result<(), PayloadFault>
+    requires kept { IsKept state.old.state.problem state.old.state.cuts kept.old }
+    requires unheld { state.old.state.holds ≡ [] }
+    requires few { length state.old.state.nodes ≤ most_nodes }
+    requires journaled { All (λ e. is_journaled e ≡ true) events.items }
+    ensures legal { OnOk result (AreLegalFrom state.old.state (read_entries events.items)) }
+    ensures few { OnOk result (length state.new.state.nodes ≤ most_nodes) }
+    ensures state { OnOk result (state.new.state ≡ state_from state.old.state (read_entries events.items)) }
+    ensures history { OnOk result (state.new.history ≡ state.old.history ++ read_entries events.items) }
+    ensures kept { OnOk result (IsKept state.new.state.problem state.new.state.cuts kept.new) }
+    ensures damaged { IsErrOf result PayloadFault.Damaged → AreLegalFrom state.old.state (read_entries events.items) → length (state_from state.old.state (read_entries events.items)).nodes ≤ most_nodes → ⊥ }
+{
+    for event in events {
+        apply_event(alloc, state, kept, event)?;
+    }
+    Ok(())
+}
+
+/// Applies the events of a payload to a state in which nobody holds a node. `Damaged`: the payload spells no events, or not all of them may come next.
+/// The state is then of no more use.
 fn apply_payload(
     alloc: Global,
     state: &mut State,
@@ -44,24 +116,17 @@ fn apply_payload(
     requires few { length state.old.state.nodes ≤ most_nodes }
     ensures applied { OnOk result (IsApplied state.old payload.now state.new) }
     ensures kept { OnOk result (IsKept state.new.state.problem state.new.state.cuts kept.new) }
-    ensures damaged { IsErrOf result PayloadFault.Damaged → IsNoEvent state.old.state payload.now }
+    ensures damaged { IsErrOf result PayloadFault.Damaged → IsNoGroup state.old.state payload.now }
 {
-    let event = match decode(alloc, payload) {
-        Ok(event) => event,
-        Err(CodecError::Fault(_)) => return Err(PayloadFault::Damaged),
-        Err(CodecError::Memory) => return Err(PayloadFault::Memory),
-    };
-    state.approach(&event);
-    if state.admits_with(alloc, None, &event, kept)? != Admit::Yes || !has_numbers(state, &event) {
-        return Err(PayloadFault::Damaged);
+    match decode_group(alloc, payload) {
+        Ok(events) => apply_events(alloc, state, kept, events),
+        Err(CodecError::Fault(_)) => Err(PayloadFault::Damaged),
+        Err(CodecError::Memory) => Err(PayloadFault::Memory),
     }
-    state.reserve(alloc, &event)?;
-    state.apply(None, event);
-    Ok(())
 }
 
 /// The state to which the payloads behind the first one lead, which is the record of a model of this problem. `Damaged` has the place of the gate
-/// of the first that has no event which may come next.
+/// of the first that spells no events which may come next.
 pub fn replay(alloc: Global, scanned: &Scanned, problem: Problem) -> Result<State, ResumeFault>
     requires some { 0 < length (payloads_of scanned.now) }
     requires model { IsModelOf (model_in (payloads_of scanned.now)) problem }

@@ -50,7 +50,7 @@ pub(crate) fn show_certificate<R: Print>(rt: &R, title: &str, ran: &Answered) ->
 }
 
 /// Prints bytes in hexadecimal and ends the line.
-fn show_hexadecimal<R: Print>(rt: &R, bytes: &[u8]) -> io::Result<()> {
+pub(crate) fn show_hexadecimal<R: Print>(rt: &R, bytes: &[u8]) -> io::Result<()> {
     for byte in bytes {
         print!(rt; " {byte:02x}")?;
     }

@@ -8,7 +8,7 @@ use Rattle.outside.specs.declared.moment.Moment.{Moment}
 use Rattle.event_core.specs.declared.entry.Entry.{Entry}
 use Rattle.event_core.specs.Histories.{journaled}
 use Rattle.node_journal.specs.Whole.{payloads_in}
-use Rattle.node_pool.specs.Payloads.{LeavesPrefixes, model_in}
+use Rattle.node_pool.specs.Payloads.{LeavesBeginnings, model_in}
 use Rattle.node_pool.specs.declared.halt.Halt.{Halt}
 use Rattle.resume.specs.declared.fault.ResumeFault.{ResumeFault}
 use Rattle.resume.specs.Journals.{StandsFor}
@@ -35,13 +35,13 @@ module _ {D : Type 0} (tells : Bool) (past : D → List Moment) (now : D → Mom
 
   pub went_on : (tells ≡ true → IsModelOf (model_in (payloads_in (now b))) p → IsKept opened p (disk_change tells past now count b e))
       → (tells ≡ true → IsModelOf (model_in (payloads_in (now b))) p → fails_by_disk o ≡ false → StandsFor p (payloads_in (now e)) (journaled s.history))
-      → (tells ≡ true → (h : Option Halt) × LeavesPrefixes opened (past e) (now e) s.history h)
+      → (tells ≡ true → (h : Option Halt) × LeavesBeginnings opened (past e) (now e) s.history h)
       → (Stays m.faults → IsPerformed q m d cert (Some s) o) × (tells ≡ true → AtRest (now a) → KeepsJournal d (IsOwnProblem q m d))
   went_on kept stands leaves = (
     λ stays. searched q m d cert p s o within about.of es began read solution stays (subst (λ (n : ℕ). Counts n (count e) (fails_by_disk o)) same cause)
         (λ other. about.holds s (λ told. subst (λ (x : Problem). StandsFor x (payloads_in (now e)) (journaled s.history)) (sym within.same) (stands told (first told).stands.model other))
         (λ told. ends told ∙ (first told).of_model))
-        (about.events s (λ told. let l = leaves told in (l.0, subst (λ (n : ℕ). LeavesPrefixes n (past e) (now e) s.history l.0) (first told).next l.1))),
+        (about.events s (λ told. let l = leaves told in (l.0, subst (λ (n : ℕ). LeavesBeginnings n (past e) (now e) s.history l.0) (first told).next l.1))),
     λ told rests. kept_whole tells past now count a b e model p es opened (first told) (kept told (first told).stands.model) (there told) rests (IsOwnProblem q m d) (about.only told) same,
   )
 

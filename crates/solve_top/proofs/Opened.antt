@@ -241,9 +241,6 @@ not_by_disk false x y h calm = refl
 pub record_is : (text items : List ℕ) (u : Option ℤ) (upper : Option ℕ) → text ≡ items → u ≡ option_map pos upper → model_code text u ≡ record_of items upper
 record_is text items u upper a b = ap (λ (t : List ℕ). model_code t u) a ∙ ap (λ (v : Option ℤ). model_code items v) b
 
-pub first_is : (ps rest : List (List ℕ)) (first model : List ℕ) → ps ≡ first ∷ rest → first ≡ model → model_in ps ≡ model
-first_is ps rest first model e same = ap model_in e ∙ same
-
 pub held_events : (model : List ℕ) (p : Problem) (es : List Entry) (b : List ℕ) (ps : List (List ℕ)) → (records b ≡ Intact ps) ⊎ ((records b ≡ Intact []) × (es ≡ [])) → model_in ps ≡ model
     → StandsFor p ps es → IsFreshOrWith model p es b
 held_events model p es b ps (inl held) of_model stands = inr (ps, held, of_model, stands)

@@ -6,7 +6,7 @@ use Rattle.outside.specs.declared.disk.Disk.{Ghosts}
 use Rattle.event_core.specs.States.{open_count}
 use Rattle.event_core.specs.Histories.{journaled, state_of}
 use Rattle.node_journal.specs.Whole.{payloads_in}
-use Rattle.node_pool.specs.Payloads.{LeavesPrefixes, model_in}
+use Rattle.node_pool.specs.Payloads.{LeavesBeginnings, model_in}
 use Rattle.node_pool.specs.declared.halt.Halt.{Halt}
 use Rattle.node_pool.specs.declared.pool.Pool.{Pool}
 use Rattle.core_search.specs.Endings.{IsSpent}
@@ -60,7 +60,7 @@ module _ {D : Type 0} {d : Ghosts D} where
     pub solution : IsSolution q s cert o
     pub cause : Counts (d.count pool.journal.disk) (d.count disk) (fails_by_disk o)
     pub seen : d.tells ≡ true → IsImage (d.now disk) (d.now disk).seen
-    pub leaves : d.tells ≡ true → (h : Option Halt) × LeavesPrefixes pool.journal.opened (d.past disk) (d.now disk) s.history h
+    pub leaves : d.tells ≡ true → (h : Option Halt) × LeavesBeginnings pool.journal.opened (d.past disk) (d.now disk) s.history h
     pub model : d.tells ≡ true → model_in (payloads_in (d.now disk)) ≡ model_in (payloads_in (d.now pool.journal.disk))
     pub kept : d.tells ≡ true → IsModelOf (model_in (payloads_in (d.now pool.journal.disk))) pool.state.state.problem
         → IsKept pool.journal.opened pool.state.state.problem (disk_change d.tells d.past d.now d.count pool.journal.disk disk)

@@ -8,7 +8,7 @@ use Rattle.event_core.specs.Histories.{journaled}
 use Rattle.node_journal.specs.Records.{Intact, records}
 use Rattle.node_journal.specs.Whole.{payloads_in}
 use Rattle.node_journal.specs.History.{EachFrom, ExtendsMoments, IsHistory, IsPrefixOf, Keeps, KeepsHistory}
-use Rattle.node_pool.specs.Payloads.{LeavesPrefixes, model_in}
+use Rattle.node_pool.specs.Payloads.{LeavesBeginnings, model_in}
 use Rattle.node_pool.specs.declared.halt.Halt.{Halt}
 use Rattle.resume.specs.Journals.{StandsFor, StandsForSome, IsFreshOrOf, IsFreshOrStands}
 use Rattle.resume.specs.Refusals.{is_refusal}
@@ -86,12 +86,12 @@ HasNoNewEvent (Resume limits) m d = d.tells ≡ true → AtRest d.now_before →
 HasNoNewEvent Show m d = IsUntouched d
 HasNoNewEvent (Drill seed limits) m d = IsUntouched d
 
--- Once the journal was opened, each crash leaves a prefix of the record and of the events of this history, perhaps with the one in whose call the disk
--- failed.
+-- Once the journal was opened, each crash leaves a beginning of the record and of the events of this history, perhaps with all of those in whose call the
+-- disk failed.
 abbrev pub LeavesEvents : DiskChange → List Entry → Type 0
-LeavesEvents d history = (h : Option Halt) × LeavesPrefixes (length d.past_before + 1) d.past_after d.now_after history h
+LeavesEvents d history = (h : Option Halt) × LeavesBeginnings (length d.past_before + 1) d.past_after d.now_after history h
 
--- The search has all events that the disk may have, but perhaps one, in whose call it failed. A drill doesn't touch it.
+-- The search has all events that the disk may have, but perhaps those in whose call it failed. A drill doesn't touch it.
 abbrev pub HasEventsOf : Request → DiskChange → Search → Type 0
 HasEventsOf (Solve limits upper) d s = d.tells ≡ true → LeavesEvents d s.history
 HasEventsOf (Resume limits) d s = d.tells ≡ true → LeavesEvents d s.history

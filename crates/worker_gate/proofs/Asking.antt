@@ -1,6 +1,5 @@
 -- What calls of a pool make of its list.
-use Rattle.std.specs.Prelude.{◌≡◌, ◌<◌, ℕ, Bool, true, false, not, ◌||◌, List, [], ◌∷◌, length, Option, Some, None, is_some, unwrap_or, option_copied, Ok, Err, refl}
-use Rattle.std.specs.declared.alloc.AllocError.{AllocError}
+use Rattle.std.specs.Prelude.{◌≡◌, ◌<◌, ℕ, Bool, true, false, not, ◌||◌, List, [], ◌∷◌, length, Option, Some, None, is_some, unwrap_or, option_copied, Ok, refl}
 use Rattle.std.proofs.Common.{Bor, sym, ap, ◌∙◌, subst, arith}
 use Rattle.std.proofs.lemmas.Bool.{and_parts}
 use Rattle.std.proofs.lemmas.List.{append-nil}
@@ -30,9 +29,9 @@ use Rattle.worker_gate.specs.Calls.{entry_by, claimed, Claims, Releases, Halts, 
 use Rattle.worker_gate.specs.Kins.{list_of, IsKept}
 use Rattle.worker_gate.specs.Lemmas.Holding.{held_open}
 use Rattle.worker_gate.specs.Lemmas.Staying.{kept_in}
-use Rattle.worker_gate.proofs.Following.{Lasts, Follows, follows_nothing, follows_one}
-use Rattle.worker_gate.proofs.Keeping.{event_kept, list_grows, events_kept, halt_kept, list_halts}
-use Rattle.worker_gate.proofs.Making.{made_nothing, made_event, made_halt}
+use Rattle.worker_gate.proofs.Following.{Lasts, Follows, follows_nothing, follows_all}
+use Rattle.worker_gate.proofs.Keeping.{several_kept, list_grows, events_kept, halt_kept, list_halts}
+use Rattle.worker_gate.proofs.Making.{made_nothing, made_events, made_halt}
 
 -- ---- one event
 neither : (a b : Bool) → not a ≡ true → b ≡ false → not (a || b) ≡ true
@@ -86,9 +85,9 @@ module _ {D : Type 0} {d : Ghosts D} (first a : Pool D d) (count stop cuts worke
 
     claimed_node : (n : ℕ) → Applies a.state (Some w) (event.Claim n) b.state → IsClaim (halt_in list) (state_in list) (claim.Node n) → is_free (state_in list) n ≡ true → IsClaimed b (claim.Node n)
     claimed_node n s answer free =
-        let f = follows_one a b w (event.Claim n) s lasts in
-        let k = event_kept first a b count stop cuts workers kept w (event.Claim n) f halt (claim_legal (state_in list) w n free none) member kept.legal.few_cuts refl in
-        (k, made_event w list (list_of first b stop cuts workers) (Claims w (Ok (claim.Node n)) list) (event.Claim n) (list_grows first a b count stop cuts workers kept (entry_by w (event.Claim n) ∷ []) f halt) k.legal (answer, refl))
+        let f = follows_all a b w (event.Claim n ∷ []) s lasts in
+        let k = several_kept first a b count stop cuts workers kept w (event.Claim n ∷ []) f halt (claim_legal (state_in list) w n free none, tt) member kept.legal.few_cuts (λ split. refl) refl in
+        (k, made_events w list (list_of first b stop cuts workers) (Claims w (Ok (claim.Node n)) list) (event.Claim n ∷ []) (list_grows first a b count stop cuts workers kept (entry_by w (event.Claim n) ∷ []) f halt) k.legal (answer, refl))
 
     free_there : (h : Option Halt) (s : State) (n : ℕ) → IsClaim h s (claim.Node n) → is_free s n ≡ true
     free_there None s n i = i.free
@@ -108,27 +107,18 @@ module _ {D : Type 0} {d : Ghosts D} (first a : Pool D d) (count stop cuts worke
         go claim.Done i applied idle done halted = unclaimed claim.Done (done refl) i refl
         go claim.Halted i applied idle done halted = unclaimed claim.Halted (halted refl) i refl
 
-  -- no claim, for want of memory
-  pub unready : (b : Pool D d) (e : AllocError) → AppliesNothing a.state b.state → Lasts a b → b.halt ≡ a.halt → Makes w list (list_of first b stop cuts workers) (Claims w (Err e) list)
-  unready b e s lasts halt =
-      let f = follows_nothing a b s lasts in
-      made_nothing w list (list_of first b stop cuts workers) (Claims w (Err e) list) (same_list b f halt) (same_kept b f halt).legal refl
-
   -- a release
   module _ (node : ℕ) (here : HoldsNode w node list) (member : w < workers) (b : Pool D d) (s : Applies a.state (Some w) (event.Release node) b.state) (lasts : Lasts a b) (halt : b.halt ≡ a.halt) where
     pub released_kept : IsKept first b count stop cuts workers
     released_kept =
-        event_kept first a b count stop cuts workers kept w (event.Release node) (follows_one a b w (event.Release node) s lasts) halt
-        (release_legal (state_in list) w node (kept_in list kept.legal) here) member kept.legal.few_cuts refl
+        several_kept first a b count stop cuts workers kept w (event.Release node ∷ []) (follows_all a b w (event.Release node ∷ []) s lasts) halt
+        (release_legal (state_in list) w node (kept_in list kept.legal) here, tt) member kept.legal.few_cuts (λ split. refl) refl
 
     pub released : Makes w list (list_of first b stop cuts workers) (Releases w node list)
-    released = made_event w list (list_of first b stop cuts workers) (Releases w node list) (event.Release node)
-        (list_grows first a b count stop cuts workers kept (entry_by w (event.Release node) ∷ []) (follows_one a b w (event.Release node) s lasts) halt) released_kept.legal refl
+    released = made_events w list (list_of first b stop cuts workers) (Releases w node list) (event.Release node ∷ [])
+        (list_grows first a b count stop cuts workers kept (entry_by w (event.Release node) ∷ []) (follows_all a b w (event.Release node ∷ []) s lasts) halt) released_kept.legal refl
 
   -- a halt
-  pub halted_already : (b : Pool D d) (c : Halt) → a.halt ≡ Some c → Makes w list list (Halts list)
-  halted_already b c e = made_nothing w list list (Halts list) refl kept.legal (sym (ap halting (sym kept.same.halt ∙ e)))
-
   module _ (b : Pool D d) (s : AppliesNothing a.state b.state) (lasts : Lasts a b) (unhalted : a.halt ≡ None) (by_memory : b.halt ≡ Some halt.Memory) where
     pub halted_kept : IsKept first b count (length a.state.history) cuts workers
     halted_kept = halt_kept first a b count stop cuts workers kept (follows_nothing a b s lasts) halt.Memory unhalted by_memory

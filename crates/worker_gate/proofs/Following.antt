@@ -10,9 +10,9 @@ use Rattle.node_journal.specs.History.{ExtendsMoments}
 use Rattle.node_journal.specs.declared.journal.Journal.{Journal}
 use Rattle.node_journal.specs.Whole.{payloads_in}
 use Rattle.node_pool.specs.Payloads.{model_in}
-use Rattle.node_pool.specs.Applied.{Applies, AppliesNothing}
+use Rattle.node_pool.specs.Applied.{AppliesAll, AppliesNothing}
 use Rattle.node_pool.specs.declared.pool.Pool.{Pool}
-use Rattle.worker_gate.specs.Calls.{entry_by}
+use Rattle.expand.specs.Laws.{entries_of}
 use Rattle.worker_gate.specs.Kins.{moments_of, model_of}
 
 module _ {D : Type 0} {d : Ghosts D} where
@@ -42,5 +42,5 @@ module _ {D : Type 0} {d : Ghosts D} where
   pub follows_nothing : (a b : Pool D d) → AppliesNothing a.state b.state → Lasts a b → Follows a b []
   follows_nothing a b s l = record { history = s.history ∙ sym (append-nil a.state.history); state = s.state; lasts = l }
 
-  pub follows_one : (a b : Pool D d) (w : ℕ) (e : Event) → Applies a.state (Some w) e b.state → Lasts a b → Follows a b (entry_by w e ∷ [])
-  follows_one a b w e s l = record { history = s.history; state = s.state; lasts = l }
+  pub follows_all : (a b : Pool D d) (w : ℕ) (es : List Event) → AppliesAll a.state (Some w) es b.state → Lasts a b → Follows a b (entries_of w es)
+  follows_all a b w es s l = record { history = s.history; state = s.state; lasts = l }

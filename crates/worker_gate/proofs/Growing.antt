@@ -1,15 +1,19 @@
 -- How lists of entries grow, and stay legal.
 use Rattle.std.specs.Prelude.{◌≡◌, ◌≤◌, ◌+◌, max, ℕ, false, List, [], ◌∷◌, ◌++◌, length, take, drop, All, Option, Some, None, nat_lt, refl, cond, Bool, true, ◌&&◌}
+use Rattle.std.specs.List.{list_any}
 use Rattle.std.proofs.Common.{sym, ap, ◌∙◌, subst, arith}
+use Rattle.std.proofs.lemmas.Bool.{or_parts}
 use Rattle.std.proofs.lemmas.List.{append_assoc, drop-append-le, take-append-le}
 use Rattle.std.proofs.lemmas.List.Elements.{All-append}
 use Rattle.std.proofs.Math.Seq.{drop-length}
+use Rattle.node_tree.specs.declared.branch.Node.{Node}
 use Rattle.node_events.specs.declared.event.Event.{Event}
 use Rattle.event_core.specs.declared.entry.Entry.{Entry}
 use Rattle.event_core.specs.States.{State}
 use Rattle.event_core.specs.After.{after}
-use Rattle.event_core.specs.Histories.{state_from, AreLegalFrom}
-use Rattle.node_pool.specs.Halting.{passes_budget}
+use Rattle.event_core.specs.Histories.{entries_by, state_from, AreLegalFrom}
+use Rattle.node_pool.specs.Free.{SplitsAlone}
+use Rattle.node_pool.specs.Halting.{passes_budget, spends}
 use Rattle.node_pool.specs.declared.halt.Halt.{Halt}
 use Rattle.worker_gate.specs.declared.entry.Opening.{Opening}
 use Rattle.worker_gate.specs.declared.entry.PoolEntry.{PoolEntry}
@@ -21,6 +25,7 @@ use Rattle.worker_gate.specs.Kins.{entries_with}
 use Rattle.worker_gate.specs.Lemmas.Lists.{events-append, opening-append, opened-append, state-append, happened-append}
 use Rattle.event_core.specs.Frames.{is_split}
 use Rattle.event_core.specs.Lemmas.Frames.{keeps_frame}
+use Rattle.event_core.specs.Lemmas.Running.{legal_both}
 
 -- ---- entries
 pub entries-grow : (first stop : ℕ) (h : Option Halt) (history es : List Entry) → first ≤ stop → stop ≤ length history
@@ -41,8 +46,9 @@ entries-halt first stop c history =
     ∙ ap (λ (xs : List Entry). happened (drop first history) ++ Halted c ∷ happened xs) (drop-length history)
 
 -- ---- nodes
-pub nodes_within : (budget : ℕ) (s : State) (o : Option ℕ) (e : Event) → passes_budget budget (length s.nodes) e ≡ false → length (after s o e).nodes ≤ max budget (length s.nodes)
-nodes_within budget s o e h = step (is_split e) (keeps_frame s o e).node_count h
+-- one event
+event_within : (budget : ℕ) (s : State) (o : Option ℕ) (e : Event) → passes_budget budget (length s.nodes) e ≡ false → length (after s o e).nodes ≤ max budget (length s.nodes)
+event_within budget s o e h = step (is_split e) (keeps_frame s o e).node_count h
   where
     few : (m n : ℕ) → m ≡ n + 2 → nat_lt budget (n + 2) ≡ false → m ≤ max budget n
     few m n e f = grind arith
@@ -53,6 +59,29 @@ nodes_within budget s o e h = step (is_split e) (keeps_frame s o e).node_count h
     step : (b : Bool) → length (after s o e).nodes ≡ length s.nodes + cond b 2 0 → (b && nat_lt budget (length s.nodes + 2)) ≡ false → length (after s o e).nodes ≤ max budget (length s.nodes)
     step true n w = few (length (after s o e).nodes) (length s.nodes) n w
     step false n w = same (length (after s o e).nodes) (length s.nodes) n
+
+-- events that split no node
+unsplit : (s : State) (o : Option ℕ) (es : List Event) → list_any is_split es ≡ false → length (state_from s (entries_by o es)).nodes ≡ length s.nodes
+unsplit s o [] h = refl
+unsplit s o (e ∷ es) h =
+    let k = or_parts (is_split e) (list_any is_split es) h in
+    unsplit (after s o e) o es k.1 ∙ ap (λ (ns : List Node). length ns) ((keeps_frame s o e).nodes k.0)
+
+-- a list of events, where a split is alone
+pub nodes_within : (budget : ℕ) (s : State) (o : Option ℕ) (es : List Event) → SplitsAlone es → spends budget (length s.nodes) es ≡ false → length (state_from s (entries_by o es)).nodes ≤ max budget (length s.nodes)
+nodes_within budget s o es alone h = step (list_any is_split es) refl
+  where
+    one : (fs : List Event) → length fs ≡ 1 → spends budget (length s.nodes) fs ≡ false → length (state_from s (entries_by o fs)).nodes ≤ max budget (length s.nodes)
+    one [] size k = absurd (omega (arith, size))
+    one (e ∷ []) size k = event_within budget s o e (or_parts (passes_budget budget (length s.nodes) e) false k).0
+    one (e ∷ f ∷ fs) size k = absurd (omega (arith, size))
+
+    same : (m n : ℕ) → m ≡ n → m ≤ max budget n
+    same m n e = grind arith
+
+    step : (b : Bool) → list_any is_split es ≡ b → length (state_from s (entries_by o es)).nodes ≤ max budget (length s.nodes)
+    step true e = one es (alone e) h
+    step false e = same (length (state_from s (entries_by o es)).nodes) (length s.nodes) (unsplit s o es e)
 
 -- one after the other
 pub joined_most : (limit a b c : ℕ) → b ≤ max limit a → c ≤ max limit b → c ≤ max limit a
@@ -83,7 +112,3 @@ module _ (list own : List PoolEntry) (legal : IsLegalList list) where
     where
       same : opening_in (list ++ own) ≡ opening_in list
       same = opening-append list own legal.opened
-
-      legal_both : (s : State) (es fs : List Entry) → AreLegalFrom s es → AreLegalFrom (state_from s es) fs → AreLegalFrom s (es ++ fs)
-      legal_both s [] fs h k = k
-      legal_both s (e ∷ es) fs h k = (h.0, legal_both (after s e.worker e.event) es fs h.1 k)

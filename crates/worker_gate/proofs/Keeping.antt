@@ -9,11 +9,12 @@ use Rattle.outside.specs.declared.disk.Disk.{Ghosts}
 use Rattle.node_events.specs.declared.event.Event.{Event}
 use Rattle.event_core.specs.declared.entry.Entry.{Entry}
 use Rattle.event_core.specs.States.{State}
-use Rattle.event_core.specs.After.{after}
-use Rattle.event_core.specs.Histories.{IsLegal, state_from, AreLegalFrom}
-use Rattle.node_pool.specs.Halting.{passes_budget}
+use Rattle.event_core.specs.Histories.{state_from, AreLegalFrom}
+use Rattle.node_pool.specs.Free.{SplitsAlone}
+use Rattle.node_pool.specs.Halting.{spends}
 use Rattle.node_pool.specs.declared.halt.Halt.{Halt}
 use Rattle.node_pool.specs.declared.pool.Pool.{Pool}
+use Rattle.expand.specs.Laws.{entries_of}
 use Rattle.worker_gate.specs.declared.entry.Opening.{Opening}
 use Rattle.worker_gate.specs.declared.entry.PoolEntry.{PoolEntry}
 use Rattle.worker_gate.specs.declared.entry.PoolEntry.TheVariants.{Opened, Halted}
@@ -34,6 +35,12 @@ halt_same list es = step (halt_in list) refl
     step : (h : Option Halt) → halt_in list ≡ h → halt_in (list ++ happened es) ≡ halt_in list
     step None e = halt-none list (happened es) e ∙ halt-happened es ∙ sym e
     step (Some c) e = halt-first list (happened es) c e ∙ sym e
+
+-- ---- workers
+-- events of a worker who is one of these
+by_member : (w workers : ℕ) (es : List Event) → w < workers → All (IsByOneOf workers) (entries_of w es)
+by_member w workers [] m = All-nil (IsByOneOf workers)
+by_member w workers (e ∷ es) m = All-cons (IsByOneOf workers) (entry_by w e) (entries_of w es) m (by_member w workers es m)
 
 module _ {D : Type 0} {d : Ghosts D} where
   -- ---- a list begins
@@ -142,10 +149,10 @@ module _ {D : Type 0} {d : Ghosts D} where
             (halt ∙ sym (halt-none list (Halted c ∷ []) (sym kept.same.halt ∙ unhalted))));
       }
 
-    -- ---- one event of a worker
-    module _ (w : ℕ) (e : Event) (f : Follows a b (entry_by w e ∷ [])) (halt : b.halt ≡ a.halt) (legal : IsLegal (state_in list) (Some w) e) (member : w < workers)
-        (cuts_few : length (after (state_in list) (Some w) e).cuts ≤ cuts_limit list) (nodes_few : passes_budget a.budget (length (state_in list).nodes) e ≡ false) where
-      pub event_kept : IsKept first b count stop cuts workers
-      event_kept = events_kept (entry_by w e ∷ []) f halt (legal, tt) (All-cons (IsByOneOf workers) (entry_by w e) [] member (All-nil (IsByOneOf workers))) cuts_few
-          (joined_most first.budget (length first.state.state.nodes) (length (state_in list).nodes) (length (after (state_in list) (Some w) e).nodes) kept.legal.few_nodes
-          (subst (λ n. length (after (state_in list) (Some w) e).nodes ≤ max n (length (state_in list).nodes)) kept.same.budget (nodes_within a.budget (state_in list) (Some w) e nodes_few)))
+    -- ---- events of a worker
+    module _ (w : ℕ) (es : List Event) (f : Follows a b (entries_of w es)) (halt : b.halt ≡ a.halt) (legal : AreLegalFrom (state_in list) (entries_of w es)) (member : w < workers)
+        (cuts_few : length (state_from (state_in list) (entries_of w es)).cuts ≤ cuts_limit list) (alone : SplitsAlone es) (within : spends a.budget (length (state_in list).nodes) es ≡ false) where
+      pub several_kept : IsKept first b count stop cuts workers
+      several_kept = events_kept (entries_of w es) f halt legal (by_member w workers es member) cuts_few
+          (joined_most first.budget (length first.state.state.nodes) (length (state_in list).nodes) (length (state_from (state_in list) (entries_of w es)).nodes) kept.legal.few_nodes
+          (subst (λ n. length (state_from (state_in list) (entries_of w es)).nodes ≤ max n (length (state_in list).nodes)) kept.same.budget (nodes_within a.budget (state_in list) (Some w) es alone within)))

@@ -4,9 +4,6 @@ pub mod Growing
 pub mod Keeping
 pub mod Making
 pub mod Asking
-pub mod Committing
 pub mod Adding
 pub mod Turning
-pub mod Separating
 pub mod Settling
-pub mod Improving

@@ -1,38 +1,32 @@
 -- How a finding settles a node, by a pool's list.
-use Rattle.std.specs.Prelude.{◌≡◌, ◌≤◌, ◌+◌, ◌-◌, ℕ, pos, nat_abs, true, List, length, take, Some, Result, Ok, Err, IfOk, slice_get, slice_index_or, refl}
+use Rattle.std.specs.Prelude.{◌≡◌, ◌≤◌, ◌+◌, ◌-◌, ℕ, true, List, [], ◌∷◌, length, map, take, Some, Result, Ok, Err, IfOk, refl}
 use Rattle.std.specs.declared.alloc.AllocError.{AllocError}
-use Rattle.std.proofs.Common.{sym, ap, ◌∙◌, subst, arith, to_z, of_z, w64}
-use Rattle.std.proofs.lemmas.Int.{ints}
+use Rattle.std.proofs.Common.{sym, ap, ◌∙◌, subst, arith}
 use Rattle.std.proofs.lemmas.List.{length-take}
-use Rattle.std.proofs.lemmas.List.Elements.{All-get_or}
-use Rattle.std.proofs.lemmas.Option.{slice_get-get_or}
 use Rattle.problem_box.specs.declared.span.Span.{Span}
-use Rattle.problem.specs.Limited.{IsModestSpan, IsLimited}
-use Rattle.problem.specs.Limits.{largest_bound}
-use Rattle.node_events.specs.declared.proof.Proof.{Proof}
+use Rattle.problem.specs.Linear.{Multipliers}
 use Rattle.node_events.specs.declared.event.Event.TheVariants as event
 use Rattle.node_tree.specs.Nodes.{Tree}
 use Rattle.node_tree.specs.Paths.{box_at}
-use Rattle.event_core.specs.States.{State, box_of, is_open}
-use Rattle.event_core.specs.Histories.{IsLegal}
-use Rattle.event_core.specs.Lemmas.Boxes.{both_within, both_tells}
-use Rattle.event_core.specs.Lemmas.Sounding.{IsKept as IsKeptState}
+use Rattle.event_core.specs.States.{State, box_of, cutoff, is_open}
+use Rattle.event_core.specs.After.{after}
+use Rattle.event_core.specs.Histories.{state_from, AreLegalFrom}
+use Rattle.event_core.specs.Lemmas.Frames.{cuts_after}
 use Rattle.expand.specs.declared.finding.Finding.{Finding}
 use Rattle.expand.specs.declared.finding.Finding.TheVariants.{Cuts, Shut, Whole, Solved, Loose}
-use Rattle.expand.specs.declared.settlement.Branching.{Branching}
 use Rattle.expand.specs.declared.settlement.Settlement.{Settlement}
 use Rattle.expand.specs.declared.settlement.Settlement.TheVariants.{Separated, Closed, Improved, Branched}
+use Rattle.expand.specs.Findings.{IsTrueFinding}
+use Rattle.expand.specs.Laws.{entries_of}
 use Rattle.expand.specs.Settling.{settled}
-use Rattle.expand.specs.Settlements.{IsSettlement, IsShut, IsBranching}
-use Rattle.expand.specs.Lemmas.Bounds.{kept_bound}
-use Rattle.expand.specs.Lemmas.Events.{close_legal, split_legal}
-use Rattle.expand.specs.Lemmas.Inside.{box_modest}
+use Rattle.expand.specs.Settlements.{events_of, IsSettlement}
+use Rattle.expand.specs.Lemmas.Events.{settlement_legal}
 use Rattle.expand.specs.Lemmas.Rooms.{IsNotSeparated, without_cuts}
 use Rattle.worker_gate.specs.declared.entry.PoolEntry.{PoolEntry}
 use Rattle.worker_gate.specs.Entries.{opening_in, state_in}
 use Rattle.worker_gate.specs.Legal.{IsLegalList}
 use Rattle.worker_gate.specs.Limits.{cuts_limit, KeepsToLimit}
-use Rattle.worker_gate.specs.Conditions.{HoldsNode}
+use Rattle.worker_gate.specs.Conditions.{HoldsNode, IsFound}
 use Rattle.worker_gate.specs.Lemmas.Staying.{kept_in}
 use Rattle.worker_gate.proofs.Asking.{is_open_held}
 
@@ -61,6 +55,11 @@ same_box s t node box root nodes e = e ∙ (λ i. box_at (record { root = root i
 
 -- by this state, box and limit, which are those of the list
 module _ (at : List PoolEntry) (legal : IsLegalList at) (node : ℕ) (f : Finding) (s : State) (there : s ≡ state_in at) (box : List Span) (area : box ≡ box_of s node) (limit : ℕ) (cuts : limit ≡ (opening_in at).cuts) where
+  -- the finding is true there
+  pub found_there : IsFound node f at → IsTrueFinding s.problem s.cuts box (cutoff s) f
+  found_there h =
+      subst (λ (b : List Span). IsTrueFinding s.problem s.cuts b (cutoff s) f) (sym area) (subst (λ (t : State). IsTrueFinding t.problem t.cuts (box_of t node) (cutoff t) f) (sym there) h)
+
   of_list : settled s box limit f ≡ settled (state_in at) (box_of (state_in at) node) (opening_in at).cuts f
   of_list =
       ap (λ b. settled s b limit f) area ∙ ap (λ (t : State). settled t (box_of t node) limit f) there ∙ ap (λ n. settled (state_in at) (box_of (state_in at) node) n f) cuts
@@ -78,35 +77,26 @@ module _ (at : List PoolEntry) (legal : IsLegalList at) (node : ℕ) (f : Findin
   fits_there (Err x) e = tt
 
 -- ---- events
-module _ (at : List PoolEntry) (legal : IsLegalList at) (w node : ℕ) (here : HoldsNode w node at) where
+-- each cut makes one more at most
+cuts_more : (s : State) (w : ℕ) (mults : List Multipliers) → length (state_from s (entries_of w (map event.Cut mults))).cuts ≤ length s.cuts + length mults
+cuts_more s w [] = omega arith
+cuts_more s w (m ∷ ms) = omega (arith, cuts_more (after s (Some w) (event.Cut m)) w ms, (cuts_after s (Some w) (event.Cut m)).1)
+
+module _ (at : List PoolEntry) (legal : IsLegalList at) (w node : ℕ) where
   abbrev s : State
   s = state_in at
 
-  kept : IsKeptState s
-  kept = kept_in at legal
+  -- the events keep to the limit on cuts
+  pub cuts_kept : (g : Settlement) → KeepsToLimit at g → length (state_from s (entries_of w (events_of node g))).cuts ≤ cuts_limit at
+  cuts_kept (Separated mults) few = omega (arith, few, cuts_more s w mults)
+  cuts_kept (Closed proof) few = legal.few_cuts
+  cuts_kept (Improved x proof) few = legal.few_cuts
+  cuts_kept (Branched b) few = legal.few_cuts
 
-  pub opened_here : is_open s node ≡ true
-  opened_here = is_open_held s w node kept here
+  module _ (here : HoldsNode w node at) where
+    pub opened_here : is_open s node ≡ true
+    opened_here = is_open_held s w node (kept_in at legal) here
 
-  pub close_here : (proof : Proof) → IsShut s (box_of s node) proof → IsLegal s (Some w) (event.Close node proof)
-  close_here proof e = close_legal s w node opened_here here proof e
-
-  -- a bound in a column of the node's box
-  module _ (limited : IsLimited s.problem) (b : Branching) (h : IsBranching s (box_of s node) b) where
-    abbrev no_span : Span
-    no_span = record { lo = pos 0; hi = pos 0 }
-
-    at_most : nat_abs b.place.bound ≤ largest_bound
-    at_most =
-        let j = b.place.column in
-        let ss = box_of s node in
-        let l = both_within ss j b.place.bound h.both in
-        let k = both_tells (slice_get ss j) b.place.bound h.both (slice_index_or ss j no_span) (slice_get-get_or ss j no_span l) in
-        let n = All-get_or IsModestSpan ss j no_span l (box_modest s kept.tree node limited) in
-        omega (arith, ints, k.0, k.1, n.0, n.1)
-
-    pub kept_is : to_z w64 (of_z w64 b.place.bound) ≡ b.place.bound
-    kept_is = kept_bound b.place.bound at_most
-
-    pub split_here : IsLegal s (Some w) (event.Split node b.place.column (to_z w64 (of_z w64 b.place.bound)) b.reason)
-    split_here = subst (λ y. IsLegal s (Some w) (event.Split node b.place.column y b.reason)) (sym kept_is) (split_legal s w node opened_here here b.place.column b.place.bound b.reason h.both h.holds)
+    -- they are legal, one after another
+    pub events_here : (g : Settlement) → IsSettlement s (box_of s node) g → AreLegalFrom s (entries_of w (events_of node g))
+    events_here g settles = settlement_legal s w node g opened_here here settles

@@ -1,5 +1,5 @@
 -- What each call answers, and which entries it makes, by the list that it finds.
-use Rattle.std.specs.Prelude.{◌≡◌, ◌<◌, ℕ, Bool, true, false, List, [], ◌∷◌, ◌++◌, length, drop, All, Option, Some, None, IsSome, Result, Ok, Err, is_some}
+use Rattle.std.specs.Prelude.{◌≡◌, ℕ, true, List, [], ◌∷◌, length, drop, Option, Some, None, IsSome, Result, Ok, Err}
 use Rattle.std.specs.declared.alloc.AllocError.{AllocError}
 use Rattle.node_events.specs.declared.event.Event.{Event}
 use Rattle.node_events.specs.declared.event.Event.TheVariants as event
@@ -23,8 +23,7 @@ use Rattle.expand.specs.Settling.{settled}
 use Rattle.worker_gate.specs.declared.entry.PoolEntry.{PoolEntry}
 use Rattle.worker_gate.specs.declared.entry.PoolEntry.TheVariants.{Happened, Halted}
 use Rattle.worker_gate.specs.declared.glance.Glance.{Glance}
-use Rattle.worker_gate.specs.Entries.{happened, opening_in, halt_in, state_in, payloads_of}
-use Rattle.event_core.specs.Frames.{ended_by}
+use Rattle.worker_gate.specs.Entries.{happened, opening_in, halt_in, state_in}
 
 -- an event of the worker
 abbrev pub entry_by : ℕ → Event → Entry
@@ -57,65 +56,47 @@ Glances node known (Ok g) at own = IsGlanceOf (state_in at) node known g × (own
 Glances node known (Err e) at own = own ≡ []
 
 -- ---- commit
--- the events by which the worker settles its node as the finding says, in the state after these entries
-abbrev pub settling : ℕ → ℕ → Finding → List PoolEntry → List Entry
-settling w node f at = entries_of w (events_of node (settled (state_in at) (box_of (state_in at) node) (opening_in at).cuts f))
+-- the events by which a worker settles its node as the finding says, in the state after these entries
+abbrev pub settling : ℕ → Finding → List PoolEntry → List Event
+settling node f at = events_of node (settled (state_in at) (box_of (state_in at) node) (opening_in at).cuts f)
 
--- the event is the last one of its node
-abbrev pub ends_node : Event → Bool
-ends_node e = is_some (ended_by e)
-
--- of all these events the first were made, none of which ends the node
-pub record AreFirstOf (all made left : List Entry) : Type 0 where
-  pub parted : all ≡ made ++ left
-  pub unended : All (λ (e : Entry). ends_node e.event ≡ false) made
-
--- all were made, and acknowledged from this number on
+-- all were made, and acknowledged as so many
 pub record AreAllMade (all : List Entry) (r : Receipt) (at own : List PoolEntry) : Type 0 where
   pub unhalted : halt_in at ≡ None
   pub made : own ≡ happened all
-  pub first : r.first ≡ payloads_of at
   pub count : r.count ≡ length all
 
--- the first were made, and there was no memory for the next; where there was none for the settlement, nothing was made
-pub record AreFirstMade (all : List Entry) (at own : List PoolEntry) : Type 0 where
-  pub events : List Entry
-  pub left : List Entry
+-- there was no memory, and none was made
+pub record AreUnmade (at own : List PoolEntry) : Type 0 where
   pub unhalted : halt_in at ≡ None
-  pub firsts : AreFirstOf all events left
-  pub some_left : 0 < length events → 0 < length left
-  pub made : own ≡ happened events
+  pub made : own ≡ []
 
--- The halt by a fault at this event, behind these entries: the disk's count of faults rose to this number, or the event splits a node, and the two
--- children would pass the budget.
-abbrev pub IsHaltBy : CommitFault → Event → Halt → List PoolEntry → Type 0
-IsHaltBy fault.Disk e h at = (n : ℕ) × (h ≡ halt.Disk n e) × Rose (opening_in at).faults n
-IsHaltBy fault.Budget e h at = (h ≡ halt.Budget e) × (passes_budget (opening_in at).budget (length (state_in at).nodes) e ≡ true)
-IsHaltBy fault.Memory e h at = ⊥
-IsHaltBy fault.Halted e h at = ⊥
+-- The halt by a fault at these events, behind these entries: the disk's count of faults rose to this number, or they are one event alone that splits a node,
+-- and the two children would pass the budget.
+abbrev pub IsHaltBy : CommitFault → List Event → Halt → List PoolEntry → Type 0
+IsHaltBy fault.Disk es h at = (n : ℕ) × (h ≡ halt.Disk n es) × Rose (opening_in at).faults n
+IsHaltBy fault.Budget es h at = (e : Event) × (es ≡ e ∷ []) × (h ≡ halt.Budget e) × (passes_budget (opening_in at).budget (length (state_in at).nodes) e ≡ true)
+IsHaltBy fault.Memory es h at = ⊥
+IsHaltBy fault.Halted es h at = ⊥
 
--- the first were made, and the pool was halted by a fault at the next
-pub record AreHalted (all : List Entry) (f : CommitFault) (at own : List PoolEntry) : Type 0 where
-  pub events : List Entry
-  pub next : Entry
-  pub left : List Entry
+-- the pool was halted by a fault, and none of the events was made
+pub record AreHalted (es : List Event) (f : CommitFault) (at own : List PoolEntry) : Type 0 where
   pub halt : Halt
   pub unhalted : halt_in at ≡ None
-  pub firsts : AreFirstOf all events (next ∷ left)
-  pub cause : IsHaltBy f next.event halt (at ++ happened events)
-  pub made : own ≡ happened events ++ Halted halt ∷ []
+  pub cause : IsHaltBy f es halt at
+  pub made : own ≡ Halted halt ∷ []
 
--- which of these events a commit makes
-abbrev pub MakesOf : List Entry → Result Receipt CommitFault → List PoolEntry → List PoolEntry → Type 0
-MakesOf all (Ok r) at own = AreAllMade all r at own
-MakesOf all (Err fault.Memory) at own = AreFirstMade all at own
-MakesOf all (Err fault.Disk) at own = AreHalted all fault.Disk at own
-MakesOf all (Err fault.Budget) at own = AreHalted all fault.Budget at own
-MakesOf all (Err fault.Halted) at own = IsSome (halt_in at) × (own ≡ [])
+-- what a commit of these events of the worker makes: all of them, or none
+abbrev pub MakesOf : ℕ → List Event → Result Receipt CommitFault → List PoolEntry → List PoolEntry → Type 0
+MakesOf w es (Ok r) at own = AreAllMade (entries_of w es) r at own
+MakesOf w es (Err fault.Memory) at own = AreUnmade at own
+MakesOf w es (Err fault.Disk) at own = AreHalted es fault.Disk at own
+MakesOf w es (Err fault.Budget) at own = AreHalted es fault.Budget at own
+MakesOf w es (Err fault.Halted) at own = IsSome (halt_in at) × (own ≡ [])
 
 -- a commit settles the finding in the state as it is, and adds what it answers
 abbrev pub Commits : ℕ → ℕ → Finding → Result Receipt CommitFault → List PoolEntry → List PoolEntry → Type 0
-Commits w node f r at own = MakesOf (settling w node f at) r at own
+Commits w node f r at own = MakesOf w (settling node f at) r at own
 
 -- ---- release and halt
 abbrev pub Releases : ℕ → ℕ → List PoolEntry → List PoolEntry → Type 0

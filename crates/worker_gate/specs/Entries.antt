@@ -1,9 +1,9 @@
 -- A pool's list of entries: what it was when the list began, and what happened since.
-use Rattle.std.specs.Prelude.{ℕ, ◌+◌, Bool, true, false, List, [], ◌∷◌, ◌++◌, map, length, Option, Some, None}
+use Rattle.std.specs.Prelude.{ℕ, Bool, true, false, List, [], ◌∷◌, ◌++◌, map, Option, Some, None}
 use Rattle.problem.specs.Problem.{Problem}
 use Rattle.event_core.specs.declared.entry.Entry.{Entry}
 use Rattle.event_core.specs.States.{State, first_state}
-use Rattle.event_core.specs.Histories.{state_from, journaled}
+use Rattle.event_core.specs.Histories.{state_from}
 use Rattle.event_core.specs.Rooms.{Recorded}
 use Rattle.node_pool.specs.declared.halt.Halt.{Halt}
 use Rattle.worker_gate.specs.declared.entry.Opening.{Opening}
@@ -26,7 +26,7 @@ no_problem = record { names = []; rows = []; objective = []; spans = [] }
 
 -- stands for the state of a list without an opening
 abbrev pub no_state : Recorded
-no_state = record { state = first_state no_problem; history = []; room = record { splits = 0; nodes = 0; cuts = 0; holds = 0 }; entries = 0; cut = None; point = None }
+no_state = record { state = first_state no_problem; history = []; room = record { splits = 0; nodes = 0; cuts = 0; holds = 0 }; entries = 0 }
 
 -- stands for the opening of a list without one
 abbrev pub no_opening : Opening
@@ -67,7 +67,3 @@ state_in list = state_from (opening_in list).state.state (events_in list)
 -- all events of the search: those before the opening, then those of the list
 abbrev pub history_in : List PoolEntry → List Entry
 history_in list = (opening_in list).state.history ++ events_in list
-
--- how many payloads the journal has of them: the model's record, and the events that a journal has
-abbrev pub payloads_of : List PoolEntry → ℕ
-payloads_of list = length (journaled (history_in list)) + 1

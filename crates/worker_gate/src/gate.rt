@@ -54,8 +54,8 @@ pub trait PoolGate {
         ensures step { Stepped (worker self.old) (seen self.old) (seen self.new) (Glances node known result) };
 
     /// Settles the worker's node as the finding says, by the cuts and the incumbent that there are now. The receipt tells of the events, which may be
-    /// none where there is no room for cuts. `Halted`: the pool was halted before, and nothing is made. `Memory`: there was no memory for the settlement
-    /// or an event. `Disk`, `Budget`: the pool was halted at an event. The events before it stand then, and none of them ends the node.
+    /// none where there is no room for cuts. At a fault none of them is made. `Halted`: the pool was halted before. `Memory`: there was no memory for the
+    /// settlement or the events. `Disk`, `Budget`: the pool is halted by them.
     fn commit<R: Wait>(
         &mut self,
         rt: &R,

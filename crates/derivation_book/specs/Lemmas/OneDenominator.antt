@@ -2,14 +2,13 @@
 use Rattle.std.specs.Prelude.{◌≡◌, ℕ, zero, suc, ◌*◌, ◌/◌, ◌^◌, ◌<◌, ◌≤◌, ℤ, pos, ◌+ℤ◌, ◌*ℤ◌, nat_abs, true, Some}
 use Rattle.std.proofs.Common.{ap, ◌∙◌, arith}
 use Rattle.std.proofs.lemmas.Int.{ints, unsigned_abs-mul}
-use Rattle.std.proofs.Math.Nat.{mul-one, mul-le-mul, div-le_self, mul-div_cancel', mul-pos, div-mul_cancel, le_of_dvd}
+use Rattle.std.proofs.Math.Nat.{mul-one, mul-div_cancel', mul-pos, div-mul_cancel, le_of_dvd}
 use Prim.Native.Nat.{◌∣◌}
 use borrow.Author.Tests.{lt-ltb}
 use Rattle.fraction.specs.Gcd.{gcd}
 use Rattle.fraction.specs.Rational.{ℚ, whole, frac}
 use Rattle.fraction.specs.Checked.{add_fits, add_checked, mul_checked}
 use Rattle.fraction.specs.Lemmas.Gcd.{gcd_is, lcm_dvd}
-use Rattle.fraction.specs.Lemmas.Lowest.{abs-div}
 use Rattle.fraction.specs.Lemmas.Integers.{is_diff, diff-pos, diff-mul, diff-add, diff-same, cancel_ℤ, add-mul_ℤ}
 use Rattle.fraction.specs.Lemmas.Rational.{lit_one, frac_is, frac_den, frac_same, frac-+ℚ, frac-*ℚ}
 use Rattle.fraction.specs.Lemmas.Bounds.{add_is, mul_is, mul_fits_small, is_small_from, frac-num_le, small_product}

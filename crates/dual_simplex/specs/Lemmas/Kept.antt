@@ -1,5 +1,5 @@
 -- Lemmas: a relaxation that is kept while the book gets more cuts.
-use Rattle.std.specs.Prelude.{◌≡◌, ◌++◌, List, Option, Some, None, take, length, ◌≤◌}
+use Rattle.std.specs.Prelude.{◌++◌, List, Option, Some, None}
 use Rattle.std.proofs.Common.{arith, sym, subst, length-append}
 use Rattle.std.proofs.lemmas.List.{take-append-le}
 use Rattle.problem.specs.Problem.{Problem}

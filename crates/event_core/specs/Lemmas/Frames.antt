@@ -24,8 +24,8 @@ use Rattle.event_core.specs.After.{after, after_cut}
 use Rattle.event_core.specs.Histories.{is_journaled, state_from, AreLegalFrom}
 use Rattle.event_core.specs.Laws.{unheld}
 use Rattle.event_core.specs.Rooms.{HasNumbers}
-use Rattle.event_core.specs.Frames.{is_split, closed_by, claimed_by, freed_by, ended_by, cut_by, nodes_made, opened_by, with_ended, cut_of_row, cuts_of, without_holds, holds_of, KeepsFrame}
-use Rattle.event_core.specs.Lemmas.Ended.{count, count-ended, is_left}
+use Rattle.event_core.specs.Frames.{is_split, closed_by, claimed_by, freed_by, ended_by, cut_by, opened_by, with_ended, cut_of_row, cuts_of, without_holds, holds_of, KeepsFrame}
+use Rattle.event_core.specs.Lemmas.Ended.{count, count-ended}
 use Rattle.event_core.specs.Lemmas.Passing.{split_passed, close_passed, release_passed}
 
 -- ---- one event

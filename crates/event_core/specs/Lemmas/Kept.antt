@@ -1,5 +1,5 @@
 -- Lemmas: a relaxation that is kept from event to event.
-use Rattle.std.specs.Prelude.{◌≡◌, ℕ, List, Option}
+use Rattle.std.specs.Prelude.{ℕ, List, Option}
 use Rattle.std.proofs.Common.{sym, subst}
 use Rattle.problem.specs.Problem.{Problem}
 use Rattle.derivation_book.specs.declared.cut.Cut.{Cut}
@@ -8,7 +8,7 @@ use Rattle.dual_simplex.specs.Prepared.{Prepared, IsKept}
 use Rattle.dual_simplex.specs.Lemmas.Kept.{still_kept}
 use Rattle.event_core.specs.States.{State}
 use Rattle.event_core.specs.After.{after}
-use Rattle.event_core.specs.Frames.{cut_by, cuts_of, KeepsFrame}
+use Rattle.event_core.specs.Frames.{cut_by, cuts_of}
 use Rattle.event_core.specs.Lemmas.Frames.{keeps_frame}
 
 -- it is one of the state after an event too

@@ -23,6 +23,11 @@ pub legal_back : (s : State) (es fs : List Entry) → AreLegalFrom s (es ++ fs) 
 legal_back s [] fs h = h
 legal_back s (e ∷ es) fs h = legal_back (after s e.worker e.event) es fs h.1
 
+-- legal lists, one behind the other
+pub legal_both : (s : State) (es fs : List Entry) → AreLegalFrom s es → AreLegalFrom (state_from s es) fs → AreLegalFrom s (es ++ fs)
+legal_both s [] fs h k = k
+legal_both s (e ∷ es) fs h k = (h.0, legal_both (after s e.worker e.event) es fs h.1 k)
+
 pub legal_more : (s : State) (es : List Entry) (e : Entry) → AreLegalFrom s es → IsLegal (state_from s es) e.worker e.event → AreLegalFrom s (es ++ e ∷ [])
 legal_more s [] e h k = (k, tt)
 legal_more s (f ∷ es) e h k = (h.0, legal_more (after s f.worker f.event) es e h.1 k)

@@ -1,31 +1,25 @@
 -- Lemmas: what crashes leave of a journal stands for the problem, since each beginning of legal events is legal.
-use Rattle.std.specs.Prelude.{◌≡◌, ℕ, zero, suc, ◌+◌, ◌≤◌, false, List, [], ◌∷◌, ◌++◌, length, take, drop, Option, Some, None, refl, cond, nat_lt, Bool, true, ◌&&◌}
-use Rattle.std.specs.List.{AllByRecursion}
+use Rattle.std.specs.Prelude.{◌≡◌, ℕ, zero, suc, ◌≤◌, max, List, [], ◌∷◌, ◌++◌, length, take, drop, Option, Some, None, refl}
 use Rattle.std.proofs.Common.{arith, sym, ◌∙◌, ap, subst, inl, inr}
-use Rattle.std.proofs.lemmas.List.{take-map, take-append-drop, map-append}
+use Rattle.std.proofs.lemmas.List.{take-append-drop}
 use Rattle.problem.specs.Problem.{Problem}
 use Rattle.node_events.specs.declared.event.Event.{Event}
-use Rattle.event_codec.specs.Codes.{code}
 use Rattle.event_core.specs.declared.entry.Entry.{Entry}
 use Rattle.event_core.specs.States.{State, first_state}
 use Rattle.event_core.specs.After.{after}
-use Rattle.event_core.specs.Histories.{state_from, state_of, journaled, AreLegal, IsLegal}
+use Rattle.event_core.specs.Histories.{state_from, state_of, journaled, AreLegal, AreLegalFrom, entries_by}
 use Rattle.event_core.specs.Laws.{unheld, JournalsAreLegal}
-use Rattle.event_core.specs.Lemmas.Running.{state_from-append, legal_prefix, legal_more}
-use Rattle.node_journal.specs.Records.{Intact, records}
-use Rattle.node_journal.specs.History.{IsPrefixOf, count_of}
-use Rattle.node_pool.specs.Payloads.{codes, codes_given, model_in, IsJournalOf}
-use Rattle.node_pool.specs.Stored.{IsStored}
-use Rattle.node_pool.specs.Lemmas.Stored.{all_more}
-use Rattle.node_pool.specs.Halting.{IsHalt, IsDiskHalt, passes_budget}
+use Rattle.event_core.specs.Lemmas.Running.{state_from-append, legal_prefix, legal_both}
+use Rattle.event_core.specs.Lemmas.Frames.{nodes_from}
+use Rattle.node_journal.specs.Records.{Records, Intact, Foreign, BrokenAt, payloads_held, records}
+use Rattle.node_pool.specs.Payloads.{entries_in, events_given, count_held, model_in, IsJournalOf, IsBeginningOf}
+use Rattle.node_pool.specs.Halting.{IsHalt}
 use Rattle.node_pool.specs.declared.halt.Halt.{Halt}
 use Rattle.node_pool.specs.declared.halt.Halt.TheVariants as halt
 use Rattle.resume.specs.Models.{IsModelOf}
-use Rattle.resume.specs.Events.{read_entry, IsReadAs}
+use Rattle.resume.specs.Events.{IsReadAs}
 use Rattle.resume.specs.Journals.{StandsFor, IsFreshOrStands}
 use Rattle.node_tree.specs.Limits.{most_nodes}
-use Rattle.event_core.specs.Frames.{is_split}
-use Rattle.event_core.specs.Lemmas.Frames.{keeps_frame, nodes_from}
 
 -- ---- a tree only grows
 nodes_take : (s : State) (k : ℕ) (es : List Entry) → length (state_from s (take k es)).nodes ≤ length (state_from s es).nodes
@@ -33,74 +27,71 @@ nodes_take s zero es = nodes_from s es
 nodes_take s (suc k) [] = omega arith
 nodes_take s (suc k) (e ∷ es) = nodes_take (after s e.worker e.event) k es
 
-few_more : (s : State) (budget : ℕ) (e : Event) → budget ≤ most_nodes → length s.nodes ≤ most_nodes → passes_budget budget (length s.nodes) e ≡ false → length (after s None e).nodes ≤ most_nodes
-few_more s budget e b few within = step (is_split e) ((keeps_frame s None e).node_count) within
-  where
-    step : (c : Bool) → length (after s None e).nodes ≡ length s.nodes + cond c 2 0 → (c && nat_lt budget (length s.nodes + 2)) ≡ false → length (after s None e).nodes ≤ most_nodes
-    step true n w = let room : length s.nodes + 2 ≤ budget = grind (arith, w) in omega (arith, n, room, b)
-    step false n w = omega (arith, n, few)
-
 -- the record of a model alone
 pub stands_alone : (p : Problem) (model : List ℕ) → IsModelOf model p → StandsFor p (model ∷ []) []
-stands_alone p model is = record { rest = []; parts = refl; model = is; read = record { written = refl; stored = tt; legal = tt; few = omega arith } }
+stands_alone p model is = record { rest = []; parts = refl; model = is; read = record { written = refl; legal = tt; few = omega arith } }
 
--- ---- the first of the events that were read
-pub stored_take : (k : ℕ) (es : List Entry) → AllByRecursion IsStored es → AllByRecursion IsStored (take k es)
-stored_take zero es all = tt
-stored_take (suc k) [] all = tt
-stored_take (suc k) (e ∷ es) all = (all.0, stored_take k es all.1)
-
-read_take : (p : Problem) (k : ℕ) (es : List Entry) → IsReadAs p (codes es) es → IsReadAs p (take k (codes es)) (take k es)
-read_take p k es read = record {
-  written = take-map (λ (e : Entry). code e.event) k es;
-  stored = stored_take k es read.stored;
-  legal = legal_prefix (first_state p) (take k es) (drop k es) (subst (λ (l : List Entry). AreLegal p l) (sym (take-append-drop k es)) read.legal);
-  few = omega (arith, nodes_take (first_state p) k es, read.few);
+-- ---- what crashes leave of a journal
+-- the first of legal events are legal, and make no more nodes
+read_first : (p : Problem) (ps : List (List ℕ)) (k : ℕ) (es : List Entry) → entries_in ps ≡ Some (take k es) → AreLegal p es → length (state_of p es).nodes ≤ most_nodes → IsReadAs p ps (take k es)
+read_first p ps k es written legal few = record {
+  written = written;
+  legal = legal_prefix (first_state p) (take k es) (drop k es) (subst (λ (l : List Entry). AreLegal p l) (sym (take-append-drop k es)) legal);
+  few = omega (arith, nodes_take (first_state p) k es, few);
 }
 
--- a beginning of the model's record and the codes of events stands for the problem, or is none
-beginning_stands : (p : Problem) (model : List ℕ) (es : List Entry) → IsModelOf model p → IsReadAs p (codes es) es → (k : ℕ) (c : List ℕ) → records c ≡ Intact (take k (model ∷ codes es)) → IsFreshOrStands p c
-beginning_stands p model es is read zero c held = inl held
-beginning_stands p model es is read (suc k) c held =
-    inr (model ∷ take k (codes es), take k es, held, record { rest = take k (codes es); parts = refl; model = is; read = read_take p k es read })
+one_payload : (m model : List ℕ) → Intact (m ∷ []) ≡ Intact (model ∷ []) → m ≡ model
+one_payload m model e = ap (λ (r : Records). model_in (payloads_held r)) e
 
-pub prefix_stands : (p : Problem) (model : List ℕ) (es : List Entry) → IsModelOf model p → IsReadAs p (codes es) es → (c : List ℕ) → IsPrefixOf (model ∷ codes es) (records c) → IsFreshOrStands p c
-prefix_stands p model es is read c held = beginning_stands p model es is read (count_of (records c)) c held
+-- a beginning of a journal whose events are legal stands for the problem, or has no payload
+pub beginning_stands : (p : Problem) (model : List ℕ) (es : List Entry) (h : Option Halt) (c : List ℕ) → IsModelOf model p → AreLegal p (events_given es h)
+    → length (state_of p (events_given es h)).nodes ≤ most_nodes → IsBeginningOf model es h (records c) → IsFreshOrStands p c
+beginning_stands p model es h c is legal few b = step (records c) refl b
+  where
+    step : (r : Records) → records c ≡ r → IsBeginningOf model es h r → IsFreshOrStands p c
+    step (Intact []) e b = inl e
+    step (Intact (m ∷ ps)) e b =
+        (let k = count_held (Intact (m ∷ ps)) in
+        inr (
+          m ∷ ps,
+          take k (events_given es h),
+          e,
+          record {
+            rest = ps;
+            parts = refl;
+            model = subst (λ (l : List ℕ). IsModelOf l p) (sym (one_payload m model b.model_first)) is;
+            read = read_first p ps k (events_given es h) b.events legal few;
+          },
+        ))
+    step Foreign e b = cc
+    step (BrokenAt place) e b = cc
 
 -- ---- the journal of a legal history
-module _ (p : Problem) (es : List Entry) (s : State) (stands : s ≡ state_of p es) (legal : AreLegal p es) (law : JournalsAreLegal p) (stored : AllByRecursion IsStored (journaled es)) (few : length s.nodes ≤ most_nodes) where
+module _ (p : Problem) (es : List Entry) (s : State) (stands : s ≡ state_of p es) (legal : AreLegal p es) (law : JournalsAreLegal p) (few : length s.nodes ≤ most_nodes) where
   at_end : state_of p (journaled es) ≡ unheld s
   at_end = (law es legal).same ∙ ap unheld (sym stands)
 
-  pub journal_read : IsReadAs p (codes (journaled es)) (journaled es)
-  journal_read = record {
-    written = refl;
-    stored = stored;
-    legal = (law es legal).legal;
-    few = subst (λ (t : State). length t.nodes ≤ most_nodes) (sym at_end) few;
-  }
+  few_there : length (state_of p (journaled es)).nodes ≤ most_nodes
+  few_there = subst (λ (t : State). length t.nodes ≤ most_nodes) (sym at_end) few
 
   pub journal_stands : (ps : List (List ℕ)) → IsModelOf (model_in ps) p → IsJournalOf ps es → StandsFor p ps (journaled es)
-  journal_stands ps model is = record { rest = codes (journaled es); parts = is; model = model; read = journal_read }
+  journal_stands [] model is = cc
+  journal_stands (m ∷ ps) model is = record { rest = ps; parts = refl; model = model; read = record { written = is; legal = (law es legal).legal; few = few_there } }
 
-  -- with the event in whose call the disk failed
-  module _ (faults budget count n : ℕ) (fault : Option ℕ) (e : Event) (h : IsDiskHalt faults budget count fault s n e) (b : budget ≤ most_nodes) where
-    failed_read : IsReadAs p (codes (journaled es) ++ code e ∷ []) (journaled es ++ read_entry e ∷ [])
-    failed_read = record {
-      written = sym (map-append (λ (x : Entry). code x.event) (journaled es) (read_entry e ∷ []));
-      stored = all_more IsStored (journaled es) (read_entry e) stored (record { worker = refl; codable = h.codable; typed = h.typed });
-      legal = legal_more (first_state p) (journaled es) (read_entry e) (law es legal).legal
-          (subst (λ (t : State). IsLegal t None e) (sym at_end) (record { admitted = h.next.admitted; stands = (refl, h.next.journaled) }));
-      few = subst (λ (t : State). length t.nodes ≤ most_nodes) (sym (state_from-append (first_state p) (journaled es) (read_entry e ∷ [])))
-          (subst (λ (t : State). length (after t None e).nodes ≤ most_nodes) (sym at_end) (few_more (unheld s) budget e b few h.within));
-    }
+  -- with the events in whose call the disk failed
+  failed_legal : (fs : List Event) → AreLegalFrom (unheld s) (entries_by None fs) → AreLegal p (journaled es ++ entries_by None fs)
+  failed_legal fs next = legal_both (first_state p) (journaled es) (entries_by None fs) (law es legal).legal (subst (λ (t : State). AreLegalFrom t (entries_by None fs)) (sym at_end) next)
 
-  -- the codes that were given to the journal
-  pub given_read : (faults budget count : ℕ) (fault : Option ℕ) (h : Option Halt) → IsHalt faults budget count fault s h → budget ≤ most_nodes
-      → (fs : List Entry) × (codes_given es h ≡ codes fs) × IsReadAs p (codes fs) fs
-  given_read faults budget count fault None h b = (journaled es, refl, journal_read)
-  given_read faults budget count fault (Some halt.Memory) h b = (journaled es, refl, journal_read)
-  given_read faults budget count fault (Some (halt.Budget e)) h b = (journaled es, refl, journal_read)
-  given_read faults budget count fault (Some (halt.Disk n e)) h b =
-      let read = failed_read faults budget count n fault e h b in
-      (journaled es ++ read_entry e ∷ [], read.written, subst (λ (l : List (List ℕ)). IsReadAs p l (journaled es ++ read_entry e ∷ [])) read.written read)
+  failed_few : (budget : ℕ) (fs : List Event) → budget ≤ most_nodes → length (state_from (unheld s) (entries_by None fs)).nodes ≤ max budget (length s.nodes)
+      → length (state_of p (journaled es ++ entries_by None fs)).nodes ≤ most_nodes
+  failed_few budget fs b small =
+      let same = state_from-append (first_state p) (journaled es) (entries_by None fs) ∙ ap (λ (t : State). state_from t (entries_by None fs)) at_end in
+      omega (arith, ap (λ (t : State). length t.nodes) same, small, b, few)
+
+  -- the events that were given to the journal are legal, and make no more nodes than there may be
+  pub given_legal : (faults budget count : ℕ) (fault : Option ℕ) (h : Option Halt) → IsHalt faults budget count fault s h → budget ≤ most_nodes
+      → AreLegal p (events_given es h) × (length (state_of p (events_given es h)).nodes ≤ most_nodes)
+  given_legal faults budget count fault None h b = ((law es legal).legal, few_there)
+  given_legal faults budget count fault (Some halt.Memory) h b = ((law es legal).legal, few_there)
+  given_legal faults budget count fault (Some (halt.Budget e)) h b = ((law es legal).legal, few_there)
+  given_legal faults budget count fault (Some (halt.Disk n fs)) h b = (failed_legal fs h.next, failed_few budget fs b h.few)

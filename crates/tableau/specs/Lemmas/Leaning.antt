@@ -2,9 +2,7 @@
 use Rattle.std.proofs.Common.{◌≡◌, arith, refl, ap, sym, ◌∙◌, Bool, true, false, Option, Some, None, inl, inr}
 use Rattle.std.specs.Prelude.{◌⊎◌, ℤ, pos, negsuc, ◌≤ℤ◌, int_lt, if◌then◌else◌, not, ◌&&◌}
 use Rattle.std.specs.Option.{unwrap_or}
-use Rattle.std.specs.Ordering.{is_lt, is_eq}
-use Rattle.std.specs.declared.cmp.Ordering.{Ordering}
-use Rattle.std.specs.declared.cmp.Ordering.TheVariants.{Less, Equal, Greater}
+use Rattle.std.specs.Ordering.{is_eq}
 use Rattle.std.proofs.lemmas.Int.{ints}
 use Rattle.std.proofs.lemmas.Bool.{cases_Bool}
 use Rattle.fraction.specs.Checked.{compare}

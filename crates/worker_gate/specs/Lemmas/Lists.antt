@@ -3,7 +3,7 @@ use Rattle.std.specs.Prelude.{◌≡◌, true, List, [], ◌∷◌, ◌++◌, So
 use Rattle.std.proofs.Common.{sym, ap, ◌∙◌, append_assoc}
 use Rattle.event_core.specs.declared.entry.Entry.{Entry}
 use Rattle.event_core.specs.Histories.{state_from}
-use Rattle.event_core.specs.Lemmas.Running.{state_from-append, from-problem}
+use Rattle.event_core.specs.Lemmas.Running.{state_from-append}
 use Rattle.node_pool.specs.declared.halt.Halt.{Halt}
 use Rattle.worker_gate.specs.declared.entry.Opening.{Opening}
 use Rattle.worker_gate.specs.declared.entry.PoolEntry.{PoolEntry}
@@ -67,7 +67,3 @@ history-append xs ys h =
     ap (λ (es : List Entry). (opening_in (xs ++ ys)).state.history ++ es) (events-append xs ys)
     ∙ ap (λ (o : Opening). o.state.history ++ (events_in xs ++ events_in ys)) (opening-append xs ys h)
     ∙ sym (append_assoc (opening_in xs).state.history (events_in xs) (events_in ys))
-
--- the problem stays
-pub problem-in : (list : List PoolEntry) → (state_in list).problem ≡ (opening_in list).state.state.problem
-problem-in list = from-problem (opening_in list).state.state (events_in list)

@@ -1,65 +1,66 @@
-use Rattle.std.specs.Prelude.{refl}
-use Rattle.std.proofs.Common.{◌≡◌, ◌∙◌, ap, arith, subst, sym, ◌∷◌, ◌≤◌, ◌+◌, length}
-use Rattle.std.specs.Vec.Iter.{into_iter_items}
-use Rattle.expand.specs.Settlements.{AreNewCuts}
-use Rattle.core_search.proofs.Limiting.{few_still}
-use Rattle.core_search.proofs.Pooling.{goes_nowhere, goes_on, sound_still}
-use Rattle.core_search.proofs.Separating.{first_legal, others_still, still_same}
-use Rattle.core_search.proofs.Stepping.{joined_cuts, on_any_err}
-use Rattle.core_search.proofs.Visiting.{MakesFirst, first_all, first_more, first_none, first_unended, unended_both, unended_stays}
+use Rattle.std.specs.Prelude.{◌≡◌, ◌<◌, ℕ, zero, suc, Bool, false, IsTrue, List, [], ◌∷◌, length, map, refl}
+use Rattle.std.proofs.Common.{sym, ap, ◌∙◌, subst, arith}
+use Rattle.std.proofs.lemmas.Bool.{false≢true}
+use Rattle.std.proofs.lemmas.List.{length-map}
+use Rattle.node_events.specs.declared.event.Event.TheVariants.{Cut}
+use Rattle.event_core.specs.States.{State}
+use Rattle.problem.specs.Linear.{Multipliers}
+use Rattle.expand.specs.declared.settlement.Settlement.TheVariants.{Separated}
+use Rattle.expand.specs.Lemmas.Events.{cuts_legal, settlement_fits}
+use Rattle.core_search.specs.Deciding.{IsSameButCuts}
+use Rattle.core_search.specs.Visits.{Makes}
+use Rattle.core_search.proofs.Pooling.{goes_nowhere}
+use Rattle.core_search.proofs.Separating.{cuts_same, cuts_few, cuts_unspent}
+use Rattle.core_search.proofs.Stepping.{on_either, same_cuts}
+use Rattle.core_search.proofs.Visiting.{no_change}
 use Rattle.core_search.proofs.deciding.add_cuts.Goals as goal
 
-pub apply_event-requires-clause-legal : goal.apply_event-requires-clause-legal
-apply_event-requires-clause-legal g c =
-    let s = c.loop-mult.pool.state.state in
-    let left : AreNewCuts s (c.in-Some.mult ∷ into_iter_items c.next.new.self) = subst (AreNewCuts s) c.in-Some.ensures.steps.0 c.loop-mult.invariant.left in
-    first_legal s c.in-Some.mult (into_iter_items c.next.new.self) left
+pub settle_node-requires-clause-some : goal.settle_node-requires-clause-some
+settle_node-requires-clause-some g c =
+    let n = some c.is_empty.result (length c.args.mults) c.if-is_empty.false c.is_empty.ensures.1 in
+    omega (arith, n, length-map c.args.mults Cut)
+  where
+    some : (b : Bool) (n : ℕ) → b ≡ false → (n ≡ 0 → IsTrue b) → 0 < n
+    some b zero e h = absurd (false≢true (sym e ∙ h refl))
+    some b (suc n) e h = omega arith
 
-pub loop-mult-preserved : goal.loop-mult-preserved
-loop-mult-preserved g c =
-    let a = c.args.pool.now in
-    let b = c.loop-mult.pool in
-    let z = c.apply_event.new.pool in
-    let s = b.state.state in
-    let t = z.state.state in
-    let left : AreNewCuts s (c.in-Some.mult ∷ into_iter_items c.next.new.self) = subst (AreNewCuts s) c.in-Some.ensures.steps.0 c.loop-mult.invariant.left in
-    record {
-      goes_on = goes_on a b z c.loop-mult.invariant.goes_on c.apply_event.ensures.goes_on;
-      sound = sound_still a b z c.loop-mult.invariant.sound c.in_ok-apply_event.ensures.sound;
-      same = joined_cuts a.state.state s t c.loop-mult.invariant.same (still_same s c.in-Some.mult (into_iter_items c.next.new.self) left t c.in_ok-apply_event.ensures.applied);
-      left = others_still s c.in-Some.mult (into_iter_items c.next.new.self) left t c.in_ok-apply_event.ensures.applied;
-      counted = (let was = c.loop-mult.invariant.counted in let gone = c.in-Some.ensures.steps.1 in let short = ap length c.in-Some.ensures.steps.0 in omega (arith, was, gone, short));
-      made = first_more c.args.mults (into_iter_items c.next.new.self) c.in-Some.mult a.state b.state z.state
-          (subst (λ ms. MakesFirst c.args.mults ms a.state b.state) c.in-Some.ensures.steps.0 c.loop-mult.invariant.made) c.in_ok-apply_event.ensures.made;
-      few = few_still s t c.in-Some.mult (into_iter_items c.next.new.self) _ c.in_ok-apply_event.ensures.applied
-          (subst (λ ms. length s.cuts + length ms ≤ length a.state.state.cuts + length c.args.mults) c.in-Some.ensures.steps.0 c.loop-mult.invariant.few);
-    }
+pub settle_node-requires-clause-legal : goal.settle_node-requires-clause-legal
+settle_node-requires-clause-legal g c = cuts_legal c.args.pool.now.state.state 0 c.args.mults c.requires.new
 
-pub returns-in_err-apply_event-clause-goes_on : goal.returns-in_err-apply_event-clause-goes_on
-returns-in_err-apply_event-clause-goes_on g c = goes_on c.args.pool.now c.loop-mult.pool c.apply_event.new.pool c.loop-mult.invariant.goes_on c.apply_event.ensures.goes_on
+pub settle_node-requires-clause-fits : goal.settle_node-requires-clause-fits
+settle_node-requires-clause-fits g c = settlement_fits c.args.pool.now.state.state [] c.args.node (Separated c.args.mults) c.requires.new
 
-pub returns-in_err-apply_event-clause-unended : goal.returns-in_err-apply_event-clause-unended
-returns-in_err-apply_event-clause-unended g c =
+pub returns-then-is_empty-clause-goes_on : goal.returns-then-is_empty-clause-goes_on
+returns-then-is_empty-clause-goes_on g c = goes_nowhere c.args.pool.now
+
+pub returns-then-is_empty-clause-made : goal.returns-then-is_empty-clause-made
+returns-then-is_empty-clause-made g c =
     let a = c.args.pool.now.state in
-    let b = c.loop-mult.pool.state in
-    let z = c.apply_event.new.pool.state in
-    on_any_err c.from_residual.result (unended_both a b z (first_unended c.args.mults _ a b c.loop-mult.invariant.made) (unended_stays b z c.in_err-apply_event.ensures.unmade))
+    subst (λ ms. Makes (map Cut ms) a a) (sym (none c.args.mults (c.is_empty.ensures.0 c.if-is_empty.true))) (no_change a)
+  where
+    none : (ms : List Multipliers) → length ms ≡ 0 → ms ≡ []
+    none [] e = refl
+    none (m ∷ ms) e = absurd (omega (arith, e))
 
-pub loop-mult-init : goal.loop-mult-init
-loop-mult-init g c =
+pub returns-clause-unspent : goal.returns-clause-unspent
+returns-clause-unspent g c = λ e.
     let a = c.args.pool.now in
-    let all : into_iter_items c.into_iter-mult-iterator.result ≡ c.args.mults = c.into_iter-mult-iterator.ensures.into_iter_gives.0 ∙ c.into_vec-mult-items.ensures in
-    record {
-      goes_on = goes_nowhere a;
-      sound = record { halt = c.requires.sound; count = refl };
-      same = refl;
-      left = subst (AreNewCuts a.state.state) (sym all) c.requires.new;
-      counted = omega (arith, c.into_iter-mult-iterator.ensures.into_iter_gives.1, ap length c.into_iter-mult-iterator.ensures.into_iter_gives.0, c.into_vec-mult-items.result.ok.0);
-      made = subst (λ ms. MakesFirst c.args.mults ms a.state a.state) (sym all) (first_none c.args.mults a.state);
-      few = omega (arith, ap length all);
-    }
+    false≢true (sym (cuts_unspent a.budget (length a.state.state.nodes) c.args.mults) ∙ c.settle_node.ensures.spent e)
 
-pub returns-clause-made : goal.returns-clause-made
-returns-clause-made g c =
-    first_all c.args.mults (into_iter_items c.loop-mult.mult-iterator) c.args.pool.now.state c.loop-mult.pool.state (sym c.loop-mult.invariant.counted ∙ c.in-None.ensures.steps.0)
-    c.loop-mult.invariant.made
+pub returns-clause-same : goal.returns-clause-same
+returns-clause-same g c =
+    let s = c.args.pool.now.state.state in
+    let t = c.settle_node.new.pool.state.state in
+    on_either c.settle_node.result
+    (λ h. subst (λ (u : State). IsSameButCuts s u) (sym h.state) (cuts_same s c.args.mults))
+    (λ h. same_cuts s t h.state)
+    c.settle_node.ensures.made c.settle_node.ensures.unmade
+
+pub returns-clause-few : goal.returns-clause-few
+returns-clause-few g c =
+    let s = c.args.pool.now.state.state in
+    let t = c.settle_node.new.pool.state.state in
+    on_either c.settle_node.result
+    (λ h. let n = ap (λ (u : State). length u.cuts) h.state in omega (arith, n, cuts_few s c.args.mults))
+    (λ h. let n = ap (λ (u : State). length u.cuts) h.state in omega (arith, n))
+    c.settle_node.ensures.made c.settle_node.ensures.unmade

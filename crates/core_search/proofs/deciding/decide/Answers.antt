@@ -3,6 +3,7 @@ use Rattle.event_core.specs.States.{State}
 use Rattle.event_core.specs.Rooms.{Recorded}
 use Rattle.expand.specs.declared.settlement.Settlement.{Settlement}
 use Rattle.core_search.specs.Visits.{IsLook, at_once, with_cuts}
+use Rattle.core_search.proofs.Stepping.{on_any_err}
 use Rattle.core_search.proofs.Visiting.{no_change, unended_cuts, unended_stays}
 use Rattle.core_search.proofs.deciding.decide.Goals as goal
 
@@ -40,3 +41,6 @@ returns-in-Ok-settle_again-clause-decision g c =
 
 pub returns-in-Err-clause-unended : goal.returns-in-Err-clause-unended
 returns-in-Err-clause-unended g c = unended_cuts c.args.pool.now.state c.add_cuts.new.pool.state c.in-Separated.mults c.in_ok-add_cuts.ensures.made
+
+pub returns-in_err-add_cuts-clause-unended : goal.returns-in_err-add_cuts-clause-unended
+returns-in_err-add_cuts-clause-unended g c = on_any_err c.from_residual.result (unended_stays c.args.pool.now.state c.add_cuts.new.pool.state c.in_err-add_cuts.ensures.unmade)

@@ -1,5 +1,5 @@
 use Rattle.std.specs.Prelude.{IfSome}
-use Rattle.std.proofs.Common.{◌≡◌, ◌+◌, ◌*◌, refl, ap, sym, ◌∙◌, subst, Option, Some, length, take}
+use Rattle.std.proofs.Common.{◌≡◌, ◌+◌, ◌*◌, refl, ap, sym, ◌∙◌, subst, Option, length}
 use Rattle.tableau.specs.Tableau.{Tableau}
 use Rattle.tableau.specs.Start.{started}
 use Rattle.dual_simplex.proofs.Stopping.{stopped_run}

@@ -1,5 +1,5 @@
 use Rattle.std.specs.Prelude.{IfSome}
-use Rattle.std.proofs.Common.{◌≡◌, ◌+◌, ◌*◌, refl, ap, sym, ◌∙◌, subst, Option, Some, length, map, take}
+use Rattle.std.proofs.Common.{◌≡◌, ap, sym, ◌∙◌, subst, Option, Some, length, map, take}
 use Rattle.derivation_book.specs.declared.cut.Cut.{Cut}
 use Rattle.tableau.specs.LinearProgram.{LinearProgram, over}
 use Rattle.tableau.specs.Lemmas.Started.{length-coefficients}

@@ -1,5 +1,4 @@
 use Rattle.std.proofs.Common.{◌≡◌, sym, ◌∙◌, take}
-use Rattle.dual_simplex.specs.declared.answer.Answer.{Answer}
 use Rattle.dual_simplex.specs.Answers.{answer}
 use Rattle.dual_simplex.proofs.Ending.{is_end, answer_is}
 use Rattle.dual_simplex.proofs.cramped_run.is_cramped_end.Goals as goal

@@ -1,4 +1,4 @@
-use Rattle.std.proofs.Common.{◌≡◌, ◌+◌, ◌*◌, refl, length, take}
+use Rattle.std.proofs.Common.{◌+◌, ◌*◌, refl, length}
 use Rattle.dual_simplex.proofs.Stopping.{stopped_run}
 use Rattle.dual_simplex.proofs.cramped_run.run_to_claim.Goals as goal
 

@@ -1,31 +1,21 @@
-use Rattle.std.specs.List.{AllByRecursion}
-use Rattle.std.proofs.Common.{sym, subst, refl, ◌≡◌, ◌∙◌, false, length, List, ℕ, None}
+use Rattle.std.proofs.Common.{sym, subst, refl, ◌≡◌, false, length, List, ℕ, None}
 use Rattle.std.proofs.lemmas.Result.{IfErr-weaker}
 use Rattle.outside.specs.Images.{AtRest}
-use Rattle.event_core.specs.declared.entry.Entry.{Entry}
 use Rattle.node_journal.specs.History.{KeepsHistory}
 use Rattle.node_journal.specs.Whole.{payloads_in}
 use Rattle.node_journal.specs.Views.{payloads_of}
 use Rattle.node_journal.specs.Lemmas.Resting.{at_rest}
 use Rattle.node_pool.specs.Payloads.{IsJournalOf}
-use Rattle.node_pool.specs.Stored.{IsStored}
 use Rattle.resume.specs.Crashes.{LeavesHistory}
 use Rattle.resume.specs.Refusals.{is_disk}
 use Rattle.resume.proofs.KeptHistories.{unchanged, leaves, leaves_failed}
-use Rattle.resume.proofs.Recovering.{all_journaled, counted, is_journal, ok_part}
+use Rattle.resume.proofs.Recovering.{is_journal, ok_part}
 use Rattle.resume.proofs.opening.continue_journal.Goals as goal
-
-pub make_pool-requires-clause-counted : goal.make_pool-requires-clause-counted
-make_pool-requires-clause-counted g c = c.in-Ok.ensures.count ∙ counted c.args.state.state.problem (payloads_of c.args.scanned) c.args.state.history c.requires.read.stands
 
 pub make_pool-requires-clause-stands : goal.make_pool-requires-clause-stands
 make_pool-requires-clause-stands g c told =
     subst (λ (ps : List (List ℕ)). IsJournalOf ps c.args.state.history) (sym (c.in-Ok.ensures.holds told))
     (is_journal c.args.state.state.problem (payloads_of c.args.scanned) c.args.state.history c.requires.read.stands)
-
-pub make_pool-requires-clause-stored : goal.make_pool-requires-clause-stored
-make_pool-requires-clause-stored g c =
-    subst (λ (es : List Entry). AllByRecursion IsStored es) (sym (all_journaled c.args.state.history c.requires.read.stands.read.stored)) c.requires.read.stands.read.stored
 
 pub returns-in-Ok-clause-history : goal.returns-in-Ok-clause-history
 returns-in-Ok-clause-history g c told rests =

@@ -7,16 +7,16 @@ use Rattle.outside.specs.Images.{LeavesOnly, NoMomentPasses}
 use Rattle.event_codec.specs.Models.{model_code}
 use Rattle.event_core.specs.declared.entry.Entry.{Entry}
 use Rattle.event_core.specs.Rooms.{Recorded}
-use Rattle.event_core.specs.States.{State, first_state}
+use Rattle.event_core.specs.States.{first_state}
 use Rattle.node_journal.specs.Records.{Intact, records}
 use Rattle.node_journal.specs.Views.{payloads_of}
 use Rattle.node_journal.specs.Whole.{payloads_in}
-use Rattle.resume.specs.Journals.{StandsFor, IsFreshOrOf, IsReadFrom}
+use Rattle.resume.specs.Journals.{StandsFor, IsFreshOrOf, IsReadFrom, IsReadWith}
 use Rattle.resume.specs.Crashes.{IsAsBefore, IsAsBeforeOrBegun}
 use Rattle.resume.specs.Lemmas.Standing.{stands_alone}
 use Rattle.resume.proofs.Models.{own_model, small_model}
 use Rattle.resume.proofs.KeptHistories.{untouched_history}
-use Rattle.resume.proofs.Recovering.{untouched, behind_scan, still_rests, if_both, if_err_all}
+use Rattle.resume.proofs.Recovering.{begun_with, untouched, behind_scan, still_rests, if_both, ok_part, if_err_all}
 use Rattle.resume.proofs.opening.open_pool.Goals as goal
 
 pub returns-in-Err-clause-any_moment_err : goal.returns-in-Err-clause-any_moment_err
@@ -81,16 +81,20 @@ returns-in_default-clause-history_err g c told rests ps holds = untouched_histor
 pub returns-in-Err-read_search_of-clause-history_err : goal.returns-in-Err-read_search_of-clause-history_err
 returns-in-Err-read_search_of-clause-history_err g c told rests ps holds = untouched_history _ _ _ _ ps _ rests holds c.scan.ensures.stands
 
+pub returns-then-count-eq0-clause-of_model : goal.returns-then-count-eq0-clause-of_model
+returns-then-count-eq0-clause-of_model g c =
+    if_both c.begin_search.result (λ p. p.state.state ≡ first_state c.args.problem) (λ p. p.state.history ≡ []) (λ p. IsReadWith (model_code c.args.text.now c.args.upper) p.state) c.begin_search.ensures.state
+    c.begin_search.ensures.fresh
+    (λ p s h. begun_with c.args.problem (model_code c.args.text.now c.args.upper) p.state
+    (own_model (model_code c.args.text.now c.args.upper) c.args.text.now c.args.upper c.args.problem refl c.requires.model) s h)
+
 pub returns-then-count-eq0-clause-read : goal.returns-then-count-eq0-clause-read
-returns-then-count-eq0-clause-read g c =
-    if_both c.begin_search.result (λ p. p.state.state ≡ first_state c.args.problem) (λ p. p.state.history ≡ []) (λ p. IsReadFrom p.state) c.begin_search.ensures.state c.begin_search.ensures.fresh
-    (λ p s h. (
-      c.deref.result.now ∷ [],
-      subst (λ (es : List Entry). StandsFor p.state.state.problem (c.deref.result.now ∷ []) es) (sym h)
-          (subst (λ (st : State). StandsFor st.problem (c.deref.result.now ∷ []) []) (sym s)
-          (stands_alone c.args.problem c.deref.result.now
-          (own_model c.deref.result.now c.args.text.now c.args.upper c.args.problem (c.deref.ensures.value ∙ c.in-Ok-encode_model.ensures) c.requires.model))),
-    ))
+returns-then-count-eq0-clause-read g c = IfOk-weaker c.begin_search.result (λ p. IsReadWith (model_code c.args.text.now c.args.upper) p.state) (λ p. IsReadFrom p.state) (λ p w. (w.0, w.2)) (returns-then-count-eq0-clause-of_model g c)
+
+pub returns-in-Ok-read_search_of-clause-of_model : goal.returns-in-Ok-read_search_of-clause-of_model
+returns-in-Ok-read_search_of-clause-of_model g c =
+    ok_part c.continue_journal.result (λ p. p.state) c.in-Ok-read_search_of.state (λ (s : Recorded). IsReadWith (model_code c.args.text.now c.args.upper) s) c.continue_journal.ensures.state
+    (payloads_of c.in-Ok.scanned, c.in-Ok-read_search_of.ensures.model ∙ c.deref-2.ensures.value ∙ c.in-Ok-encode_model.ensures, c.in-Ok-read_search_of.ensures.read.stands)
 
 pub returns-in-Err-clause-spared : goal.returns-in-Err-clause-spared
 returns-in-Err-clause-spared g c told = inl c.scan.ensures.stands

@@ -1,8 +1,15 @@
-use Rattle.std.proofs.Common.{arith, subst, ◌≤◌, ◌<◌, List, ℕ, length}
+use Rattle.std.proofs.Common.{arith, sym, subst, ◌≤◌, ◌<◌, List, ℕ, length}
+use Rattle.dual_simplex.specs.Prepared.{IsKept}
 use Rattle.node_journal.specs.Views.{payloads_of}
 use Rattle.resume.specs.Events.{IsApplied}
-use Rattle.resume.proofs.Replaying.{one_more, same_problem, all_read}
+use Rattle.resume.proofs.Replaying.{none_read, one_more, same_problem, all_read}
 use Rattle.resume.proofs.replay.replay.Goals as goal
+
+pub loop-number-init : goal.loop-number-init
+loop-number-init c = (
+  none_read c.args.problem (payloads_of c.args.scanned.now) c.in_ok-state.state c.requires.some c.requires.model c.in_ok-state.ensures.state c.in_ok-state.ensures.history,
+  subst (λ o. IsKept c.in_ok-state.state.state.problem c.in_ok-state.state.state.cuts o) (sym c.none-kept.ensures) tt,
+)
 
 pub loop-number-preserved : goal.loop-number-preserved
 loop-number-preserved c =

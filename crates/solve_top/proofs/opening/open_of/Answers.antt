@@ -1,8 +1,7 @@
 use Rattle.std.specs.Prelude.{◌⊎◌, ℕ, List}
-use Rattle.std.proofs.Common.{subst, sym}
+use Rattle.std.proofs.Common.{subst, sym, ◌∙◌}
 use Rattle.problem.specs.Problem.{Problem}
 use Rattle.outside.specs.Images.{LeavesOnly, NoMomentPasses}
-use Rattle.event_codec.specs.Models.{model_code}
 use Rattle.node_journal.specs.Records.{records}
 use Rattle.node_journal.specs.Whole.{payloads_in}
 use Rattle.resume.specs.Crashes.{IsAsBeforeOrBegun}
@@ -12,7 +11,7 @@ use Rattle.solve_top.specs.declared.outcome.Refusal.{Refusal}
 use Rattle.solve_top.specs.Changes.{disk_change}
 use Rattle.solve_top.specs.Journals.{IsUnopened}
 use Rattle.solve_top.specs.Models.{record_of}
-use Rattle.solve_top.proofs.Opened.{first_is, held_events, not_by_disk, record_is, unopened_by}
+use Rattle.solve_top.proofs.Opened.{held_events, not_by_disk, record_is, unopened_by}
 use Rattle.solve_top.proofs.opening.open_of.Goals as goal
 
 pub returns-in-Ok-clause-opened : goal.returns-in-Ok-clause-opened
@@ -20,9 +19,9 @@ returns-in-Ok-clause-opened g c = λ told.
     let is = record_is _ _ _ c.args.upper c.deref.ensures.value c.recorded.ensures in record {
       next = c.in-Ok.ensures.opened told;
       begun = (c.history_holds.ensures.kept told).begun;
-      held = held_events _ _ _ (g.D.Disk.now c.args.disk).seen _ (c.in-Ok.ensures.held told) (first_is _ _ (model_code c.deref.result.now c.recorded.result) (record_of c.args.model.text.items c.args.upper) (c.in-Ok.ensures.journal told) is)
+      held = held_events _ _ _ (g.D.Disk.now c.args.disk).seen _ (c.in-Ok.ensures.held told) (c.in-Ok.ensures.model told ∙ is)
           (subst (λ (p : Problem). StandsFor p (payloads_in (g.D.Disk.now c.in-Ok.pool.journal.disk)) c.in-Ok.pool.state.history) (sym c.in-Ok.ensures.problem) (c.in-Ok.ensures.stands told));
-      of_model = first_is _ _ (model_code c.deref.result.now c.recorded.result) (record_of c.args.model.text.items c.args.upper) (c.in-Ok.ensures.journal told) is;
+      of_model = c.in-Ok.ensures.model told ∙ is;
       stands = subst (λ (p : Problem). StandsFor p (payloads_in (g.D.Disk.now c.in-Ok.pool.journal.disk)) c.in-Ok.pool.state.history) (sym c.in-Ok.ensures.problem) (c.in-Ok.ensures.stands told);
       all = c.in-Ok.ensures.kept told;
       kept = c.in-Ok.ensures.history told;

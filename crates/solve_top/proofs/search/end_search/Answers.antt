@@ -40,13 +40,13 @@ returns-clause-since g c = λ old ready on.
       model = λ told. ap (λ x. model_in (payloads_in (g.D.Disk.now x))) c.part-state.ensures.disk ∙ on.model told;
       kept = λ told model.
           kept_search g.D.Disk.tells g.D.Disk.past g.D.Disk.now g.D.Disk.count old.journal.disk pool.journal.disk left.1 c.part-state.ensures.disk old.state pool.state left.0 same
-          on.problem ready.state ready.read c.conditions_hold.ensures.state c.conditions_hold.ensures.legal _ c.problem.ensures c.journals_are_legal.ensures c.history_holds.ensures.stored
+          on.problem ready.state ready.read c.conditions_hold.ensures.state c.conditions_hold.ensures.legal _ c.problem.ensures c.journals_are_legal.ensures
           old.budget ready.few on.within_budget pool.faults pool.budget pool.journal.fault pool.halt c.history_holds.ensures.halted c.history_holds.ensures.few
           c.args.ending on.halted on.cause old.journal.opened pool.journal.opened on.opened (on.continued told) (c.history_holds.ensures.kept told)
           (c.history_holds.ensures.crashes told) model (on.model told) (c.part-state.ensures.rests told);
       stands = λ told model other.
           stands_search g.D.Disk.tells g.D.Disk.past g.D.Disk.now g.D.Disk.count old.journal.disk pool.journal.disk left.1 c.part-state.ensures.disk old.state pool.state left.0 same
-          on.problem ready.state ready.read c.conditions_hold.ensures.state c.conditions_hold.ensures.legal _ c.problem.ensures c.journals_are_legal.ensures c.history_holds.ensures.stored
+          on.problem ready.state ready.read c.conditions_hold.ensures.state c.conditions_hold.ensures.legal _ c.problem.ensures c.journals_are_legal.ensures
           old.budget ready.few on.within_budget pool.faults pool.budget pool.journal.fault pool.halt c.history_holds.ensures.halted c.history_holds.ensures.few
           c.args.ending on.halted (sym c.conclude-outcome.ensures.disk ∙ other)
           (c.history_holds.ensures.stands told) model (on.model told);

@@ -3,4 +3,4 @@ use Rattle.event_core.proofs.parts.Parts.change.Goals as goal
 
 pub improve-requires-clause-better : goal.improve-requires-clause-better
 improve-requires-clause-better c =
-    offer_made c.args.self.now.state c.args.worker c.args.event.now c.in-Offer.point c.in-Some-point.point c.args.cut c.args.point c.in-Offer.is c.requires.legal c.requires.made c.in-Some-point.is
+    offer_made c.args.self.now.state c.args.worker c.args.event.now c.in-Offer.point c.in-Point.point c.args.made c.in-Offer.is c.requires.legal c.requires.made c.in-Point.is

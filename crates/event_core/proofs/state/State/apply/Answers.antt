@@ -19,6 +19,6 @@ invariant_of-self c =
     let entries : HasEntryRoom s n c.args.event = subst (λ (v : Recorded). HasEntryRoom v.state v.entries c.args.event) (sym c.self.view_is) c.requires.ready.entries in
     let fits = entries_fit s c.args.worker c.args.event n legal entries c.self.invariant.2 in
     let one : m + 1 ≡ n = omega (arith, fits, c.push_reserved.ensures.len, c.push_reserved.ensures.capacity) in
-    let h = more_history s c.change.new.self.state c.self.inside.history.items c.args.worker c.args.event n m c.self.invariant.0 c.self.invariant.1 c.self.invariant.2 legal entries c.change.ensures one in
+    let h = more_history s c.change.new.self.state c.self.inside.history.items c.args.worker c.args.event n m c.self.invariant.0 c.self.invariant.1 c.self.invariant.2 legal entries c.change.ensures.state one in
     let k = subst (λ (es : List Entry). IsHistoryOf c.change.new.self.state es m) (sym c.push_reserved.ensures.items) h in
     (k.state, k.legal, k.room)

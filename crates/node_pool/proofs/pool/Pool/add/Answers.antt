@@ -1,23 +1,29 @@
-use Rattle.std.proofs.Common.{rules, ap, refl, sym, ◌∙◌, subst, arith, ◌≡◌, ◌+◌, true, List, ℕ, length, Option, Some, ◌∷◌, [], ◌++◌}
-use Rattle.std.specs.List.{AllByRecursion}
+use Rattle.std.proofs.Common.{rules, ap, refl, sym, ◌∙◌, subst, arith, ◌≡◌, ◌+◌, true, List, ℕ, length, Option, Some, None, Ok, ◌∷◌, [], ◌++◌}
+use Rattle.std.proofs.lemmas.List.Elements.{recursion_from_All}
 use Rattle.node_tree.specs.declared.branch.Node.{Node}
+use Rattle.node_events.specs.declared.event.Event.{Event}
 use Rattle.event_core.specs.declared.entry.Entry.{Entry}
 use Rattle.event_core.specs.States.{State}
-use Rattle.event_core.specs.Histories.{journaled}
+use Rattle.event_core.specs.Histories.{is_journaled}
 use Rattle.node_journal.specs.History.{KeepsHistory, EachFrom, IsPrefixOf}
 use Rattle.node_journal.specs.Records.{records}
 use Rattle.node_journal.specs.Whole.{payloads_in}
+use Rattle.event_codec.specs.Groups.{group_of, group_code}
 use Rattle.outside.specs.Faults.{Rose}
 use Rattle.problem.specs.Problem.{Problem}
-use Rattle.event_core.specs.Laws.{JournalsAreLegal}
+use Rattle.event_core.specs.Laws.{unheld, JournalsAreLegal}
 use Rattle.outside.specs.declared.moment.Moment.{Moment}
 use Rattle.node_pool.specs.declared.halt.Halt.{Halt}
-use Rattle.node_pool.specs.Payloads.{IsJournalOf, LeavesPrefixes, codes_given}
-use Rattle.node_pool.specs.Stored.{IsStored}
-use Rattle.event_core.specs.Lemmas.Frames.{two_more}
-use Rattle.node_pool.proofs.FreeNodes.{listed_below, added_listed}
+use Rattle.node_pool.specs.declared.halt.Halt.TheVariants as halt
+use Rattle.node_pool.specs.Halting.{IsDiskHalt}
+use Rattle.event_core.specs.Rooms.{split_count}
+use Rattle.node_pool.specs.Free.{children_of_all}
+use Rattle.node_pool.specs.Payloads.{IsJournalOf, LeavesBeginnings, events_given}
+use Rattle.node_pool.proofs.Budgets.{within_budget}
+use Rattle.node_pool.proofs.FreeNodes.{listed_below, added_listed, nodes_added}
 use Rattle.node_pool.proofs.RisingLists.{fewer, missing}
-use Rattle.node_pool.proofs.Journaling.{journal_push, journal_same, length-journaled, next_event, stored_push}
+use Rattle.node_pool.proofs.Spelling.{AreJournaledEvents, journal_push, journal_same}
+use Rattle.node_pool.proofs.Next.{next_events}
 use Rattle.node_pool.proofs.Crashes.{leaves_sound, leaves_failed, leaves_stands, model_kept}
 use Rattle.node_pool.proofs.Keeping.{unfailed, halts_none}
 use Rattle.node_pool.proofs.pool.Pool.add.Goals as goal
@@ -28,36 +34,36 @@ add_children-requires-clause-room g c =
     let s = old.state.state in
     let below = listed_below s old.free.items c.conditions_hold.ensures.sound.lengths old.listed in
     let less = fewer old.free.items (length s.nodes) (length s.nodes + 1) old.listed.rising (λ k d l. let b = below k d l in omega (arith, b)) (missing old.free.items (length s.nodes) below) (omega arith) in
-    omega (arith, less, c.requires.room, old.free.ok.0)
+    omega (arith, less, c.requires.room, old.free.ok.0, ap (λ (es : List Event). split_count es) c.deref.ensures.value)
 
 pub invariant_of-self : goal.invariant_of-self
 invariant_of-self g c =
     let old = c.args.self.now in
-    let new = c.apply.new.self in
+    let new = c.apply_all.new.self in
     let s = old.state.state in
-    let e = c.args.event in
+    let es = c.args.events.items in
     let w = c.args.worker in
-    let es = old.state.history in
-    let fs = new.history in
+    let before = old.state.history in
+    let after = new.history in
     let journal = c.append.new.self in
-    let before = unfailed old.faults old.budget (g.D.Disk.count old.journal.disk) old.journal.fault s old.halt c.requires.sound old.halts in
+    let journaled : AreJournaledEvents es = recursion_from_All (λ (e : Event). is_journaled e ≡ true) es c.requires.journaled in
+    let sound = unfailed old.faults old.budget (g.D.Disk.count old.journal.disk) old.journal.fault s old.halt c.requires.sound old.halts in
     let ps = payloads_in (g.D.Disk.now old.journal.disk) in
     let qs = payloads_in (g.D.Disk.now journal.disk) in
-    let stands = λ (told : g.D.Disk.tells ≡ true). subst (λ (l : List Entry). IsJournalOf qs l) (sym c.apply.ensures.history)
-    (journal_push ps qs es (Some w) e c.requires.journaled (old.stands told before.sound) (c.in-Ok.ensures.added told ∙ ap (λ (p : List ℕ). ps ++ p ∷ []) c.requires.spelled)) in
+    let stands = λ (told : g.D.Disk.tells ≡ true). subst (λ (l : List Entry). IsJournalOf qs l) (sym c.apply_all.ensures.history)
+    (journal_push ps qs (group_code es) before (Some w) es journaled (old.stands told sound.sound) c.requires.read (c.in-Ok.ensures.added told ∙ ap (λ (p : List ℕ). ps ++ p ∷ []) c.requires.spelled)) in
     record {
-      listed = added_listed s new.state w e old.free.items c.add_children.new.free.items c.len-number.result c.conditions_hold.ensures.sound c.requires.admitted c.requires.journaled old.listed c.apply.ensures.state
-          (c.len-number.ensures ∙ ap (λ (ns : List Node). length ns) c.tree-tree.ensures.nodes) c.add_children.ensures.items;
-      room = omega (arith, c.requires.room, c.add_children.ensures.capacity, ap (λ (t : State). length t.nodes) c.apply.ensures.state, two_more s (Some w) e);
+      listed = added_listed s.problem before s new.state w es old.free.items c.add_children.new.free.items c.len-number.result c.conditions_hold.ensures.state c.conditions_hold.ensures.legal c.requires.legal journaled old.listed
+          c.apply_all.ensures.state (c.len-number.ensures ∙ ap (λ (ns : List Node). length ns) c.tree-tree.ensures.nodes)
+          (c.add_children.ensures.items ∙ ap (λ (l : List Event). old.free.items ++ children_of_all l c.len-number.result) c.deref.ensures.value);
+      room = omega (arith, c.requires.room, c.add_children.ensures.capacity, ap (λ (t : State). length t.nodes) c.apply_all.ensures.state, nodes_added s (Some w) es);
       few = old.few;
-      counted = omega (arith, c.in-Ok.ensures.count, old.counted, ap (λ (l : List Entry). length (journaled l)) c.apply.ensures.history, length-journaled es (Some w) e c.requires.journaled);
-      stored = subst (λ (l : List Entry). AllByRecursion IsStored (journaled l)) (sym c.apply.ensures.history) (stored_push es (Some w) e c.requires.journaled c.requires.codable c.requires.typed old.stored);
-      stands = λ told sound. stands told;
-      crashes = λ told. leaves_sound journal.opened (g.D.Disk.past journal.disk) (g.D.Disk.now journal.disk) fs old.halt
+      stands = λ told unfailed. stands told;
+      crashes = λ told. leaves_sound journal.opened (g.D.Disk.past journal.disk) (g.D.Disk.now journal.disk) after old.halt
           (subst (λ (f : Option ℕ). KeepsHistory journal.opened (g.D.Disk.past journal.disk) (g.D.Disk.now journal.disk) qs f) c.in-Ok.ensures.sound.1 (journal.kept told)) (stands told)
-          (ap (λ (h : Option Halt). codes_given fs h) c.requires.sound);
+          (ap (λ (h : Option Halt). events_given after h) c.requires.sound);
       halts = halts_none old.faults old.budget (g.D.Disk.count journal.disk) journal.fault new.state old.halt c.requires.sound
-          (record { sound = c.in-Ok.ensures.sound.1; unchanged = c.in-Ok.ensures.cause before.sound ∙ before.unchanged });
+          (record { sound = c.in-Ok.ensures.sound.1; unchanged = c.in-Ok.ensures.cause sound.sound ∙ sound.unchanged });
     }
 
 pub invariant_of-self-in-Err-Memory : goal.invariant_of-self-in-Err-Memory
@@ -76,10 +82,8 @@ invariant_of-self-in-Err-Memory g c =
       listed = old.listed;
       room = old.room;
       few = old.few;
-      counted = omega (arith, c.in-Err-Memory.ensures.count_err, old.counted);
-      stored = old.stored;
       stands = λ told sound. journal_same (payloads_in (now old.journal.disk)) (payloads_in (now journal.disk)) es es (old.stands told both.0) (ap (λ (m : Moment). payloads_in m) none.same) refl;
-      crashes = λ told. subst (λ n. LeavesPrefixes n (past journal.disk) (now journal.disk) es old.halt) (sym c.in-Err-Memory.ensures.opened)
+      crashes = λ told. subst (λ n. LeavesBeginnings n (past journal.disk) (now journal.disk) es old.halt) (sym c.in-Err-Memory.ensures.opened)
           (leaves_stands old.journal.opened (past old.journal.disk) (now old.journal.disk) (past journal.disk) (now journal.disk) es old.halt none (old.crashes told));
       halts = halts_none old.faults old.budget (g.D.Disk.count journal.disk) journal.fault s old.halt c.requires.sound
           (record { sound = both.1; unchanged = cause ∙ before.unchanged });
@@ -99,34 +103,35 @@ pub invariant_of-self-in-Err-Disk : goal.invariant_of-self-in-Err-Disk
 invariant_of-self-in-Err-Disk g c =
     let old = c.args.self.now in
     let s = old.state.state in
-    let es = old.state.history in
-    let e = c.args.event in
+    let history = old.state.history in
+    let es = c.args.events.items in
     let journal = c.append.new.self in
     let past = g.D.Disk.past in
     let now = g.D.Disk.now in
     let count = g.D.Disk.count in
     let n = c.faults-faults.result in
+    let journaled : AreJournaledEvents es = recursion_from_All (λ (e : Event). is_journaled e ≡ true) es c.requires.journaled in
     let before = unfailed old.faults old.budget (count old.journal.disk) old.journal.fault s old.halt c.requires.sound old.halts in
     let failed = c.in-Err-Disk.ensures.fails before.sound (search rules) in
     let counted : count journal.disk ≡ n = ap (λ d. count d) (sym c.disk.ensures) ∙ sym c.faults-faults.ensures in
     let cause = rw c.in-Err-Disk.field-0-is at (c.in-Err-Disk.ensures.cause before.sound) in
+    let payload : group_of c.args.payload.now ≡ Ok es = ap group_of c.requires.spelled ∙ c.requires.read in
+    let halted : IsDiskHalt old.faults old.budget (count journal.disk) journal.fault s n es = record {
+      failed = failed ∙ ap Some counted;
+      counted = counted;
+      rose = subst (λ k. Rose k n) before.unchanged (subst (λ k. Rose (count old.journal.disk) k) counted cause.1);
+      next = next_events s.problem history s (subst (λ (p : Problem). JournalsAreLegal p) c.problem.ensures c.journals_are_legal.ensures) c.conditions_hold.ensures.legal c.conditions_hold.ensures.state c.args.worker es c.requires.legal journaled;
+      read = c.requires.read;
+      few = (let within = within_budget old.budget (length s.nodes) es c.requires.alone c.requires.within in omega (arith, within, nodes_added (unheld s) None es));
+    } in
     record {
       listed = old.listed;
       room = old.room;
       few = old.few;
-      counted = omega (arith, c.in-Err-Disk.ensures.count_err, old.counted);
-      stored = old.stored;
       stands = λ told sound. absurd (cc (failed, sound));
-      crashes = λ told. leaves_failed journal.opened (now old.journal.disk) (past journal.disk) (now journal.disk) es n e c.args.payload.now c.requires.spelled (old.stands told before.sound)
-          (model_kept (past old.journal.disk) (now old.journal.disk) (past journal.disk) (now journal.disk) es c.args.payload.now (old.stands told before.sound) (c.append.ensures.any_moment told before.sound) (g.met.D.Disk.seen_is_image journal.disk told))
-          (subst (λ k. EachFrom k (past journal.disk ++ now journal.disk ∷ []) (λ b. IsPrefixOf (payloads_in (now old.journal.disk) ++ c.args.payload.now ∷ []) (records b))) (sym c.in-Err-Disk.ensures.opened) (c.in-Err-Disk.ensures.since told before.sound));
-      halts = record {
-        failed = failed ∙ ap Some counted;
-        counted = counted;
-        rose = subst (λ k. Rose k n) before.unchanged (subst (λ k. Rose (count old.journal.disk) k) counted cause.1);
-        next = next_event s.problem es s c.args.worker e (subst (λ (p : Problem). JournalsAreLegal p) c.problem.ensures c.journals_are_legal.ensures) c.conditions_hold.ensures.legal c.conditions_hold.ensures.state c.requires.admitted c.requires.journaled;
-        codable = c.requires.codable;
-        typed = c.requires.typed;
-        within = c.requires.within;
-      };
+      crashes = λ told. subst (λ (l : List Event). LeavesBeginnings journal.opened (past journal.disk) (now journal.disk) history (Some (halt.Disk n l))) (sym c.of-events.ensures)
+          (leaves_failed journal.opened (now old.journal.disk) (past journal.disk) (now journal.disk) history n es c.args.payload.now payload (old.stands told before.sound)
+          (model_kept (past old.journal.disk) (now old.journal.disk) (past journal.disk) (now journal.disk) history c.args.payload.now (old.stands told before.sound) (c.append.ensures.any_moment told before.sound) (g.met.D.Disk.seen_is_image journal.disk told))
+          (subst (λ k. EachFrom k (past journal.disk ++ now journal.disk ∷ []) (λ b. IsPrefixOf (payloads_in (now old.journal.disk) ++ c.args.payload.now ∷ []) (records b))) (sym c.in-Err-Disk.ensures.opened) (c.in-Err-Disk.ensures.since told before.sound)));
+      halts = subst (λ (l : List Event). IsDiskHalt old.faults old.budget (count journal.disk) journal.fault s n l) (sym c.of-events.ensures) halted;
     }

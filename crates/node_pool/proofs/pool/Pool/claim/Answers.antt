@@ -4,8 +4,8 @@ use Rattle.event_core.specs.States.{State}
 use Rattle.node_journal.specs.Whole.{payloads_in}
 use Rattle.node_pool.specs.declared.answers.Claim.TheVariants as answer
 use Rattle.node_pool.proofs.FreeNodes.{claimed_greatest}
-use Rattle.node_pool.proofs.Journaling.{journal_same}
-use Rattle.node_pool.proofs.Keeping.{claim_open, last_taken, claimed_listed, same_journaled, same_count, same_stored, same_leaves, halts_other}
+use Rattle.node_pool.proofs.Spelling.{journal_same}
+use Rattle.node_pool.proofs.Keeping.{claim_open, last_taken, claimed_listed, same_journaled, same_leaves, halts_other}
 use Rattle.node_pool.proofs.pool.Pool.claim.Goals as goal
 
 pub invariant_of-self-2 : goal.invariant_of-self-2
@@ -20,8 +20,6 @@ invariant_of-self-2 g c =
           (last_taken old.state.state old.free.items c.pop.new.self.items c.pop.result node c.pop.ensures.items c.in-Some.is old.listed);
       room = omega (arith, old.room, c.pop.ensures.capacity, ap (λ (s : State). length s.nodes) c.apply.ensures.state);
       few = old.few;
-      counted = same_count old.state.state new.state old.state.history new.history (Some c.args.worker) (event.Claim node) refl c.apply.ensures.state c.apply.ensures.history old.journal.count old.counted;
-      stored = same_stored old.state.state new.state old.state.history new.history (Some c.args.worker) (event.Claim node) refl c.apply.ensures.state c.apply.ensures.history old.stored;
       stands = λ told sound. journal_same ps ps old.state.history new.history (old.stands told sound) refl
           (same_journaled old.state.state new.state old.state.history new.history (Some c.args.worker) (event.Claim node) refl c.apply.ensures.state c.apply.ensures.history);
       crashes = λ told. same_leaves old.state.state new.state old.state.history new.history (Some c.args.worker) (event.Claim node) refl c.apply.ensures.state c.apply.ensures.history old.journal.opened (g.D.Disk.past disk) (g.D.Disk.now disk) old.halt (old.crashes told);

@@ -13,8 +13,6 @@ invariant_of-result g c =
       listed = c.in-Ok.ensures.nodes;
       room = c.in-Ok.ensures.room;
       few = c.requires.few;
-      counted = c.requires.counted;
-      stored = c.requires.stored;
       stands = λ told sound. c.requires.stands told;
       crashes = λ told.
           leaves_sound journal.opened past now c.args.state.history None (subst (λ (f : Option ℕ). KeepsHistory journal.opened past now (payloads_in now) f) c.requires.sound (journal.kept told)) (c.requires.stands told) refl;

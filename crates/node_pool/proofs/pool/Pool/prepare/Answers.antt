@@ -1,29 +1,25 @@
-use Rattle.std.specs.List.{AllByRecursion}
-use Rattle.std.proofs.Common.{ap, refl, sym, subst, arith, List, length}
+use Rattle.std.proofs.Common.{ap, refl, arith, List, length}
 use Rattle.event_core.specs.declared.entry.Entry.{Entry}
 use Rattle.event_core.specs.States.{State}
 use Rattle.event_core.specs.Histories.{journaled}
 use Rattle.node_journal.specs.Whole.{payloads_in}
-use Rattle.node_pool.specs.Stored.{IsStored}
 use Rattle.node_pool.proofs.FreeNodes.{moved_nodes}
-use Rattle.node_pool.proofs.Journaling.{journal_same}
+use Rattle.node_pool.proofs.Spelling.{journal_same}
 use Rattle.node_pool.proofs.Keeping.{given_same, leaves_given, halts_same}
 use Rattle.node_pool.proofs.pool.Pool.prepare.Goals as goal
 
 pub invariant_of-self-2 : goal.invariant_of-self-2
 invariant_of-self-2 g c =
     let old = c.args.self.now in
-    let new = c.reserve.new.self in
+    let new = c.reserve_all.new.self in
     let disk = old.journal.disk in
     let ps = payloads_in (g.D.Disk.now disk) in
-    let same = ap (λ (es : List Entry). journaled es) c.reserve.ensures.history in
+    let same = ap (λ (es : List Entry). journaled es) c.reserve_all.ensures.stays.history in
     record {
-      listed = moved_nodes old.state.state new.state old.free.items c.reserve_for.new.free.items c.reserve.ensures.state c.reserve_for.ensures.items old.listed;
-      room = omega (arith, old.room, c.reserve_for.ensures.capacity, ap (λ (s : State). length s.nodes) c.reserve.ensures.state);
+      listed = moved_nodes old.state.state new.state old.free.items c.reserve_for.new.free.items c.reserve_all.ensures.stays.state c.reserve_for.ensures.items old.listed;
+      room = omega (arith, old.room, c.reserve_for.ensures.capacity, ap (λ (s : State). length s.nodes) c.reserve_all.ensures.stays.state);
       few = old.few;
-      counted = omega (arith, old.counted, ap (λ (es : List Entry). length es) same);
-      stored = subst (λ (l : List Entry). AllByRecursion IsStored l) (sym same) old.stored;
       stands = λ told sound. journal_same ps ps old.state.history new.history (old.stands told sound) refl same;
-      crashes = λ told. leaves_given old.journal.opened (g.D.Disk.past disk) (g.D.Disk.now disk) old.state.history new.history old.halt old.halt (given_same old.state.history new.history old.halt same) (old.crashes told);
-      halts = halts_same old.faults old.budget (g.D.Disk.count disk) old.journal.fault old.state.state new.state old.halt c.reserve.ensures.state old.halts;
+      crashes = λ told. leaves_given old.journal.opened (g.D.Disk.past disk) (g.D.Disk.now disk) old.state.history new.history old.halt old.halt same (given_same old.state.history new.history old.halt same) (old.crashes told);
+      halts = halts_same old.faults old.budget (g.D.Disk.count disk) old.journal.fault old.state.state new.state old.halt c.reserve_all.ensures.stays.state old.halts;
     }

@@ -7,8 +7,8 @@ use Rattle.event_core.specs.Lemmas.Passing.{passing}
 use Rattle.node_journal.specs.Whole.{payloads_in}
 use Rattle.node_pool.specs.Free.{AreFreeNodes}
 use Rattle.node_pool.proofs.FreeNodes.{held_missing, is_held_by, is_open_held, fewer_free, released_nodes}
-use Rattle.node_pool.proofs.Journaling.{journal_same}
-use Rattle.node_pool.proofs.Keeping.{same_journaled, same_count, same_stored, same_leaves, halts_other}
+use Rattle.node_pool.proofs.Spelling.{journal_same}
+use Rattle.node_pool.proofs.Keeping.{same_journaled, same_leaves, halts_other}
 use Rattle.node_pool.proofs.pool.Pool.release.Goals as goal
 
 pub insert_node-requires-clause-absent : goal.insert_node-requires-clause-absent
@@ -42,8 +42,6 @@ invariant_of-self g c =
           (released_nodes old.state.state c.args.worker node c.conditions_hold.ensures.sound c.requires old.free.items free old.listed c.insert_node.ensures.rising c.insert_node.ensures.nodes);
       room = omega (arith, old.room, c.insert_node.ensures.capacity, ap (λ (s : State). length s.nodes) c.apply.ensures.state);
       few = old.few;
-      counted = same_count old.state.state new.state old.state.history new.history (Some c.args.worker) (event.Release node) refl c.apply.ensures.state c.apply.ensures.history old.journal.count old.counted;
-      stored = same_stored old.state.state new.state old.state.history new.history (Some c.args.worker) (event.Release node) refl c.apply.ensures.state c.apply.ensures.history old.stored;
       stands = λ told sound. journal_same ps ps old.state.history new.history (old.stands told sound) refl
           (same_journaled old.state.state new.state old.state.history new.history (Some c.args.worker) (event.Release node) refl c.apply.ensures.state c.apply.ensures.history);
       crashes = λ told. same_leaves old.state.state new.state old.state.history new.history (Some c.args.worker) (event.Release node) refl c.apply.ensures.state c.apply.ensures.history old.journal.opened (g.D.Disk.past disk) (g.D.Disk.now disk) old.halt (old.crashes told);
