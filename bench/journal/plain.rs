@@ -20,7 +20,7 @@ fn payloads(file: &[u8]) -> Vec<&[u8]> {
     payloads
 }
 
-/// One append: the frame behind the closed gate, a sync, the gate, a sync. The file is kept in memory too.
+/// One append: the frame behind the closed gate, a sync, the gate, a sync of the bytes alone. The file is kept in memory too.
 fn append(disk: &File, file: &mut Vec<u8>, payload: &[u8]) -> Result<(), Box<dyn Error>> {
     let end = file.len() - 1;
     file.extend_from_slice(&(payload.len() as u32).to_le_bytes());
@@ -29,7 +29,7 @@ fn append(disk: &File, file: &mut Vec<u8>, payload: &[u8]) -> Result<(), Box<dyn
     disk.write_all_at(&file[end + 1..], end as u64 + 1)?;
     disk.sync_all()?;
     disk.write_all_at(&[1], end as u64)?;
-    disk.sync_all()?;
+    disk.sync_data()?;
     file[end] = 1;
     Ok(())
 }

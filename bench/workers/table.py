@@ -17,10 +17,16 @@ MODELS = (
 WORKERS = (1, 2, 4)
 RUNS = 5
 DONE, SPENT = 0, 8
+IN_MEMORY = "/dev/shm"
+# A disk that syncs makes a thousand nodes a second or so: there each search ends at as many nodes.
+NODES_ON_DISK = 4_001
 
-folder, program = sys.argv[1:3]
+folder, program, busy, place, microseconds = sys.argv[1:6]
 # How many other programs keep a core busy meanwhile.
-BUSY = int(sys.argv[3]) if len(sys.argv) > 3 else 0
+BUSY = int(busy)
+# What the program is given, so that each sync takes so long.
+SLOW = {"LD_PRELOAD": os.path.join(folder, "slow_sync.so"), "SYNC_MICROSECONDS": microseconds} if microseconds else {}
+FAST = place == IN_MEMORY and not SLOW
 journal, certificate = (os.path.join(folder, name) for name in ("journal", "certificate"))
 
 
@@ -38,7 +44,7 @@ def solve(model, budget, cuts, workers):
         os.remove(journal)
     words = [program, "solve", model, journal, certificate, "--cuts", cuts, "--nodes", budget, "--workers", workers]
     began = time.monotonic()
-    process = subprocess.Popen([str(word) for word in words], stdout=subprocess.PIPE, text=True)
+    process = subprocess.Popen([str(word) for word in words], stdout=subprocess.PIPE, text=True, env={**os.environ, **SLOW})
     lines = process.stdout.read()
     _, ended, usage = os.wait4(process.pid, 0)
     seconds = time.monotonic() - began
@@ -62,9 +68,11 @@ def row(name, model, budget, cuts):
 def table():
     print(f"each line: of each number of workers the nodes a second, their ratio to those of one, and the cores in use; best of {RUNS}")
     for kind, columns, rows, seed, budget, cuts in MODELS:
-        row(f"{kind} {columns} x {rows}, {seed}, cuts {cuts}", make(kind, columns, rows, seed), budget, cuts)
-    fine.fine(program, folder)
-    fine.idle(program, folder, make)
+        model = make(kind, columns, rows, seed)
+        row(f"{kind} {columns} x {rows}, {seed}, cuts {cuts}", model, budget if FAST else min(budget, NODES_ON_DISK), cuts)
+    if FAST:
+        fine.fine(program, folder)
+        fine.idle(program, folder, make)
 
 
 if max(WORKERS) > (os.cpu_count() or 1):

@@ -1,8 +1,8 @@
 //! Whether a worker is in the way of others.
 //!
 //! Where a node takes about as long as the turns that it needs, more workers gain nothing: they wait for one another, and the pool moves from core to
-//! core. Then a worker sleeps for some milliseconds between two nodes. The others go on at full speed, and the sleeper comes back soon enough where nodes
-//! get dear again. All this is counted in turns, since no clock is at hand: the turns of others for which the worker waited, and those that ended while it
+//! core. Then a worker but the first sleeps for some milliseconds between two nodes. The others go on at full speed, and the sleeper comes back soon enough
+//! where nodes get dear again. All this is counted in turns, since no clock is at hand: the turns of others for which the worker waited, and those that ended while it
 //! worked on its own.
 
 use turn_lock::Traffic;

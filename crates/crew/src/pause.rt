@@ -18,18 +18,24 @@ const LONGEST: u64 = 16_000;
 pub(crate) struct Pauses {
     backoff: Backoff,
     nap: u64,
-    crowd: Crowd,
+    // None for worker 0: it never leaves, so that one worker is always there.
+    crowd: Option<Crowd>,
     // A word that nobody writes or wakes: a sleep on it ends by its time alone.
     word: AtomicU64,
 }
 
 impl Pauses {
-    /// No wait yet. Of two workers the one of greater rank stays longer where they are in each other's way.
-    pub(crate) fn new(rank: u32) -> Pauses {
+    /// No wait yet, of the worker of this number among so many. Of two the one of lower number stays longer where they are in each other's way.
+    pub(crate) fn new(number: u32, workers: u32) -> Pauses {
+        let crowd = if number == 0 {
+            None
+        } else {
+            Some(Crowd::new(workers.saturating_sub(number)))
+        };
         Pauses {
             backoff: Backoff::new(),
             nap: NAP,
-            crowd: Crowd::new(rank),
+            crowd,
             word: AtomicU64::new(0),
         }
     }
@@ -53,7 +59,10 @@ impl Pauses {
     pub(crate) fn settled<R: Wait>(&mut self, rt: &R, traffic: Traffic) {
         self.backoff.reset();
         self.nap = NAP;
-        if let Some(nap) = self.crowd.leaves(traffic) {
+        let Some(crowd) = &mut self.crowd else {
+            return;
+        };
+        if let Some(nap) = crowd.leaves(traffic) {
             self.sleep(rt, nap);
         }
     }

@@ -111,7 +111,7 @@ fn go_on<R: Wait, G: PoolGate, H: Hold>(
     ensures worked { Worked (G.worker gate.old) (G.seen gate.old) (G.seen gate.new) }
     ensures over { IsOver (G.seen gate.new) }
 {
-    let mut pauses = Pauses::new(settings.workers.saturating_sub(number));
+    let mut pauses = Pauses::new(number, settings.workers);
     for _ in rt.forever() {
         hold.asks(number);
         match round(rt, alloc, gate, problem, worker, settings.cuts) {
@@ -127,7 +127,7 @@ fn go_on<R: Wait, G: PoolGate, H: Hold>(
 /// of the gate's pool.
 ///
 /// Right before each claim the worker asks `hold`. It looks at its node outside the gate's calls, by its own copy of the cuts. Where it has no memory,
-/// or an event is refused, it gives its node back and halts the pool. However it ends, it holds no node.
+/// or its events are refused, it gives its node back and halts the pool. However it ends, it holds no node.
 pub fn work<R: Wait, G: PoolGate, H: Hold>(
     rt: &R,
     alloc: Global,

@@ -17,6 +17,8 @@ pub(crate) struct Opened {
     found: Metadata,
     /// Whether nobody else may take it for writing, until it is closed.
     taken: bool,
+    /// How long it was at the last sync, if there was one.
+    synced: Option<u64>,
 }
 
 impl Opened {
@@ -67,6 +69,7 @@ impl Opened {
             writable,
             found,
             taken: false,
+            synced: None,
         })
     }
 
@@ -124,10 +127,22 @@ impl Opened {
         self.file.set_len(size)
     }
 
+    // Where the length is that of the last sync, the system need not write what it keeps of the file besides its bytes: on ext4 that takes half
+    // of the time (docs/DECISIONS.md, entry 79).
+    fn sync_bytes(&mut self) -> io::Result<()> {
+        let length = Some(self.metadata()?.len());
+        if length == self.synced {
+            return self.file.sync_data();
+        }
+        self.file.sync_all()?;
+        self.synced = length;
+        Ok(())
+    }
+
     /// Waits until the file's bytes and its length are on the disk. That needs no permission to write. It fails at a file that has lost its
     /// last name: what is synced there is gone when the file is closed.
-    pub(crate) fn sync(&self) -> io::Result<()> {
-        self.file.sync_all()?;
+    pub(crate) fn sync(&mut self) -> io::Result<()> {
+        self.sync_bytes()?;
         if self.found.nlink() > 0 && self.metadata()?.nlink() == 0 {
             return Err(Error::new(
                 ErrorKind::NotFound,
