@@ -71,7 +71,7 @@ fn refused<R: Files<File = File> + Clock + Eprint>(
 /// The status of one run over the files of the paths, of which the certificate spares the other two.
 fn status_of<
     R: Threads + Wait + Sync + Files<File = File> + Clock + Env + Alloc + Eprint,
-    B: BuildHasher + Clone + Drop,
+    B: BuildHasher + Drop,
     D: Disk + Send + Drop + Explained,
 >(
     rt: &R,
@@ -96,7 +96,7 @@ fn status_of<
     if let Some(status) = refused(rt, &there, &mut out) {
         return status;
     }
-    let mut cert = FileSink::new(rt, there);
+    let mut cert = FileSink::new(alloc, rt, there);
     let ran = run(
         rt, alloc, keys, words, &mut model, disk, &mut cert, &mut out, &NoHold,
     );

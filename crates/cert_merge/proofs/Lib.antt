@@ -2,7 +2,7 @@ pub mod Parts
 pub mod Claims
 pub mod Keeping
 pub mod Places
-pub mod NodeLines
+pub mod Feeding
 pub mod Sources
 pub mod Closed
 pub mod Ordered

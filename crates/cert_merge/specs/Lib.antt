@@ -1,7 +1,9 @@
 pub mod Closing
 pub mod Endings
+pub mod Layout
 pub mod Numbers
 pub mod Merged
+pub mod FeedLines
 pub mod Tree
 pub mod Laws
 pub mod Setters

@@ -1,4 +1,4 @@
--- The numbers of a certificate's lines: rows, bounds, cuts, assumptions, nodes from the greatest number down to 0.
+-- The numbers of a certificate's lines, by its layout.
 use Rattle.std.specs.Prelude.{◌<◌, ℕ, ◌+◌, ◌-◌, ◌*◌, ◌^◌, List, [], ◌∷◌, length, Option, Some, None}
 use Rattle.problem_box.specs.declared.span.Span.{Span}
 use Rattle.problem.specs.Problem.{Problem}
@@ -8,14 +8,15 @@ use Rattle.node_tree.specs.Paths.{setter, path_at}
 use Rattle.derivation_book.specs.Known.{first_cut}
 use Rattle.event_core.specs.States.{State, tree_of}
 use Rattle.cert_merge.specs.Closing.{BoundSource}
+use Rattle.cert_merge.specs.Layout.{layout_of}
 
 -- the assumption of node i, which is at least 1, behind the rows, the bounds and the cuts
 abbrev pub assumption_line : State → ℕ → ℕ
-assumption_line s i = first_cut s.problem + length s.cuts + (i - 1)
+assumption_line s i = (layout_of s).assumptions + (i - 1)
 
 -- node i, behind the assumptions
 abbrev pub node_line : State → ℕ → ℕ
-node_line s i = first_cut s.problem + length s.cuts + (length s.nodes - 1) + (length s.nodes - 1 - i)
+node_line s i = (layout_of s).nodes + (length s.nodes - 1 - i)
 
 -- the row that states a column's bound in the problem
 abbrev pub bound_line : Problem → ℕ → Side → ℕ

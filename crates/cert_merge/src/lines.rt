@@ -5,6 +5,7 @@ ghost use Rattle.derivation_book.specs.Legal.{AreProofMultipliers, IsLegalProof}
 ghost use Rattle.derivation_book.specs.Price.{HasPrice};
 ghost use Rattle.event_core.specs.States.{tree_of, box_of, cutoff, open_count};
 ghost use Rattle.cert_merge.specs.Endings.{AreClosings};
+ghost use Rattle.cert_merge.specs.Layout.{layout_of};
 ghost use Rattle.cert_merge.specs.Numbers.{IsNumbered};
 ghost use Rattle.cert_merge.specs.Merged.{label_of, labelled, absurd_row, goal_row, sense_for, branch_row, cut_line, node_multipliers, bound_reason, crossing, closed_line, split_line, for_node, node_of};
 ghost use Rattle.cert_merge.specs.Setters.{AreSettersOf};
@@ -12,6 +13,7 @@ ghost use Rattle.cert_rows.specs.declared.line.Why.TheVariants.{Asm, Lin};
 ghost use Rattle.node_events.specs.declared.proof.Proof.TheVariants.{Empty, Refute, Bound};
 
 use crate::closings::proof_at;
+use crate::layout::Layout;
 use crate::multipliers::{crossing, node_multipliers};
 use crate::numbers::{assumption_number, node_number};
 use crate::part::{labelled_row, unit_terms};
@@ -98,17 +100,19 @@ fn goal_row(
 fn crossed_line(
     alloc: Global,
     state: &State,
+    layout: Layout,
     setters: &Setters,
     node: u32,
     column: u32,
 ) -> Result<(CertRow, Why), AllocError>
     requires numbered { IsNumbered state.now.state }
+    requires laid { layout ≡ layout_of state.now.state }
     requires setters { AreSettersOf state.now.state node setters.now }
     requires there { column < length state.now.state.problem.spans }
     ensures { IfOk result (λ l. l ≡ for_node node (closed_line state.now.state node (Empty column))) }
 {
     let row = absurd_row(alloc, node);
-    let mult = crossing(alloc, state, setters, node, column)?;
+    let mult = crossing(alloc, state, layout, setters, node, column)?;
     Ok((row, Why::Lin { mult }))
 }
 
@@ -116,18 +120,20 @@ fn crossed_line(
 fn refuted_line(
     alloc: Global,
     state: &State,
+    layout: Layout,
     setters: &Setters,
     node: u32,
     mult: &Mult,
 ) -> Result<(CertRow, Why), AllocError>
     requires numbered { IsNumbered state.now.state }
+    requires laid { layout ≡ layout_of state.now.state }
     requires setters { AreSettersOf state.now.state node setters.now }
     requires multipliers { AreProofMultipliers state.now.state.problem state.now.state.cuts mult.now }
     requires priced { HasPrice state.now.state.problem state.now.state.cuts [] mult.now }
     ensures { IfOk result (λ l. l ≡ for_node node (closed_line state.now.state node (Refute mult.now))) }
 {
     let row = absurd_row(alloc, node);
-    let mult = node_multipliers(alloc, state, setters, node, &[], mult)?;
+    let mult = node_multipliers(alloc, state, layout, setters, node, &[], mult)?;
     Ok((row, Why::Lin { mult }))
 }
 
@@ -146,12 +152,14 @@ fn bound_reason(rounded: bool, mult: Terms) -> Why
 fn bounded_line(
     alloc: Global,
     state: &State,
+    layout: Layout,
     setters: &Setters,
     node: u32,
     mult: &Mult,
     rounded: bool,
 ) -> Result<(CertRow, Why), AllocError>
     requires numbered { IsNumbered state.now.state }
+    requires laid { layout ≡ layout_of state.now.state }
     requires setters { AreSettersOf state.now.state node setters.now }
     requires multipliers { AreProofMultipliers state.now.state.problem state.now.state.cuts mult.now }
     requires priced { HasPrice state.now.state.problem state.now.state.cuts state.now.state.problem.objective mult.now }
@@ -161,7 +169,7 @@ fn bounded_line(
     problem.limits_hold();
     let row = goal_row(alloc, problem, state.incumbent().cutoff(), node)?;
     let target = problem.objective().as_slice();
-    let mult = node_multipliers(alloc, state, setters, node, target, mult)?;
+    let mult = node_multipliers(alloc, state, layout, setters, node, target, mult)?;
     Ok((row, bound_reason(rounded, mult)))
 }
 
@@ -169,20 +177,22 @@ fn bounded_line(
 fn closed_line(
     alloc: Global,
     state: &State,
+    layout: Layout,
     setters: &Setters,
     node: u32,
     proof: &Proof,
 ) -> Result<(CertRow, Why), AllocError>
     requires numbered { IsNumbered state.now.state }
+    requires laid { layout ≡ layout_of state.now.state }
     requires setters { AreSettersOf state.now.state node setters.now }
     requires legal { IsLegalProof state.now.state.problem state.now.state.cuts (box_of state.now.state node) (cutoff state.now.state) proof.now }
     ensures { IfOk result (λ l. l ≡ for_node node (closed_line state.now.state node proof.now)) }
 {
     match proof {
-        Proof::Empty { column } => crossed_line(alloc, state, setters, node, *column),
-        Proof::Refute { mult } => refuted_line(alloc, state, setters, node, mult),
+        Proof::Empty { column } => crossed_line(alloc, state, layout, setters, node, *column),
+        Proof::Refute { mult } => refuted_line(alloc, state, layout, setters, node, mult),
         Proof::Bound { mult, rounded } => {
-            bounded_line(alloc, state, setters, node, mult, *rounded)
+            bounded_line(alloc, state, layout, setters, node, mult, *rounded)
         }
     }
 }
@@ -191,21 +201,23 @@ fn closed_line(
 fn split_line(
     alloc: Global,
     state: &State,
+    layout: Layout,
     node: u32,
     left: u32,
     right: u32,
 ) -> Result<(CertRow, Why), AllocError>
     requires numbered { IsNumbered state.now.state }
+    requires laid { layout ≡ layout_of state.now.state }
     requires left { left < length state.now.state.nodes }
     requires right { right < length state.now.state.nodes }
     ensures { IfOk result (λ l. l ≡ for_node node (split_line state.now.state (left, right))) }
 {
     let row = goal_row(alloc, state.problem(), state.incumbent().cutoff(), node)?;
     let why = Why::Uns {
-        i1: node_number(state, left),
-        l1: assumption_number(state, left),
-        i2: node_number(state, right),
-        l2: assumption_number(state, right),
+        i1: node_number(state, layout, left),
+        l1: assumption_number(state, layout, left),
+        i2: node_number(state, layout, right),
+        l2: assumption_number(state, layout, right),
     };
     Ok((row, why))
 }
@@ -214,12 +226,14 @@ fn split_line(
 pub fn node_line(
     alloc: Global,
     state: &State,
+    layout: Layout,
     closings: &[usize],
     setters: &Setters,
     node: u32,
 ) -> Result<(CertRow, Why), AllocError>
     requires ended { open_count state.now.state ≡ 0 }
     requires numbered { IsNumbered state.now.state }
+    requires laid { layout ≡ layout_of state.now.state }
     requires there { node < length state.now.state.nodes }
     requires places { AreClosings state.now.history closings.now }
     requires all { length closings.now ≡ length state.now.state.nodes }
@@ -228,10 +242,10 @@ pub fn node_line(
 {
     state.conditions_hold();
     match state.tree().children(node) {
-        Some((left, right)) => split_line(alloc, state, node, left, right),
+        Some((left, right)) => split_line(alloc, state, layout, node, left, right),
         None => {
             let proof = proof_at(state.history(), closings[node as usize], node);
-            closed_line(alloc, state, setters, node, proof)
+            closed_line(alloc, state, layout, setters, node, proof)
         }
     }
 }

@@ -8,10 +8,12 @@ ghost use Rattle.derivation_book.specs.Rounded.{is_zero};
 ghost use Rattle.derivation_book.specs.Legal.{AreProofMultipliers};
 ghost use Rattle.derivation_book.specs.Price.{HasPrice};
 ghost use Rattle.cert_merge.specs.Closing.{bound_multipliers};
+ghost use Rattle.cert_merge.specs.Layout.{layout_of};
 ghost use Rattle.cert_merge.specs.Numbers.{set_line, IsNumbered};
 ghost use Rattle.cert_merge.specs.Merged.{node_multipliers, crossing};
 ghost use Rattle.cert_merge.specs.Setters.{set_at, NameNodes, AreSettersOf, sources_by};
 
+use crate::layout::Layout;
 use crate::numbers::bound_number;
 use crate::setters::Setters;
 use event_core::State;
@@ -22,19 +24,33 @@ use problem::{Term, Terms};
 use std::alloc::{AllocError, Global};
 
 /// The line of a bound of a column in the box of the node whose setters these are.
-fn line_of(state: &State, setters: &Setters, column: u32, side: Side) -> u32
+fn line_of(state: &State, layout: Layout, setters: &Setters, column: u32, side: Side) -> u32
     requires numbered { IsNumbered state.now.state }
+    requires laid { layout ≡ layout_of state.now.state }
     requires columns { length setters.now ≡ length state.now.state.problem.spans }
     requires nodes { NameNodes (length state.now.state.nodes) setters.now }
     requires there { column < length setters.now }
     ensures { result ≡ set_line state.now.state column side (set_at setters.now column side) }
 {
-    bound_number(state, column, side, setters.get(column as usize, side))
+    bound_number(
+        state,
+        layout,
+        column,
+        side,
+        setters.get(column as usize, side),
+    )
 }
 
 /// What is left of a column, on the line of the bound that it goes to.
-fn bound_multiplier(state: &State, setters: &Setters, column: u32, left: Frac) -> (u32, Frac)
+fn bound_multiplier(
+    state: &State,
+    layout: Layout,
+    setters: &Setters,
+    column: u32,
+    left: Frac,
+) -> (u32, Frac)
     requires numbered { IsNumbered state.now.state }
+    requires laid { layout ≡ layout_of state.now.state }
     requires columns { length setters.now ≡ length state.now.state.problem.spans }
     requires nodes { NameNodes (length state.now.state.nodes) setters.now }
     requires there { column < length setters.now }
@@ -45,25 +61,27 @@ fn bound_multiplier(state: &State, setters: &Setters, column: u32, left: Frac) -
     } else {
         Side::High
     };
-    (line_of(state, setters, column, side), left)
+    (line_of(state, layout, setters, column, side), left)
 }
 
 /// Puts what is left of a column, if anything is, behind other multipliers.
 fn push_bound(
     items: &mut Vec<(u32, Frac)>,
     state: &State,
+    layout: Layout,
     setters: &Setters,
     column: u32,
     left: Frac,
 ) -> Result<(), AllocError>
     requires numbered { IsNumbered state.now.state }
+    requires laid { layout ≡ layout_of state.now.state }
     requires columns { length setters.now ≡ length state.now.state.problem.spans }
     requires nodes { NameNodes (length state.now.state.nodes) setters.now }
     requires there { column < length setters.now }
     ensures { OnOk result (items.new.items ≡ (if is_zero left then items.old.items else items.old.items ++ (if int_lt (pos 0) left.num then set_line state.now.state column Low (set_at setters.now column Low) else set_line state.now.state column High (set_at setters.now column High), left) ∷ [])) }
 {
     if left.numer() != 0 {
-        items.push(bound_multiplier(state, setters, column, left))?;
+        items.push(bound_multiplier(state, layout, setters, column, left))?;
     }
     Ok(())
 }
@@ -72,10 +90,12 @@ fn push_bound(
 fn bound_multipliers(
     alloc: Global,
     state: &State,
+    layout: Layout,
     setters: &Setters,
     costs: &[Frac],
 ) -> Result<Vec<(u32, Frac)>, AllocError>
     requires numbered { IsNumbered state.now.state }
+    requires laid { layout ≡ layout_of state.now.state }
     requires columns { length setters.now ≡ length state.now.state.problem.spans }
     requires nodes { NameNodes (length state.now.state.nodes) setters.now }
     requires costs { length costs.now ≡ length setters.now }
@@ -84,7 +104,7 @@ fn bound_multipliers(
     state.problem().limits_hold();
     let mut items = Vec::new(alloc);
     for (column, left) in costs.iter().enumerate() {
-        push_bound(&mut items, state, setters, column as u32, *left)?;
+        push_bound(&mut items, state, layout, setters, column as u32, *left)?;
     }
     Ok(items)
 }
@@ -113,12 +133,14 @@ fn sorted(alloc: Global, mut items: Vec<(u32, Frac)>) -> Result<Terms, AllocErro
 pub fn node_multipliers(
     alloc: Global,
     state: &State,
+    layout: Layout,
     setters: &Setters,
     _node: u32,
     target: &[Term],
     mult: &Mult,
 ) -> Result<Terms, AllocError>
     requires numbered { IsNumbered state.now.state }
+    requires laid { layout ≡ layout_of state.now.state }
     requires setters { AreSettersOf state.now.state _node setters.now }
     requires rising { AreRising target.now }
     requires multipliers { AreProofMultipliers state.now.state.problem state.now.state.cuts mult.now }
@@ -129,7 +151,7 @@ pub fn node_multipliers(
     let costs = state
         .book()
         .reduced_costs(alloc, state.problem(), target, mult)?;
-    let mut items = bound_multipliers(alloc, state, setters, &costs)?;
+    let mut items = bound_multipliers(alloc, state, layout, setters, &costs)?;
     push_all(&mut items, mult.as_slice())?;
     sorted(alloc, items)
 }
@@ -138,17 +160,25 @@ pub fn node_multipliers(
 pub fn crossing(
     alloc: Global,
     state: &State,
+    layout: Layout,
     setters: &Setters,
     _node: u32,
     column: u32,
 ) -> Result<Terms, AllocError>
     requires numbered { IsNumbered state.now.state }
+    requires laid { layout ≡ layout_of state.now.state }
     requires setters { AreSettersOf state.now.state _node setters.now }
     requires there { column < length state.now.state.problem.spans }
     ensures { IfOk result (λ m. m ≡ crossing state.now.state _node column) }
 {
-    let lower = (line_of(state, setters, column, Side::Low), Frac::of(1));
-    let upper = (line_of(state, setters, column, Side::High), Frac::of(-1));
+    let lower = (
+        line_of(state, layout, setters, column, Side::Low),
+        Frac::of(1),
+    );
+    let upper = (
+        line_of(state, layout, setters, column, Side::High),
+        Frac::of(-1),
+    );
     if lower.0 < upper.0 {
         Terms::make(alloc, &[lower, upper])
     } else {

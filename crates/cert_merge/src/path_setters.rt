@@ -22,7 +22,7 @@ pub struct PathSetters {
 }
 
 /// The branch that leads to a node that is there and isn't node 0.
-fn branch_to(tree: &Tree, node: u32) -> Branch
+pub fn branch_to(tree: &Tree, node: u32) -> Branch
     requires there { node < length tree.now.nodes }
     requires below { 0 < node }
     ensures { branch_at tree.now node ≡ Some result }

@@ -8,6 +8,7 @@
 //! - `guard`: what is looked at before a run.
 //! - `destination`, `part`, `target`: where a sink writes, and how that is opened without harm.
 //! - `retried`: reads and writes that a signal interrupts, and streams that don't block.
+//! - `gathered`: bytes that are gathered before they are written.
 //! - `file_source`, `file_sink`, `standard_output`: the source and the sinks.
 #![tactic(auto)]
 
@@ -16,6 +17,7 @@ mod descriptors;
 mod destination;
 mod file_sink;
 mod file_source;
+mod gathered;
 mod guard;
 mod head;
 mod inode;

@@ -1,6 +1,6 @@
 // One read and one write, each tried again where a signal interrupts it, and a write also where the stream takes nothing now. Every stream here
 // goes through them.
-ghost use Rattle.std.specs.Prelude.{◌≡◌, ◌≢◌, ◌≤◌, ◌<◌, ◌↔◌, length, take, IsTrue, IfOk, IfErr, OnErr};
+ghost use Rattle.std.specs.Prelude.{◌≡◌, ◌≢◌, ◌≤◌, ◌<◌, ◌↔◌, ℕ, length, take, IsTrue, IfOk, IfErr, OnOk, OnErr};
 ghost use Rattle.std.specs.Io.KnownBytes.{Appends, Consumes, IsAtEnd, Keeps};
 ghost use Rattle.std.specs.IoError.{error_kind};
 
@@ -60,4 +60,21 @@ pub(crate) fn write_some<R: Clock, W: Write>(
         }
     }
     Err(io::Error::from(ErrorKind::TimedOut))
+}
+
+/// Writes all of the bytes, in as many pieces as the stream takes them. It fails where a write does, or takes nothing; a prefix of the bytes was
+/// taken then.
+pub(crate) fn write_whole<R: Clock, W: Write>(clock: &R, to: &mut W, bytes: &[u8]) -> io::Result<()>
+    ensures whole { OnOk result (Appends (W.contents to.old) (W.contents to.new) bytes.now) }
+    ensures prefix { OnErr result ((n : ℕ) × Appends (W.contents to.old) (W.contents to.new) (take n bytes.now)) }
+{
+    let mut at = 0;
+    'pieces: while at < bytes.len() {
+        let count = write_some(clock, to, &bytes[at..])?;
+        if count == 0 {
+            return Err(io::Error::from(ErrorKind::WriteZero));
+        }
+        at += count;
+    }
+    Ok(())
 }

@@ -2,7 +2,7 @@
 ghost use Rattle.std.specs.Prelude.{◌≤◌, length, IfOk};
 
 use crate::part::Part;
-use crate::retried::write_some;
+use crate::retried::{write_some, write_whole};
 use file_entry::sync_entry;
 use std::fs::File;
 use std::io;
@@ -33,6 +33,16 @@ impl Target {
             Target::Own(file) => write_some(clock, file, piece),
             Target::Output(output) => write_some(clock, output, piece),
             Target::Error(error) => write_some(clock, error, piece),
+        }
+    }
+
+    /// Writes all of the bytes. Where that fails a prefix of them was taken.
+    pub(crate) fn write_whole<R: Clock>(&mut self, clock: &R, bytes: &[u8]) -> io::Result<()> {
+        match self {
+            Target::Part(part) => write_whole(clock, &mut part.file, bytes),
+            Target::Own(file) => write_whole(clock, file, bytes),
+            Target::Output(output) => write_whole(clock, output, bytes),
+            Target::Error(error) => write_whole(clock, error, bytes),
         }
     }
 

@@ -1,5 +1,5 @@
 // What no clause says: what the adapters do to real files, and that an interrupted call is tried again.
-use crate::retried::{read_some, write_some};
+use crate::retried::{read_some, write_some, write_whole};
 use crate::{Destination, FileSink, FileSource, Spared};
 use outside::{Got, Put, Sink, Source, write_all};
 use std::fs::File;
@@ -100,7 +100,7 @@ use Step::*;
 
 /// What a sink answers that writes three bytes to a place.
 fn put(rt: &HostRuntime, place: Destination<'_>) -> Put {
-    FileSink::new(rt, place).write(b"VER")
+    FileSink::new(rt.alloc(), rt, place).write(b"VER")
 }
 
 /// Whether a sink fails while somebody has the lock of a file.
@@ -170,16 +170,12 @@ fn is_sink<'a>(
     other: &'a Option<String>,
     steps: &[Step],
 ) -> bool {
-    let mut sink = FileSink::new(rt, place(rt, path, NONE));
+    let mut sink = FileSink::new(rt.alloc(), rt, place(rt, path, NONE));
     all_come(rt, (path, other), &mut sink, steps)
 }
 
-/// A sink that is let go before its end leaves the older file,
-const LET_GO: [Step; 3] = [
-    WriteAll(b"VER "),
-    Holds("old and long\n"),
-    OtherHolds("VER "),
-];
+/// A sink that is let go before its end leaves the older file, and less than a piece was not handed on,
+const LET_GO: [Step; 3] = [WriteAll(b"VER "), Holds("old and long\n"), OtherHolds("")];
 
 /// and one that is ended takes its place.
 const ENDED: [Step; 5] = [
@@ -206,6 +202,44 @@ fn sink(rt: HostRuntime) -> Result<(), Fail> {
     let part = part_of(&rt, &path);
     assert!(rt; replaces_at_its_end(&rt, &path, &part));
     assert!(rt; is_sink(&rt, &None, &None, &[WriteFails, WriteFails, Finish]));
+    Ok(())
+}
+
+/// Whether the file at a path has so many bytes.
+fn has_length(rt: &HostRuntime, path: &Option<String>, length: u64) -> bool {
+    matches!(fs::metadata(rt, text(path)), Ok(data) if data.len() == length)
+}
+
+/// Whether of more bytes than a piece has the first piece is handed on at once, and the rest at the end.
+fn hands_on_pieces<'a>(
+    rt: &'a HostRuntime,
+    path: &'a Option<String>,
+    part: &Option<String>,
+    bytes: &[u8],
+) -> bool {
+    let mut sink = FileSink::new(rt.alloc(), rt, place(rt, path, NONE));
+    write_all(&mut sink, bytes).is_ok()
+        && has_length(rt, part, 65_536)
+        && sink.finish().is_ok()
+        && has_length(rt, path, 70_000)
+}
+
+#[test]
+fn two_pieces(rt: HostRuntime) -> Result<(), Fail> {
+    let path = scratch(&rt, "pieces");
+    let part = part_of(&rt, &path);
+    let bytes = vec![in rt.alloc(); b'x'; 70_000]?;
+    assert!(rt; hands_on_pieces(&rt, &path, &part, &bytes) && remove(&rt, &path));
+    Ok(())
+}
+
+/// What was gathered doesn't fit, which shows at the end, and nothing is written behind that.
+const FULL: [Step; 4] = [Write, FinishFails, WriteFails, FinishFails];
+
+#[test]
+fn a_full_device(rt: HostRuntime) -> Result<(), Fail> {
+    let path = format!(in rt.alloc(); "/dev/full").ok();
+    assert!(rt; is_sink(&rt, &path, &None, &FULL));
     Ok(())
 }
 
@@ -518,5 +552,38 @@ fn calls_are_tried_again(rt: HostRuntime) -> Result<(), Fail> {
     assert!(rt; is_read_again());
     assert!(rt; is_written_again(&rt, ErrorKind::Interrupted));
     assert!(rt; is_written_again(&rt, ErrorKind::WouldBlock));
+    Ok(())
+}
+
+/// A stream with room for so many bytes, as on a disk that fills up.
+#[derive(Drop)]
+struct Small {
+    room: usize,
+}
+
+impl Write for Small {
+    fn write(&mut self, buf: &[u8]) -> io::Result<usize> {
+        if self.room == 0 {
+            return Err(io::Error::from(ErrorKind::StorageFull));
+        }
+        let count = buf.len().min(self.room);
+        self.room -= count;
+        Ok(count)
+    }
+
+    fn flush(&mut self) -> io::Result<()> {
+        Ok(())
+    }
+}
+
+/// Whether five bytes are written to a stream with so much room, which is full then.
+fn fills(rt: &HostRuntime, room: usize) -> bool {
+    let mut small = Small { room };
+    write_whole(rt, &mut small, b"abcde").is_ok() && small.room == 0
+}
+
+#[test]
+fn a_disk_is_full_in_the_middle_of_a_piece(rt: HostRuntime) -> Result<(), Fail> {
+    assert!(rt; fills(&rt, 5) && !fills(&rt, 3));
     Ok(())
 }

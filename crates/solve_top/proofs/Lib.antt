@@ -3,6 +3,7 @@ mod LongTexts
 mod Labels
 mod Uniqueness
 mod Keeping
+mod Feeding
 mod Searching
 mod Opened
 mod Completeness

@@ -13,6 +13,7 @@ use crate::ran::Ran;
 use crate::request::Request;
 use crate::show::show;
 use event_codec::laws::records_tell_apart;
+use mps_reader::Lent;
 use node_pool::Pool;
 use outside::{Disk, MemDisk, Source};
 use std::alloc::Global;
@@ -42,7 +43,7 @@ fn pool_is_ready<D: Disk>(pool: &Pool<D>, request: &Request)
 }
 
 // Begins to solve the model of the source, going on from the journal where the disk has one.
-fn solve<B: BuildHasher + Clone + Drop, S: Source, D: Disk>(
+fn solve<B: BuildHasher + Drop, S: Source, D: Disk>(
     alloc: Global,
     keys: B,
     request: &Request,
@@ -54,14 +55,11 @@ fn solve<B: BuildHasher + Clone + Drop, S: Source, D: Disk>(
     requires solves { request.now ≡ Request.Solve (limits_in request.now) upper }
     ensures { HasBegun request.now (source_change S.tells S.left S.faults model.old model.new) disk result }
 {
-    let Ok(again) = keys.clone() else {
-        return Begun::Over(Ran::refused(Refusal::Memory, disk));
-    };
-    let read = match read_model(alloc, keys, model, upper) {
+    let read = match read_model(alloc, Lent::of(&keys), model, upper) {
         Ok(read) => read,
         Err(refusal) => return Begun::Over(Ran::refused(refusal, disk)),
     };
-    match open_of(alloc, again, disk, read, upper, request.limits().nodes) {
+    match open_of(alloc, keys, disk, read, upper, request.limits().nodes) {
         Ok(pool) => {
             pool_is_ready(&pool, request);
             Begun::Search(pool)
@@ -92,7 +90,7 @@ fn resume<B: BuildHasher + Drop, D: Disk>(
 }
 
 // Begins to solve the model of a seed.
-fn drill<B: BuildHasher + Clone + Drop, D: Disk>(
+fn drill<B: BuildHasher + Drop, D: Disk>(
     alloc: Global,
     keys: B,
     seed: u32,
@@ -113,7 +111,7 @@ fn drill<B: BuildHasher + Clone + Drop, D: Disk>(
 }
 
 /// Begins a command.
-pub fn begin<B: BuildHasher + Clone + Drop, S: Source, D: Disk>(
+pub fn begin<B: BuildHasher + Drop, S: Source, D: Disk>(
     alloc: Global,
     keys: B,
     request: &Request,

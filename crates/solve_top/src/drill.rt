@@ -10,6 +10,7 @@ use crate::model::{Model, problem_of};
 use crate::opening::open_of;
 use crate::outcome::Refusal;
 use drill_instance::generate;
+use mps_reader::Lent;
 use node_pool::Pool;
 use outside::MemDisk;
 use std::alloc::Global;
@@ -28,7 +29,7 @@ fn drilled_model<B: BuildHasher + Drop>(alloc: Global, keys: B, seed: u32) -> Re
 }
 
 /// The pool of the search of a seed's model, with its journal on a disk in memory. What that disk may fail for is want of memory.
-pub fn drilled_pool<B: BuildHasher + Clone + Drop>(
+pub fn drilled_pool<B: BuildHasher + Drop>(
     alloc: Global,
     keys: B,
     seed: u32,
@@ -43,9 +44,8 @@ pub fn drilled_pool<B: BuildHasher + Clone + Drop>(
     ensures halt { IfOk result (λ p. p.halt ≡ None) }
     ensures refused { IfErr result (IsRefusedDrill seed) }
 {
-    let again = keys.clone()?;
-    let model = drilled_model(alloc, keys, seed)?;
-    match open_of(alloc, again, MemDisk::new(alloc), model, None, nodes) {
+    let model = drilled_model(alloc, Lent::of(&keys), seed)?;
+    match open_of(alloc, keys, MemDisk::new(alloc), model, None, nodes) {
         Ok(pool) => Ok(pool),
         Err((_, _)) => Err(Refusal::Memory),
     }

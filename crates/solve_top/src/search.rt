@@ -1,8 +1,10 @@
 // Ends a search: writes the certificate of one that is finished.
-ghost use Rattle.std.specs.Prelude.{◌≡◌, ◌<◌, ◌++◌, true, false, Some, None, All, OnOk, OnErr};
+ghost use Rattle.std.specs.Prelude.{◌≡◌, ◌<◌, ◌++◌, true, false, Some, None, All, OnOk, OnErr, length};
 ghost use Rattle.outside.specs.Faults.{Counts};
 ghost use Rattle.outside.specs.Images.{AtRest, IsImage};
 ghost use Rattle.outside.specs.Stream.{AppendsPrefix};
+ghost use Rattle.cert_rows.specs.declared.certificate.Cert.{Cert};
+ghost use Rattle.cert_rows.specs.Feeds.{with_lines};
 ghost use Rattle.cert_rows.specs.Validity.{IsValid};
 ghost use Rattle.cert_merge.specs.Merged.{merged};
 ghost use Rattle.event_core.specs.States.{open_count};
@@ -10,7 +12,7 @@ ghost use Rattle.core_search.specs.Endings.{IsSpent};
 ghost use Rattle.core_search.specs.Pools.{is_disk};
 ghost use Rattle.vipr_print.specs.Printed.{is_sink_fault};
 ghost use Rattle.vipr_print.specs.Spelling.{text_of};
-ghost use Rattle.vipr_print.specs.Unique.{IsWord, SpellsOnly};
+ghost use Rattle.vipr_print.specs.Unique.{IsWord, HasShortNumbers, SpellsOnly};
 ghost use Rattle.solve_top.specs.Begun.{IsEnded, IsSearchedSince};
 ghost use Rattle.solve_top.specs.Requests.{limits_in};
 ghost use Rattle.solve_top.specs.Changes.{SinkChange, Stays, TakesNothing, sink_change};
@@ -21,8 +23,8 @@ use crate::outcome::{Answer, Refusal};
 use crate::output::{finished_text, spent_text};
 use crate::ran::Ran;
 use crate::request::Request;
-use cert_merge::merge;
-use cert_rows::Cert;
+use cert_merge::feed;
+use cert_rows::{CertHead, LineFeed};
 use cert_tree::laws::finished_searches_are_certified;
 use core_search::Ending;
 use core_search::laws::splits_have_points;
@@ -31,39 +33,44 @@ use event_core::laws::journals_are_legal;
 use node_pool::Pool;
 use outside::{Disk, Failed, Sink};
 use std::alloc::Global;
-use vipr_print::laws::{numbers_are_short, texts_spell_one_certificate, valid_points_are_whole};
-use vipr_print::{PrintFault, print};
+use vipr_print::laws::{texts_spell_one_certificate, valid_points_are_whole};
+use vipr_print::{PrintFault, print_feed};
 
-// No other certificate has the text of a valid one, where the names of the problem are words. It has no effect, and LLVM leaves nothing of
-// it: its contract is for callers' proofs.
+// No other certificate has the text of a valid one with short numbers, where the names of the problem are words. It has no effect, and LLVM
+// leaves nothing of it: its contract is for callers' proofs.
 #[tactic(auto, using(crate::proofs::Uniqueness::spells_only))]
-fn text_spells_no_other(state: &State, certificate: &Cert)
-    requires names { All IsWord state.now.state.problem.names }
-    requires merged { certificate.now ≡ merged state.now.state.problem state.now.history }
-    requires valid { IsValid state.now.state.problem certificate.now }
-    ensures { SpellsOnly certificate.now }
+fn text_spells_no_other(state: &State)
+    requires { All IsWord state.now.state.problem.names }
+    ensures { (c : Cert) → c ≡ merged state.now.state.problem state.now.history → IsValid state.now.state.problem c → HasShortNumbers c → SpellsOnly c }
 {
     valid_points_are_whole(state.problem());
-    numbers_are_short(certificate);
     texts_spell_one_certificate();
 }
 
-// Writes the certificate to a sink that keeps it. After an error a prefix of it was taken, which is all of it where the sink fails at the end.
+// Writes the certificate of a head and of a feed's lines to a sink that keeps it. After an error a prefix of it was taken, which is all of it where
+// the sink fails at the end.
 #[tactic(auto, using(crate::proofs::Keeping::whole_is_prefix))]
-fn keep<C: Sink>(alloc: Global, certificate: &Cert, cert: &mut C) -> Result<(), PrintFault>
-    ensures whole { C.tells ≡ true → OnOk result (C.taken cert.new ≡ C.taken cert.old ++ text_of certificate.now) }
+fn keep<F: LineFeed, C: Sink>(
+    alloc: Global,
+    head: &CertHead,
+    feed: &mut F,
+    cert: &mut C,
+) -> Result<(), PrintFault>
+    requires { head.now.lines ≡ length (F.lines feed.old) }
+    ensures whole { C.tells ≡ true → OnOk result (C.taken cert.new ≡ C.taken cert.old ++ text_of (with_lines head.now (F.lines feed.old))) }
     ensures kept { C.tells ≡ true → OnOk result (C.kept cert.new ≡ C.taken cert.new) }
-    ensures prefix { C.tells ≡ true → OnErr result (AppendsPrefix (C.taken cert.old) (C.taken cert.new) (text_of certificate.now)) }
+    ensures prefix { C.tells ≡ true → OnErr result (AppendsPrefix (C.taken cert.old) (C.taken cert.new) (text_of (with_lines head.now (F.lines feed.old)))) }
     ensures cause { Counts (C.faults cert.old) (C.faults cert.new) (is_sink_fault result) }
+    ensures short { OnOk result (HasShortNumbers (with_lines head.now (F.lines feed.old))) }
 {
-    print(alloc, certificate, cert)?;
+    print_feed(alloc, head, feed, cert)?;
     match cert.finish() {
         Ok(()) => Ok(()),
         Err(Failed) => Err(PrintFault::Sink),
     }
 }
 
-// Writes the certificate of a search that is finished, and makes the lines that are due then.
+// Writes the certificate of a search that is finished, line by line, and makes the lines that are due then.
 fn certify<C: Sink>(
     alloc: Global,
     state: &State,
@@ -77,16 +84,16 @@ fn certify<C: Sink>(
 {
     state.conditions_hold();
     finished_searches_are_certified(state.problem());
-    let certificate = merge(alloc, state)?;
+    text_spells_no_other(state);
+    let (head, mut feed) = feed(alloc, state)?;
     let lines = finished_text(
         alloc,
         request,
-        &certificate.claim,
+        &head.claim,
         state.tree().len(),
         state.book().len(),
     )?;
-    text_spells_no_other(state, &certificate);
-    match keep(alloc, &certificate, cert) {
+    match keep(alloc, &head, &mut feed, cert) {
         Ok(()) => Ok(Answer::Done(lines)),
         Err(PrintFault::Sink) => Err(Refusal::Sink),
         Err(PrintFault::Memory) => Err(Refusal::Memory),

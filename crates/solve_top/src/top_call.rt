@@ -26,7 +26,7 @@ use std::sync::Wait;
 use std::thread::Threads;
 
 // Does what is asked for, but for telling what came of it. One worker searches.
-fn perform_alone<B: BuildHasher + Clone + Drop, S: Source, D: Disk, C: Sink>(
+fn perform_alone<B: BuildHasher + Drop, S: Source, D: Disk, C: Sink>(
     alloc: Global,
     keys: B,
     request: &Request,
@@ -55,7 +55,7 @@ fn perform_alone<B: BuildHasher + Clone + Drop, S: Source, D: Disk, C: Sink>(
 // The same, but as many workers search as are asked for.
 fn perform_by_crew<
     R: Threads + Wait + Sync,
-    B: BuildHasher + Clone + Drop,
+    B: BuildHasher + Drop,
     S: Source,
     D: Disk + Send,
     C: Sink,
@@ -125,7 +125,7 @@ fn tell<D, O: Sink>(alloc: Global, ran: Ran<D, Result<Answer, Refusal>>, out: &m
 /// The state at which the search ended is handed back on 0, 7 and 8, and on 6 and 9 where it had begun.
 ///
 /// All that is promised of a run is `KeepsPromise` of `specs/Headline`, fact by fact.
-pub fn run_one<B: BuildHasher + Clone + Drop, S: Source, D: Disk, C: Sink, O: Sink>(
+pub fn run_one<B: BuildHasher + Drop, S: Source, D: Disk, C: Sink, O: Sink>(
     alloc: Global,
     keys: B,
     words: &Words,
@@ -164,7 +164,7 @@ pub fn run_one<B: BuildHasher + Clone + Drop, S: Source, D: Disk, C: Sink, O: Si
 /// this returns: a worker waits for its turn. Each of them asks `hold` before it claims a node.
 pub fn run<
     R: Threads + Wait + Sync,
-    B: BuildHasher + Clone + Drop,
+    B: BuildHasher + Drop,
     S: Source,
     D: Disk + Send,
     C: Sink,

@@ -1,5 +1,6 @@
 pub mod Sequence
 pub mod EachPart
+pub mod Feeding
 pub mod Words
 pub mod Splitting
 pub mod ListedPoints

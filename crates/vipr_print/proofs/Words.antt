@@ -7,10 +7,10 @@ use Rattle.std.proofs.lemmas.List.Elements.{All-nil, All-cons, All-head, All-tai
 use Rattle.std.specs.Fmt.{decimal, signed_decimal}
 use Rattle.std.specs.Str.Parse.{digits_value}
 use Rattle.fraction.specs.Rational.{ℚ}
-use Rattle.fraction.specs.Lemmas.Rational.{ℚ_same}
 use Rattle.fraction.specs.Spelling.{fraction_text}
 use Rattle.vipr_print.specs.Lemmas.Numerals.{decimal_all, decimal_word}
 use Rattle.vipr_print.specs.Unique.{IsWord, IsShort, IsShortFraction}
+use Rattle.fraction.specs.Lemmas.Rational.{same_by_parts}
 
 -- ---- splitting
 -- the text ends, or goes on with another byte
@@ -97,16 +97,13 @@ over_same true false m n i j p q e = absurd (omega (arith, ap (λ t. get_or t 0 
 over_same false true m n i j p q e = absurd (omega (arith, ap (λ t. get_or t 0 0) e))
 over_same false false m n i j p q e = decimal_same m n p q (ap (drop 1) e)
 
-same_parts : (x y : ℚ) → x.num ≡ y.num → x.den ≡ y.den → x ≡ y
-same_parts x y n d = ℚ_same x y cc
-
 fraction_same : (x y : ℚ) → IsShortFraction x → IsShortFraction y → fraction_text x ≡ fraction_text y → x ≡ y
 fraction_same x y p q e =
     let k = split (λ c. c ≡ 47 → ⊥) (signed_decimal x.num) (signed_decimal y.num) (over x.den) (over y.den)
     (signed_all (λ c. c ≡ 47 → ⊥) (λ h. omega (arith, h)) (λ c h i. omega (arith, h, i)) x.num)
     (signed_all (λ c. c ≡ 47 → ⊥) (λ h. omega (arith, h)) (λ c h i. omega (arith, h, i)) y.num)
     (over_leaves (eqb x.den 1) x.den) (over_leaves (eqb y.den 1) y.den) (sym (fraction_is x) ∙ e ∙ fraction_is y) in
-    same_parts x y (signed_same x.num y.num p.num q.num k.0) (over_same (eqb x.den 1) (eqb y.den 1) x.den y.den refl refl p.den q.den k.1)
+    same_by_parts x y (signed_same x.num y.num p.num q.num k.0) (over_same (eqb x.den 1) (eqb y.den 1) x.den y.den refl refl p.den q.den k.1)
 
 fraction_word : (x : ℚ) → IsWord (fraction_text x)
 fraction_word x = subst IsWord (sym (fraction_is x)) (All-append (λ b. 32 < b) (signed_decimal x.num) (over x.den) (signed_word x.num) (over_word (eqb x.den 1) x.den))

@@ -2,6 +2,7 @@
 #![tactic(auto)]
 
 mod fault;
+mod from_feed;
 pub mod laws;
 mod lines;
 mod pieces;
@@ -9,5 +10,6 @@ mod printing;
 mod sizes;
 
 pub use fault::PrintFault;
+pub use from_feed::print_feed;
 pub use pieces::push_number;
 pub use printing::print;

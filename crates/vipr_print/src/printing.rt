@@ -67,7 +67,12 @@ fn print_rows<C: Sink>(sink: &mut C, line: &mut Vec<u8>, part: &Part) -> Result<
     print_each_row(sink, line, rows)
 }
 
-fn print_problem<C: Sink>(sink: &mut C, line: &mut Vec<u8>, part: &Part) -> Result<(), PrintFault>
+/// The problem part.
+pub fn print_problem<C: Sink>(
+    sink: &mut C,
+    line: &mut Vec<u8>,
+    part: &Part,
+) -> Result<(), PrintFault>
     ensures { IsPrinted C.tells (C.taken sink.old) (C.taken sink.new) (C.faults sink.old) (C.faults sink.new) (problem_text part.now) result }
 {
     print_names(sink, line, &part.names)?;
@@ -88,7 +93,8 @@ fn print_each_point<C: Sink>(
     Ok(())
 }
 
-fn print_claimed<C: Sink>(
+/// The claim, and the points.
+pub fn print_claimed<C: Sink>(
     sink: &mut C,
     line: &mut Vec<u8>,
     claim: &Goal,

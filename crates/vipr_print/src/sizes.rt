@@ -1,8 +1,11 @@
 // Numbers in memory have at most 64 digits. Each part of a certificate is read, since what a type says of a number is known where it is read.
-ghost use Rattle.std.specs.Prelude.{All, nat_abs};
-ghost use Rattle.vipr_print.specs.Unique.{IsShortFraction, IsShortTerm, IsShortList, IsShortRow, IsShortReason, IsShortLine, IsShortClaim, IsShortPoint, IsShort};
+ghost use Rattle.std.specs.Prelude.{◌≡◌, All, List, length, nat_abs};
+ghost use Rattle.cert_rows.specs.declared.line.CertRow.{CertRow};
+ghost use Rattle.cert_rows.specs.declared.line.Why.{Why};
+ghost use Rattle.cert_rows.specs.Feeds.{with_lines};
+ghost use Rattle.vipr_print.specs.Unique.{IsShortFraction, IsShortTerm, IsShortList, IsShortRow, IsShortReason, IsShortLine, IsShortClaim, IsShortPoint, IsShort, HasShortNumbers};
 
-use cert_rows::{CertRow, Goal, Why};
+use cert_rows::{CertHead, CertRow, Goal, Why};
 use fraction::Frac;
 use problem::{Point, Term};
 
@@ -19,8 +22,8 @@ fn term_is_short(term: &Term)
     fraction_is_short(term.coefficient());
 }
 
-/// Each number of these terms has at most 64 digits, and so has their count.
-pub fn terms_are_short(terms: &[Term])
+// Each number of these terms has at most 64 digits, and so has their count.
+fn terms_are_short(terms: &[Term])
     ensures { IsShortList terms.now }
 {
     for term in terms {
@@ -35,8 +38,8 @@ fn row_is_short(row: &CertRow)
     terms_are_short(row.terms.as_slice());
 }
 
-/// Each number of these rows has at most 64 digits.
-pub fn rows_are_short(rows: &[CertRow])
+// Each number of these rows has at most 64 digits.
+fn rows_are_short(rows: &[CertRow])
     ensures { All IsShortRow rows.now }
 {
     for row in rows {
@@ -44,8 +47,8 @@ pub fn rows_are_short(rows: &[CertRow])
     }
 }
 
-/// Each number of the claim has at most 64 digits.
-pub fn claim_is_short(claim: &Goal)
+// Each number of the claim has at most 64 digits.
+fn claim_is_short(claim: &Goal)
     ensures { IsShortClaim claim.now }
 {
     match claim {
@@ -57,8 +60,8 @@ pub fn claim_is_short(claim: &Goal)
     }
 }
 
-/// Each number of these points has at most 64 digits.
-pub fn points_are_short(points: &[Point])
+// Each number of these points has at most 64 digits.
+fn points_are_short(points: &[Point])
     ensures { All IsShortPoint points.now }
 {
     for point in points {
@@ -80,16 +83,8 @@ fn number_is_short(number: &i64)
     let _value = *number;
 }
 
-/// Each number of these lines has at most 64 digits.
-pub fn lines_are_short(lines: &[(CertRow, Why)])
-    ensures { All IsShortLine lines.now }
-{
-    for line in lines {
-        line_is_short(line);
-    }
-}
-
-fn line_is_short(line: &(CertRow, Why))
+/// Each number of this line has at most 64 digits.
+pub fn line_is_short(line: &(CertRow, Why))
     ensures { IsShortLine line.now }
 {
     row_is_short(&line.0);
@@ -108,4 +103,16 @@ fn reason_is_short(reason: &Why)
             let _second = (*i2, *l2);
         }
     }
+}
+
+/// No number of a certificate with this head has more than 64 digits, where that holds of its derived lines.
+pub fn head_is_short(head: &CertHead)
+    ensures { (ls : List (CertRow × Why)) → length ls ≡ head.now.lines → All IsShortLine ls → HasShortNumbers (with_lines head.now ls) }
+{
+    let _columns = head.part.names.len();
+    let _lines = head.lines;
+    terms_are_short(head.part.objective.as_slice());
+    rows_are_short(head.part.rows.as_slice());
+    claim_is_short(&head.claim);
+    points_are_short(head.points.as_slice());
 }

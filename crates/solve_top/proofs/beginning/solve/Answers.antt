@@ -6,25 +6,15 @@ use Rattle.solve_top.specs.Changes.{disk_change, source_change}
 use Rattle.solve_top.specs.Models.{record_of}
 use Rattle.solve_top.specs.Requests.{HasRanges}
 use Rattle.solve_top.proofs.Continuing.{came_to_nothing, went_on}
-use Rattle.solve_top.proofs.Opened.{kept_untouched, no_new_event, own_content}
+use Rattle.solve_top.proofs.Opened.{kept_untouched, own_content}
 use Rattle.solve_top.proofs.Owning.{solve_about, solve_began, solve_no_event, solve_own_model, solve_read, solve_refuses, solve_spared}
 use Rattle.solve_top.proofs.Performing.{alone_by, alone_searched, unread}
 use Rattle.solve_top.proofs.beginning.solve.Goals as goal
 
-pub returns-in_default : goal.returns-in_default
-returns-in_default g c = (
-  c.refused.ensures.last,
-  λ cert nothing unwritten. rw (c.refused.ensures.status, c.refused.ensures.disk) (record {
-    alone = alone_by c.args.request.now _ _ (record { none = refl; same = refl }) refl;
-    outcome = ((refl, refl, no_new_event c.args.request.now _ _ (record { none = refl; same = refl })), nothing, unwritten);
-    journal = λ told rests. kept_untouched g.D.Disk.tells g.D.Disk.past g.D.Disk.now g.D.Disk.count c.args.disk c.args.disk (record { none = refl; same = refl }) rests _;
-  }),
-)
-
 pub returns-in-Err : goal.returns-in-Err
 returns-in-Err g c = (
-  c.refused-in-Err.ensures.last,
-  λ cert nothing unwritten. rw (c.refused-in-Err.ensures.status, c.refused-in-Err.ensures.disk) (record {
+  c.refused.ensures.last,
+  λ cert nothing unwritten. rw (c.refused.ensures.status, c.refused.ensures.disk) (record {
     alone = alone_by c.args.request.now _ _ (record { none = refl; same = refl }) refl;
     outcome = unread c.args.request.now _ c.args.upper c.requires.solves (source_change g.S.Source.tells g.S.Source.left g.S.Source.faults c.args.model.now c.read_model.new.model)
         (disk_change g.D.Disk.tells g.D.Disk.past g.D.Disk.now g.D.Disk.count c.args.disk c.args.disk) cert c.in-Err.refusal c.in-Err.ensures refl (record { none = refl; same = refl }) nothing unwritten;
@@ -34,7 +24,7 @@ returns-in-Err g c = (
 
 pub returns-in-Ok-open_of : goal.returns-in-Ok-open_of
 returns-in-Ok-open_of g c =
-    let read = c.in-Ok-read_model in
+    let read = c.in-Ok in
     let opened = c.in-Ok-open_of in
     let pool = opened.pool in
     let m = source_change g.S.Source.tells g.S.Source.left g.S.Source.faults c.args.model.now c.read_model.new.model in (
@@ -57,7 +47,7 @@ returns-in-Ok-open_of g c =
 
 pub returns-in-Err-open_of : goal.returns-in-Err-open_of
 returns-in-Err-open_of g c =
-    let read = c.in-Ok-read_model in
+    let read = c.in-Ok in
     let refused = c.in-Err-open_of in
     let m = source_change g.S.Source.tells g.S.Source.left g.S.Source.faults c.args.model.now c.read_model.new.model in
     let d = disk_change g.D.Disk.tells g.D.Disk.past g.D.Disk.now g.D.Disk.count c.args.disk refused.disk in

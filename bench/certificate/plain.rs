@@ -1,0 +1,58 @@
+// The plain program beside the certificate's last part: it has the numbers of a certificate's lines in memory, and writes the same text through a
+// buffer of 64 KiB into a file, which it syncs.
+//
+//   plain CERTIFICATE OUT     prints the processor seconds of the writing
+use std::fs::File;
+use std::io::{BufWriter, Write};
+
+/// A word of a line: a number, or text as it stands.
+enum Word {
+    Number(i64),
+    Text(String),
+}
+
+fn word(text: &str) -> Word {
+    match text.parse::<i64>() {
+        Ok(number) if number.to_string() == text => Word::Number(number),
+        _ => Word::Text(text.to_string()),
+    }
+}
+
+fn write_line(out: &mut BufWriter<File>, line: &[Word]) -> std::io::Result<()> {
+    for (place, word) in line.iter().enumerate() {
+        if place > 0 {
+            out.write_all(b" ")?;
+        }
+        match word {
+            Word::Number(number) => write!(out, "{number}")?,
+            Word::Text(text) => out.write_all(text.as_bytes())?,
+        }
+    }
+    out.write_all(b"\n")
+}
+
+/// What this process has used of the processor so far, in seconds: a tick is a hundredth.
+fn processor_seconds() -> std::io::Result<f64> {
+    let told = std::fs::read_to_string("/proc/self/stat")?;
+    let behind_name = told.rsplit(") ").next().unwrap_or("");
+    let ticks = behind_name.split(' ').skip(11).take(2);
+    Ok(ticks.map(|ticks| ticks.parse::<f64>().unwrap_or(0.0)).sum::<f64>() / 100.0)
+}
+
+fn main() -> std::io::Result<()> {
+    let mut words = std::env::args().skip(1);
+    let (from, to) = (words.next().unwrap(), words.next().unwrap());
+    let text = std::fs::read_to_string(from)?;
+    let lines: Vec<Vec<Word>> = text
+        .lines()
+        .map(|line| line.split(' ').map(word).collect())
+        .collect();
+    let start = processor_seconds()?;
+    let mut out = BufWriter::with_capacity(1 << 16, File::create(to)?);
+    for line in &lines {
+        write_line(&mut out, line)?;
+    }
+    out.into_inner()?.sync_all()?;
+    println!("{}", processor_seconds()? - start);
+    Ok(())
+}
