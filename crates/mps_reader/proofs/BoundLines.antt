@@ -18,6 +18,7 @@ use Rattle.mps_lines.specs.declared.values.Value.TheVariants as value
 use Rattle.mps_reader.specs.BoundLines.{is_negative, with_limits, summary_of}
 use Rattle.mps_reader.specs.Lemmas.Limits.{is_modest}
 use Rattle.problem.specs.Limits.{largest_bound, finest}
+use Rattle.fraction.specs.Lemmas.Integers.{abs-neg}
 
 -- ---- the summary has the values that are defined
 pub record Gives (name : List ℕ) (bounds : List Bound) (l : ColumnBounds) : Type 0 where
@@ -85,15 +86,12 @@ pub floor_small : (q : ℚ) → is_modest q ≡ true → nat_abs (floor q) ≤ l
 unfolding floor
 floor_small q h = floor_div_small q.num q.den q.lowest.0 (size_of q h)
 
-neg_size : (z : ℤ) → nat_abs (neg_ℤ z) ≡ nat_abs z
-neg_size z = omega (arith, ints)
-
 pub ceil_small : (q : ℚ) → is_modest q ≡ true → nat_abs (ceil q) ≤ largest_bound
 unfolding ceil
 ceil_small q h =
     let s = size_of q h in
-    let f = floor_div_small (neg_ℤ q.num) q.den q.lowest.0 (omega (arith, neg_size q.num, s)) in
-    omega (arith, f, neg_size (floor_div (neg_ℤ q.num) q.den))
+    let f = floor_div_small (neg_ℤ q.num) q.den q.lowest.0 (omega (arith, abs-neg q.num, s)) in
+    omega (arith, f, abs-neg (floor_div (neg_ℤ q.num) q.den))
 
 -- ---- a number of a line
 module _ (field : List ℕ) (q : ℚ) (h : IsValue field (value.Finite q)) where

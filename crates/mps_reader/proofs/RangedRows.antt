@@ -1,9 +1,8 @@
 -- Lemmas: the rows of the problem, where a ranged row gives two.
-use Rattle.std.specs.Prelude.{◌≡◌, ℕ, ◌+◌, ◌*◌, ◌≤◌, ℤ, pos, neg_ℤ, nat_abs, Bool, true, false, if◌then◌else◌, cond, List, ◌∷◌, ◌++◌, Option, Some, None, All, IfSome, int_lt, []}
+use Rattle.std.specs.Prelude.{◌≡◌, ℕ, ◌+◌, ◌*◌, ◌≤◌, pos, neg_ℤ, Bool, true, false, if◌then◌else◌, cond, List, ◌∷◌, ◌++◌, Option, Some, None, All, IfSome, int_lt, []}
 use Rattle.std.specs.List.{flat_map}
 use Rattle.std.specs.Option.{unwrap_or}
 use Rattle.std.proofs.Common.{refl, sym, ap, ◌∙◌, arith, subst}
-use Rattle.std.proofs.lemmas.Int.{ints}
 use Rattle.std.proofs.lemmas.List.Elements.{All-nil, All-cons, All-append}
 use Rattle.fraction.specs.Gcd.{gcd}
 use Rattle.fraction.specs.Rational.{ℚ, whole, ◌+ℚ◌, neg_ℚ}
@@ -25,6 +24,7 @@ use Rattle.mps_reader.specs.Words.{value_under}
 use Rattle.mps_reader.specs.declared.kinds.RowType.{RowType}
 use Rattle.mps_reader.specs.declared.kinds.RowType.TheVariants as row
 use Rattle.mps_reader.specs.RangedRows.{IsTextNumber}
+use Rattle.fraction.specs.Lemmas.Integers.{abs-neg}
 
 -- the rows that a row of the text gives, by its side, its range and its terms
 abbrev pub ranged_row : List (List ℕ × (ℕ × ℚ)) → List (List ℕ × ℚ) → List (List ℕ × ℚ) → List ℕ × RowType → List Row
@@ -38,14 +38,11 @@ pub rows_are : (entries : List Entry) (rhs ranges : List (List ℕ × List ℕ))
 rows_are entries rhs ranges [] = refl
 rows_are entries rhs ranges (r ∷ rows) = λ i. row_is entries rhs ranges r i ++ rows_are entries rhs ranges rows i
 
-neg_size : (z : ℤ) → nat_abs (neg_ℤ z) ≡ nat_abs z
-neg_size z = omega (arith, ints)
-
 pub neg_held : (q : ℚ) → IsTextNumber q → IsTextNumber (neg_ℚ q)
 neg_held q h =
-    let n : ℚ = record { num = neg_ℤ q.num; den = q.den; lowest = (q.lowest.0, ap (λ k. gcd k q.den) (neg_size q.num) ∙ q.lowest.1) } in
+    let n : ℚ = record { num = neg_ℤ q.num; den = q.den; lowest = (q.lowest.0, ap (λ k. gcd k q.den) (abs-neg q.num) ∙ q.lowest.1) } in
     subst (λ (x : ℚ). IsTextNumber x) (sym (neg_ℚ_is q ∙ sym (ℚ_is n)))
-    (record { divides = h.divides; size = subst (λ k. k * finest ≤ largest_bound * finest * q.den) (sym (neg_size q.num)) h.size })
+    (record { divides = h.divides; size = subst (λ k. k * finest ≤ largest_bound * finest * q.den) (sym (abs-neg q.num)) h.size })
 
 pub abs_held : (q : ℚ) → IsTextNumber q → IsTextNumber (abs_ℚ q)
 abs_held q h = by (int_lt q.num (pos 0))

@@ -4,7 +4,7 @@ ghost use Rattle.std.specs.Prelude.{◌≡◌};
 
 use std::hash::BuildHasher;
 
-/// Keys that are lent.
+/// Keys of a hash that are lent, so that several tables or readers share them. Its hashers are theirs.
 pub struct Lent<'a, B: BuildHasher> {
     keys: &'a B,
 }

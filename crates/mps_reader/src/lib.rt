@@ -29,6 +29,7 @@ mod steps;
 mod tables;
 mod words;
 
+pub use keys::Lent;
 pub use kinds::Kind;
 pub use mps::{TEXT_LIMIT, read_mps};
 pub use reading::ReadFault;

@@ -1,5 +1,6 @@
 -- What the source and the sink in memory hold.
-use Rattle.std.specs.Prelude.{ℕ, List, take, drop}
+use Rattle.std.specs.Prelude.{◌≡◌, ℕ, List, Bool, take, drop}
+use Rattle.outside.specs.Failing.{one_more, is_listed}
 use Rattle.outside.specs.declared.mem_source.MemSource.{MemSource}
 use Rattle.outside.specs.declared.mem_sink.MemSink.{MemSink}
 
@@ -46,3 +47,19 @@ source_most s = s.most
 -- how many bytes a write takes at most
 abbrev pub sink_most : MemSink → ℕ
 sink_most s = s.most
+
+-- the test for a source whose next call is to fail
+abbrev pub source_is_to_fail : MemSource → Bool
+source_is_to_fail s = is_listed s.failing.items s.calls
+
+-- There was one more call, and the same calls are to fail as before.
+abbrev pub SourceTried : MemSource → MemSource → Type 0
+SourceTried before after = (after.calls ≡ one_more before.calls) × (after.failing.items ≡ before.failing.items) × (after.most ≡ before.most)
+
+-- the test for a sink whose next call is to fail
+abbrev pub sink_is_to_fail : MemSink → Bool
+sink_is_to_fail s = is_listed s.failing.items s.calls
+
+-- There was one more call, and the same calls are to fail as before.
+abbrev pub SinkTried : MemSink → MemSink → Type 0
+SinkTried before after = (after.calls ≡ one_more before.calls) × (after.failing.items ≡ before.failing.items) × (after.most ≡ before.most)

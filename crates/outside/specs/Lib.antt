@@ -1,4 +1,5 @@
 pub mod Choice
+pub mod Failing
 pub mod Faults
 pub mod Images
 pub mod InMemory

@@ -1,5 +1,6 @@
 -- What a disk in memory tells.
-use Rattle.std.specs.Prelude.{ℕ, List, Option, length}
+use Rattle.std.specs.Prelude.{◌≡◌, ℕ, List, Option, Bool, ◌||◌, length}
+use Rattle.outside.specs.Failing.{one_more, is_listed, is_stopped}
 use Rattle.outside.specs.Images.{resting}
 use Rattle.outside.specs.Replay.{replay, moments}
 use Rattle.outside.specs.declared.moment.Moment.{Moment}
@@ -32,3 +33,11 @@ disk_failing d = d.failing.items
 -- the call from which on each fails
 abbrev pub disk_stop : MemDisk → Option ℕ
 disk_stop d = d.stop
+
+-- the test for a disk whose next call is to fail
+abbrev pub disk_is_to_fail : MemDisk → Bool
+disk_is_to_fail d = is_stopped d.stop d.tried || is_listed d.failing.items d.tried
+
+-- One call was tried, and the same calls are to fail as before.
+abbrev pub DiskTried : MemDisk → MemDisk → Type 0
+DiskTried before after = (after.tried ≡ one_more before.tried) × (after.failing.items ≡ before.failing.items) × (after.stop ≡ before.stop)

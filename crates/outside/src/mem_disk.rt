@@ -1,8 +1,8 @@
 // A disk in memory, for tests. It keeps what it had at first and each call, and tells from these what a crash might leave.
-ghost use Rattle.std.specs.Prelude.{◌≡◌, ◌+◌, ◌<◌, ◌≤◌, ◌++◌, [], ◌∷◌, List, ℕ, true, length, take, drop, OnOk, OnErr, IfOk, Some, None};
+ghost use Rattle.std.specs.Prelude.{◌≡◌, ◌+◌, ◌^◌, ◌<◌, ◌≤◌, ◌++◌, [], ◌∷◌, List, ℕ, true, length, take, drop, OnOk, OnErr, IfOk, Some, None};
 ghost use Rattle.outside.specs.Faults.{Counts};
 ghost use Rattle.outside.specs.Replay.{replay, moments};
-ghost use Rattle.outside.specs.Images.{IsImage, resting, overwritten};
+ghost use Rattle.outside.specs.Images.{IsImage, resting, overwritten, moment_after_write, moment_after_cut, moment_after_sync, NoMomentPasses, OneMomentPasses};
 
 use crate::replayed::{Replayed, overwrite};
 use crate::{Disk, Failed};
@@ -57,7 +57,7 @@ fn note_write(
 }
 
 impl MemDisk {
-    ghost use Rattle.outside.specs.OnDisk.{disk_past, disk_now, disk_ticks, disk_count, disk_failing, disk_stop, disk_calls};
+    ghost use Rattle.outside.specs.OnDisk.{disk_past, disk_now, disk_ticks, disk_count, disk_failing, disk_stop, disk_calls, disk_is_to_fail, DiskTried};
 
     /// An empty disk, of which no call is to fail.
     pub fn new(alloc: Global) -> MemDisk
@@ -175,7 +175,10 @@ impl MemDisk {
         now.image(alloc, wish)
     }
 
+    /// Counts a call, and tells whether it is to fail.
     fn turn_fails(&mut self) -> bool
+        ensures fails { result ≡ disk_is_to_fail self.old }
+        ensures tried { DiskTried self.old self.new }
         ensures past { disk_past self.new ≡ disk_past self.old }
         ensures now { disk_now self.new ≡ disk_now self.old }
         ensures ticks { disk_ticks self.new ≡ disk_ticks self.old }
@@ -190,7 +193,11 @@ impl MemDisk {
         stopped || self.failing.contains(&call)
     }
 
+    /// Counts a fault.
     fn fail(&mut self) -> Failed
+        ensures calls { disk_calls self.new ≡ disk_calls self.old }
+        ensures failing { disk_failing self.new ≡ disk_failing self.old }
+        ensures stop { disk_stop self.new ≡ disk_stop self.old }
         ensures past { disk_past self.new ≡ disk_past self.old }
         ensures now { disk_now self.new ≡ disk_now self.old }
         ensures ticks { disk_ticks self.new ≡ disk_ticks self.old }
@@ -202,8 +209,8 @@ impl MemDisk {
 }
 
 impl Disk for MemDisk {
-    ghost use Rattle.std.specs.Prelude.{true};
-    ghost use Rattle.outside.specs.OnDisk.{disk_past, disk_now, disk_ticks, disk_count};
+    ghost use Rattle.std.specs.Prelude.{true, is_err};
+    ghost use Rattle.outside.specs.OnDisk.{disk_past, disk_now, disk_ticks, disk_count, disk_is_to_fail, DiskTried};
     ghost use Rattle.outside.specs.Lemmas.OnDisk.{ticks_are, seen_is};
 
     ghost tells = { true };
@@ -220,14 +227,31 @@ impl Disk for MemDisk {
 
     ghost seen_is_image = { λ d told. seen_is d };
 
-    fn size(&mut self) -> Result<u64, Failed> {
+    fn size(&mut self) -> Result<u64, Failed>
+        ensures told { IfOk result (λ n. n ≡ length (disk_now self.old).seen) }
+        ensures stands { NoMomentPasses (disk_past self.old) (disk_now self.old) (disk_past self.new) (disk_now self.new) }
+        ensures clock { disk_ticks self.new ≡ disk_ticks self.old }
+        ensures cause { Counts (disk_count self.old) (disk_count self.new) (is_err result) }
+        ensures tried { DiskTried self.old self.new }
+        // It fails exactly where it is to fail.
+        ensures fails { is_err result ≡ disk_is_to_fail self.old }
+    {
         if self.turn_fails() {
             return Err(self.fail());
         }
         Ok(self.bytes.len() as u64)
     }
 
-    fn read_at(&mut self, at: u64, buf: &mut [u8]) -> Result<(), Failed> {
+    fn read_at(&mut self, at: u64, buf: &mut [u8]) -> Result<(), Failed>
+        requires { at + length buf.old ≤ length (disk_now self.old).seen }
+        ensures told { OnOk result (buf.new ≡ take (length buf.old) (drop at (disk_now self.old).seen)) }
+        ensures stands { NoMomentPasses (disk_past self.old) (disk_now self.old) (disk_past self.new) (disk_now self.new) }
+        ensures clock { disk_ticks self.new ≡ disk_ticks self.old }
+        ensures cause { Counts (disk_count self.old) (disk_count self.new) (is_err result) }
+        ensures tried { DiskTried self.old self.new }
+        // It fails exactly where it is to fail.
+        ensures fails { is_err result ≡ disk_is_to_fail self.old }
+    {
         if self.turn_fails() {
             return Err(self.fail());
         }
@@ -238,7 +262,17 @@ impl Disk for MemDisk {
     }
 
     #[tactic(auto, using(crate::specs::Lemmas::Replay::replay_push, crate::specs::Lemmas::Replay::moments_push))]
-    fn write_at(&mut self, at: u64, bytes: &[u8]) -> Result<(), Failed> {
+    fn write_at(&mut self, at: u64, bytes: &[u8]) -> Result<(), Failed>
+        requires { at ≤ length (disk_now self.old).seen }
+        ensures done { OnOk result (OneMomentPasses (disk_past self.old) (disk_now self.old) (disk_past self.new) (disk_now self.new) (moment_after_write at bytes.now (disk_now self.old))) }
+        ensures failed { OnErr result (NoMomentPasses (disk_past self.old) (disk_now self.old) (disk_past self.new) (disk_now self.new)) }
+        ensures cause { Counts (disk_count self.old) (disk_count self.new) (is_err result) }
+        ensures tried { DiskTried self.old self.new }
+        // It fails where it is to fail.
+        ensures fails { disk_is_to_fail self.old ≡ true → is_err result ≡ true }
+        // It fails where the disk would have 2^63 bytes.
+        ensures full { 2 ^ 63 ≤ at + length bytes.now → is_err result ≡ true }
+    {
         if self.turn_fails() {
             return Err(self.fail());
         }
@@ -252,7 +286,15 @@ impl Disk for MemDisk {
     }
 
     #[tactic(auto, using(crate::specs::Lemmas::Replay::replay_push, crate::specs::Lemmas::Replay::moments_push))]
-    fn cut(&mut self, size: u64) -> Result<(), Failed> {
+    fn cut(&mut self, size: u64) -> Result<(), Failed>
+        requires { size ≤ length (disk_now self.old).seen }
+        ensures done { OnOk result (OneMomentPasses (disk_past self.old) (disk_now self.old) (disk_past self.new) (disk_now self.new) (moment_after_cut size (disk_now self.old))) }
+        ensures failed { OnErr result (NoMomentPasses (disk_past self.old) (disk_now self.old) (disk_past self.new) (disk_now self.new)) }
+        ensures cause { Counts (disk_count self.old) (disk_count self.new) (is_err result) }
+        ensures tried { DiskTried self.old self.new }
+        // It fails where it is to fail.
+        ensures fails { disk_is_to_fail self.old ≡ true → is_err result ≡ true }
+    {
         if self.turn_fails() {
             return Err(self.fail());
         }
@@ -264,7 +306,15 @@ impl Disk for MemDisk {
     }
 
     #[tactic(auto, using(crate::specs::Lemmas::Replay::replay_push, crate::specs::Lemmas::Replay::moments_push))]
-    fn sync(&mut self) -> Result<(), Failed> {
+    fn sync(&mut self) -> Result<(), Failed>
+        ensures done { OnOk result (OneMomentPasses (disk_past self.old) (disk_now self.old) (disk_past self.new) (disk_now self.new) (moment_after_sync (disk_now self.old))) }
+        ensures failed { OnErr result (NoMomentPasses (disk_past self.old) (disk_now self.old) (disk_past self.new) (disk_now self.new)) }
+        ensures seen { (disk_now self.new).seen ≡ (disk_now self.old).seen }
+        ensures cause { Counts (disk_count self.old) (disk_count self.new) (is_err result) }
+        ensures tried { DiskTried self.old self.new }
+        // It fails where it is to fail.
+        ensures fails { disk_is_to_fail self.old ≡ true → is_err result ≡ true }
+    {
         if self.turn_fails() {
             return Err(self.fail());
         }

@@ -106,8 +106,10 @@ impl MemSink {
 }
 
 impl Sink for MemSink {
-    ghost use Rattle.std.specs.Prelude.{true};
-    ghost use Rattle.outside.specs.InMemory.{sink_taken, sink_kept, sink_faults};
+    ghost use Rattle.std.specs.Prelude.{true, OnOk, OnErr, is_err};
+    ghost use Rattle.outside.specs.Faults.{Counts};
+    ghost use Rattle.outside.specs.InMemory.{sink_taken, sink_kept, sink_faults, sink_most, sink_is_to_fail, SinkTried};
+    ghost use Rattle.outside.specs.Stream.{IsPut, Appends, failed_write};
 
     ghost tells = { true };
 
@@ -117,7 +119,17 @@ impl Sink for MemSink {
 
     ghost kept = { sink_kept };
 
-    fn write(&mut self, piece: &[u8]) -> Put {
+    fn write(&mut self, piece: &[u8]) -> Put
+        requires { 0 < length piece.now }
+        ensures bound { IsPut (length piece.now) result }
+        ensures most { IsPut (sink_most self.old) result }
+        ensures bytes { Appends (sink_taken self.old) (sink_taken self.new) piece.now result }
+        ensures kept { sink_kept self.new ≡ sink_kept self.old }
+        ensures cause { Counts (sink_faults self.old) (sink_faults self.new) (failed_write result) }
+        ensures tried { SinkTried self.old self.new }
+        // It fails where it is to fail.
+        ensures fails { sink_is_to_fail self.old ≡ true → failed_write result ≡ true }
+    {
         let call = self.calls;
         self.calls = self.calls.saturating_add(1);
         let count = piece.len().min(self.most);
@@ -128,7 +140,15 @@ impl Sink for MemSink {
         Put::Took(count)
     }
 
-    fn finish(&mut self) -> Result<(), Failed> {
+    fn finish(&mut self) -> Result<(), Failed>
+        ensures bytes { sink_taken self.new ≡ sink_taken self.old }
+        ensures kept { OnOk result (sink_kept self.new ≡ sink_taken self.new) }
+        ensures still { OnErr result (sink_kept self.new ≡ sink_kept self.old) }
+        ensures cause { Counts (sink_faults self.old) (sink_faults self.new) (is_err result) }
+        ensures tried { SinkTried self.old self.new }
+        // It fails exactly where it is to fail.
+        ensures fails { is_err result ≡ sink_is_to_fail self.old }
+    {
         let call = self.calls;
         self.calls = self.calls.saturating_add(1);
         if self.failing.contains(&call) {

@@ -92,7 +92,9 @@ impl MemSource {
 
 impl Source for MemSource {
     ghost use Rattle.std.specs.Prelude.{true};
-    ghost use Rattle.outside.specs.InMemory.{source_left, source_faults};
+    ghost use Rattle.outside.specs.Faults.{Counts};
+    ghost use Rattle.outside.specs.InMemory.{source_left, source_faults, source_most, source_is_to_fail, SourceTried};
+    ghost use Rattle.outside.specs.Stream.{IsGot, ReadsFrom, failed_read};
 
     ghost tells = { true };
 
@@ -100,7 +102,16 @@ impl Source for MemSource {
 
     ghost faults = { source_faults };
 
-    fn read(&mut self, buf: &mut [u8]) -> Got {
+    fn read(&mut self, buf: &mut [u8]) -> Got
+        requires { 0 < length buf.old }
+        ensures bound { IsGot (length buf.new) result }
+        ensures most { IsGot (source_most self.old) result }
+        ensures bytes { ReadsFrom (source_left self.old) (source_left self.new) buf.new result }
+        ensures cause { Counts (source_faults self.old) (source_faults self.new) (failed_read result) }
+        ensures tried { SourceTried self.old self.new }
+        // It fails exactly where it is to fail.
+        ensures fails { failed_read result ≡ source_is_to_fail self.old }
+    {
         let call = self.calls;
         self.calls = self.calls.saturating_add(1);
         if self.failing.contains(&call) {

@@ -68,6 +68,11 @@ pub(crate) fn usual<'a>(line: &'a str, model: &'a str) -> Command<'a> {
 }
 
 impl Command<'_> {
+    /// Whether one worker does it: none of its words asks for more.
+    pub(crate) fn is_by_one(&self) -> bool {
+        !self.line.split(' ').any(|word| word == "--workers")
+    }
+
     /// What it is given besides its disk.
     pub(crate) fn given(&self, alloc: Global) -> Result<Given, AllocError> {
         let model = self.source.source(alloc, self.model)?;
@@ -174,12 +179,16 @@ impl Answered {
         Ok(self.disk.bytes().to_vec(alloc)?)
     }
 
-    /// Whether another command answered the same, and left the same.
-    pub(crate) fn is_same(&self, other: &Answered) -> bool {
+    /// Whether another command answered the same.
+    pub(crate) fn answers_as(&self, other: &Answered) -> bool {
         self.status == other.status
             && self.given.cert.bytes() == other.given.cert.bytes()
             && self.given.out.bytes() == other.given.out.bytes()
-            && self.disk.bytes() == other.disk.bytes()
+    }
+
+    /// Whether another command answered the same, and left the same.
+    pub(crate) fn is_same(&self, other: &Answered) -> bool {
+        self.answers_as(other) && self.disk.bytes() == other.disk.bytes()
     }
 }
 

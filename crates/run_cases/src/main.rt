@@ -1,15 +1,18 @@
-//! Whole runs in pieces, runs whose source, sink or disk fails, commands over journals and their groups, and commands with several workers.
+//! Whole runs in pieces, runs whose source, sink or disk fails, commands over journals, their groups and changed copies, and commands with several
+//! workers.
 //! The gate compares what it prints with `stdout`.
 #![tactic(auto)]
 
+mod altered;
 mod command;
+mod disk_faults;
+mod faults;
 mod groups;
 mod journals;
 mod kinds;
 mod models;
 mod runs;
 mod shown;
-mod stops;
 mod workers;
 
 use anyhow::Result;
@@ -17,8 +20,10 @@ use anyhow::Result;
 fn main(rt: HostRuntime) -> Result<()> {
     runs::show(&rt)?;
     journals::show_first(&rt)?;
-    stops::show(&rt)?;
     journals::show_others(&rt)?;
     groups::show(&rt)?;
+    altered::show(&rt)?;
+    faults::show(&rt)?;
+    disk_faults::show(&rt)?;
     workers::show(&rt)
 }

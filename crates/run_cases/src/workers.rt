@@ -65,7 +65,7 @@ fn work_given<R: Threads + Wait + Sync, H: Hold + Sync>(
 }
 
 /// Runs a command on a disk, with its workers in threads.
-fn work_on<R: Threads + Wait + Sync, H: Hold + Sync>(
+pub(crate) fn work_on<R: Threads + Wait + Sync, H: Hold + Sync>(
     rt: &R,
     alloc: Global,
     command: &Command<'_>,
