@@ -1,9 +1,10 @@
 -- Events that settle the node that is held, and those that close it.
-use Rattle.std.specs.Prelude.{◌≡◌, ◌<◌, ◌≤◌, ◌+◌, ℕ, Bool, true, false, ◌||◌, nat_lt, List, length, refl}
-use Rattle.std.proofs.Common.{ap, arith}
+use Rattle.std.specs.Prelude.{◌≡◌, ◌<◌, ◌≤◌, ◌+◌, ℕ, true, false, ◌||◌, nat_lt, List, [], length, Result, OnOk, OnErr, refl}
+use Rattle.std.proofs.Common.{ap, ◌∙◌, arith}
 use Rattle.std.proofs.lemmas.Bool.Decides.{Decides-ltb}
 use Rattle.event_core.specs.States.{State, box_of}
 use Rattle.event_core.specs.Histories.{state_from, AreLegalFrom}
+use Rattle.event_core.specs.Rooms.{Recorded}
 use Rattle.expand.specs.declared.settlement.Branching.{Branching}
 use Rattle.expand.specs.declared.settlement.Settlement.{Settlement}
 use Rattle.expand.specs.declared.settlement.Settlement.TheVariants.{Separated, Closed, Improved, Branched}
@@ -12,20 +13,18 @@ use Rattle.expand.specs.Settlements.{events_of, IsSettlement}
 use Rattle.expand.specs.Lemmas.Events.{settlement_legal}
 use Rattle.expand.specs.Lemmas.Rooms.{IsNotSeparated}
 use Rattle.node_pool.specs.Halting.{spends}
+use Rattle.node_pool.specs.Lemmas.Budgets.{or_false}
 use Rattle.core_search.specs.Holding.{IsHeldAlone}
 use Rattle.core_search.specs.declared.open_node.OpenNode.{OpenNode}
-use Rattle.core_search.specs.Visits.{nodes_left}
+use Rattle.core_search.specs.Visits.{Makes, nodes_left}
 use Rattle.core_search.specs.Processing.{IsClosing}
 use Rattle.core_search.proofs.Acting.{yours}
+use Rattle.core_search.proofs.Stepping.{on_either}
 
 pub settles_legally : (s : State) (i : ℕ) (g : Settlement) → IsHeldAlone s i → IsSettlement s (box_of s i) g → AreLegalFrom s (entries_of 0 (events_of i g))
 settles_legally s i g held h = settlement_legal s 0 i g held.opened (yours s i held) h
 
 -- ---- a split and the budget
-or_false : (b : Bool) → b || false ≡ true → b ≡ true
-or_false true e = refl
-or_false false e = e
-
 module _ (budget nodes i : ℕ) (b : Branching) where
   pub split_spends : budget < nodes + 2 → spends budget nodes (events_of i (Branched b)) ≡ true
   split_spends l = ap (λ t. t || false) ((Decides-ltb budget (nodes + 2)).1 l)
@@ -51,6 +50,11 @@ closing_cuts s i (Separated mults) k = absurd k
 closing_cuts s i (Closed proof) k = refl
 closing_cuts s i (Improved x proof) k = refl
 closing_cuts s i (Branched b) k = absurd k
+
+-- what closing keeps of a state, and no event changes
+pub either_keeps : {A E B : Type 0} (part : State → B) (i : ℕ) (g : Settlement) (s t : Recorded) (r : Result A E) → part (state_from s.state (entries_of 0 (events_of i g))) ≡ part s.state
+    → OnOk r (Makes (events_of i g) s t) → OnErr r (Makes [] s t) → part t.state ≡ part s.state
+either_keeps part i g s t r keeps = on_either r (λ h. ap part h.state ∙ keeps) (λ h. ap part h.state)
 
 pub closing_unspent : (budget nodes i : ℕ) (g : Settlement) → IsClosing g → spends budget nodes (events_of i g) ≡ true → ⊥
 closing_unspent budget nodes i (Separated mults) k e = absurd k

@@ -36,5 +36,3 @@ settled_fits limit s box (Solved k x mult v column) = no_cuts_fit limit s _ (wit
 settled_fits limit s box (Loose reason j b) = no_cuts_fit limit s _ (without_cuts s box limit (Loose reason j b) (λ mults e. cc))
 
 -- one after the other
-pub joined_few : (limit a b c : ℕ) → b ≤ max limit a → c ≤ max limit b → c ≤ max limit a
-joined_few limit a b c h k = grind arith

@@ -1,8 +1,6 @@
 -- The laws of the record of a model.
 use Rattle.std.proofs.Common.{◌≡◌, ◌∙◌, ℕ, Bool, true, false, cond, eqb, List, [], ◌∷◌, ◌++◌, Option, Some, None, Result, Ok, Err, refl, sym, ap, subst, arith}
-use Rattle.std.specs.Prelude.{ℤ, pos, negsuc, int_le, IfOk, IfSome}
-use Rattle.std.specs.Int.{w64}
-use Rattle.std.specs.Int.RustNames.{FitsSigned}
+use Rattle.std.specs.Prelude.{ℤ, pos, int_le, IfOk, IfSome}
 use Rattle.std.proofs.lemmas.Bool.{eqb-true, eq-eqb}
 use Rattle.std.proofs.lemmas.Int.{ints}
 use Rattle.fraction.specs.Lemmas.Checked.{num_zero}
@@ -18,6 +16,7 @@ use Rattle.event_codec.proofs.Binds.{bind_ok, test_ok, ok_then}
 use Rattle.event_codec.proofs.Numbers.{IsBytes}
 use Rattle.event_codec.proofs.Fields.{Takes, Takes-then, IsField, at_place, byte_field, flag_field, i64_field}
 use Rattle.problem.specs.Limits.{largest_bound}
+use Rattle.event_codec.specs.Lemmas.Uppers.{upper_fits}
 
 -- the bound that a flag and a number say
 abbrev upper_of : Bool → ℤ → Option ℤ
@@ -53,10 +52,6 @@ upper_takes p q x fits e =
     let both = Takes-then p.rest (flag_code a.0.0) a.0.1.rest (i64_code b.0.0) b.0.1.rest flag.0 upper.0 in
     let taken : Takes p.rest (upper_code (upper_of a.0.0 b.0.0)) b.0.1.rest = subst (λ (y : List ℕ). Takes p.rest y b.0.1.rest) (sym s.0) both in
     ok_then (λ (y : Option ℤ × Place). Takes p.rest (upper_code y.0) y.1.rest × IfSome y.0 IsUpper) (upper_of a.0.0 b.0.0, b.0.1) (x, q) t.1 (taken, s.1)
-
-upper_fits : (z : ℤ) → IsUpper z → FitsSigned w64 z
-upper_fits (pos n) is = record { sfits = omega (arith, ints) }
-upper_fits (negsuc n) is = absurd (omega (arith, ints))
 
 upper_again : (x : Option ℤ) (place : ℕ) (rest : List ℕ) → IfSome x IsUpper → (to : ℕ) × (upper_at (at_place place (upper_code x ++ rest)) ≡ Ok (x, at_place to rest))
 unfolding upper_at

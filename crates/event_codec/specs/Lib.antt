@@ -6,3 +6,4 @@ pub mod Reading
 pub mod Models
 pub mod Groups
 pub mod Laws
+pub mod Lemmas

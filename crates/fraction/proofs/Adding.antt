@@ -10,7 +10,7 @@ use Rattle.fraction.specs.Rational.{ℚ, frac}
 use Rattle.fraction.specs.Lemmas.Rational.{+ℚ_over, quotient_positive}
 use Rattle.std.proofs.Math.Nat.{mul-pos}
 use Rattle.fraction.specs.Checked.{small_integer, small_natural, is_small, add_fits, add_checked}
-use Rattle.fraction.proofs.Casts.{back}
+use Rattle.fraction.specs.Lemmas.Integers.{back128}
 
 pub none_guard : {A : Type 0} (b : Bool) (v : A) → None ≡ (if b then Some v else None) → b ≡ false
 none_guard true v e = cc
@@ -27,7 +27,7 @@ small_of w z e = some_guard (is_small z) z w e
 pub back_small : (w z : ℤ) → Some w ≡ small_integer z → to_z w128 (of_z w128 w) ≡ z
 back_small w z e =
     let s = small_of w z e in
-    ap (λ v. to_z w128 (of_z w128 v)) s.1 ∙ back z (grind (arith, s.0))
+    ap (λ v. to_z w128 (of_z w128 v)) s.1 ∙ back128 z (grind (arith, s.0))
 
 -- so its bits are of a small number
 pub small_bits : (w z : ℤ) → Some w ≡ small_integer z → nat_abs (to_z w128 (of_z w128 w)) < 2 ^ 127

@@ -1,17 +1,11 @@
 -- Numbers that were passed as bits, and what code computes of them.
-use Rattle.std.proofs.Common.{◌≡◌, ℕ, ◌<◌, ◌^◌, ◌/◌, ℤ, pos, to_z, of_z, ap, ◌∙◌}
+use Rattle.std.proofs.Common.{◌≡◌, ℕ, ◌<◌, ◌/◌, ℤ, pos, ap, ◌∙◌}
 use Rattle.std.specs.Prelude.{nat_abs, int_div}
-use Rattle.std.specs.Int.{w128}
-use Rattle.std.proofs.lemmas.Int.{to_z-of_z, fits_signed_from_abs}
 use Rattle.fraction.specs.Gcd.{gcd}
 use Rattle.fraction.specs.Rational.{signed_as, frac}
 use Rattle.fraction.specs.Lemmas.Rational.{inv_lowest, frac-reduced}
 use Rattle.fraction.specs.Lowest.{IsLowest}
 use Rattle.fraction.specs.Lemmas.Lowest.{lowest_after}
-
--- a number that is small is itself after a cast to bits and back
-pub back : (z : ℤ) → nat_abs z < 2 ^ 127 → to_z w128 (of_z w128 z) ≡ z
-back z h = to_z-of_z w128 z (fits_signed_from_abs w128 z h)
 
 module _ (z y x q p : ℤ) (d a g e : ℕ) (ey : y ≡ z) (ea : a ≡ nat_abs y) (eg : g ≡ gcd a d) (ex : x ≡ z) (eq : q ≡ int_div x (pos g)) (ep : p ≡ q) (ee : e ≡ d / g) where
   divisor : g ≡ gcd (nat_abs z) d

@@ -5,6 +5,7 @@ mod Sums
 mod ExactPivots
 mod Keeping
 mod RatioTest
+mod Candidates
 mod Violations
 mod Places
 mod Combining

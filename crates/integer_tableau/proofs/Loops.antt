@@ -20,9 +20,6 @@ back64 z h = to_z-of_z w64 z (fits_signed_from_abs w64 z h)
 pub back64_within : (z : ℤ) → nat_abs z ≤ size_limit - 1 → to_z w64 (of_z w64 z) ≡ z
 back64_within z h = back64 z (omega arith)
 
-pub back128 : (z : ℤ) → nat_abs z < 2 ^ 127 → to_z w128 (of_z w128 z) ≡ z
-back128 z h = to_z-of_z w128 z (fits_signed_from_abs w128 z h)
-
 pub difference_is : (x y p q : ℤ) → nat_abs x ≤ 2 ^ 125 → nat_abs y ≤ 2 ^ 125 → x ≡ p → y ≡ q
     → to_z w128 (of_z w128 (to_z w128 (of_z w128 x) -ℤ to_z w128 (of_z w128 y))) ≡ p -ℤ q
 difference_is x y p q h k e f = omega (arith, ints)

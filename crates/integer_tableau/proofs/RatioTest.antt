@@ -61,7 +61,7 @@ above t e = grind (arith, ints)
 under : (t : ℤ) → int_lt t (pos 0) ≡ true → 0 < nat_abs t
 under t e = grind (arith, ints)
 
-entry_there : (w : Direction) (s : BasisStatus) (t : ℤ) → is_eligible_numerator w s t ≡ true → 0 < nat_abs t
+pub entry_there : (w : Direction) (s : BasisStatus) (t : ℤ) → is_eligible_numerator w s t ≡ true → 0 < nat_abs t
 entry_there w Basic t e = cc
 entry_there Rise AtLower t e = above t e
 entry_there Rise AtUpper t e = under t e

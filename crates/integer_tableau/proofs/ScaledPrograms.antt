@@ -3,7 +3,6 @@ use Rattle.std.proofs.Common.{◌≡◌, ℕ, suc, ◌+◌, ◌-◌, ◌<◌, ar
 use Rattle.std.specs.Prelude.{ℤ, nat_lt, if◌then◌else◌}
 use Rattle.std.proofs.lemmas.Bool.{cases_lt}
 use Rattle.std.proofs.lemmas.List.{ext_get_or, get_or-map, get_or_past, length-map}
-use borrow.Author.Tests.{lt-ltb, le-ltb}
 use Rattle.fraction.specs.Rational.{whole}
 use Rattle.tableau.specs.Leaving.{unbounded}
 use Rattle.tableau.specs.LinearProgram.{LinearProgram}
@@ -12,15 +11,9 @@ use Rattle.integer_tableau.specs.IntegerProgram.{fraction_program}
 use Rattle.integer_tableau.specs.IntegerTableau.{fraction_bounds}
 use Rattle.integer_tableau.specs.Scales.{AreScaledBounds, AreScaledRows, Scales, all_bounds, scale_at, scaled_by, unscaled_bounds, unscaled_program, unscaled_row, unscaled_rows}
 use Rattle.integer_tableau.specs.declared.integer_bounds.IntegerBounds.{IntegerBounds}
+use Rattle.integer_tableau.specs.Lemmas.Scales.{column_scale, row_scale}
 
 -- ---- scales
-pub column_scale : (columns : ℕ) (scales : List ℕ) (i : ℕ) → i < columns → scale_at columns scales i ≡ 1
-column_scale columns scales i l = ap (λ b. if b then 1 else get_or scales (i - columns) 1) (lt-ltb i columns l)
-
-row_scale : (columns : ℕ) (scales : List ℕ) (i : ℕ) → scale_at columns scales (columns + i) ≡ get_or scales i 1
-row_scale columns scales i =
-    ap (λ b. if b then 1 else get_or scales (columns + i - columns) 1) (le-ltb (columns + i) columns (omega arith)) ∙ ap (λ n. get_or scales n 1) (let e : columns + i - columns ≡ i = omega arith in e)
-
 pub scale_positive : (columns : ℕ) (scales : List ℕ) (i : ℕ) → ((i : ℕ) → i < length scales → 0 < get_or scales i 1) → 0 < scale_at columns scales i
 scale_positive columns scales i h = step (nat_lt i columns)
   where

@@ -8,7 +8,9 @@ use Rattle.std.proofs.Math.Seq.{take-append_seam}
 use Rattle.std.proofs.Math.Nat.{mul-le-mul_right, le-div_iff_mul-le}
 use Rattle.integer_tableau.specs.Numbers.{IsWithin, number_at}
 use Rattle.integer_tableau.specs.Range.{size_limit}
-use Rattle.integer_tableau.specs.Substitution.{IsSolvedFor, IsSubstituted, IsSubstitutedRow, quotient_numerator, substituted_size}
+use Rattle.integer_tableau.specs.Substitution.{IsSolvedFor, IsSubstituted, IsSubstitutedRow, substituted_size}
+use Rattle.fraction.specs.Lemmas.Integers.{abs-neg}
+use Rattle.integer_tableau.specs.Lemmas.Fractions.{abs-negative_quotient}
 
 size_step : (t d r e s q : ℤ) (top most : ℕ) → 0 < nat_abs d → t *ℤ d ≡ r *ℤ e +ℤ s *ℤ q → nat_abs r ≤ top → nat_abs s ≤ most
     → nat_abs t ≤ (top * nat_abs e + most * nat_abs q) / nat_abs d
@@ -37,13 +39,6 @@ pub substituted_within : (row source new : List ℤ) (d e q d' : ℤ) (k top mos
 substituted_within row source new d e q d' k top most b same o h s step is j = rw (is, same) (size_step (number_at new j) d _ e _ q top most o (step j) (set_within row k top h j) (s j))
 
 -- ---- the solved row
-abs-neg : (a : ℤ) → nat_abs (neg_ℤ a) ≡ nat_abs a
-abs-neg a = omega (arith, ints)
-
-abs-negative_quotient : (p a : ℤ) → nat_abs (quotient_numerator p a) ≡ nat_abs a
-abs-negative_quotient (pos p) a = abs-neg a
-abs-negative_quotient (negsuc p) a = refl
-
 pub solved_within : (row new : List ℤ) (p : ℤ) (k top d : ℕ) → k < length row → IsWithin top row → IsSolvedFor p k d row new → IsWithin (max top d) new
 solved_within row new p k top d l h turn j = rw (turn j, abs-negative_quotient p (number_at (set row k (neg_ℤ (pos d))) j)) (elim (cases_eq j k) [
   | inl q ↦ rw (q, get_or-set_same row k (neg_ℤ (pos d)) (pos 0) l, abs-neg (pos d)) (omega arith)

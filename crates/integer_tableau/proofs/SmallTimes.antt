@@ -1,6 +1,6 @@
 -- A tableau whose numbers are within a limit that is small many times over.
 use Rattle.std.proofs.Common.{◌≡◌, ℕ, zero, suc, ◌+◌, ◌*◌, ◌<◌, ◌≤◌, arith, refl, ap, sym, ◌∙◌, subst, List, [], ◌∷◌, length, get_or, max, inl, inr, Bool}
-use Rattle.std.specs.Prelude.{ℤ, pos, nat_abs}
+use Rattle.std.specs.Prelude.{ℤ, nat_abs}
 use Rattle.std.proofs.Math.Nat.{mul-le-mul_right}
 use Rattle.std.proofs.lemmas.Bool.{cases_lt}
 use Rattle.std.proofs.lemmas.List.{get_or-map, get_or_past, length-map}
@@ -10,7 +10,7 @@ use Rattle.tableau.specs.Tableau.{Tableau, row_of, status_of}
 use Rattle.tableau.specs.declared.status.BasisStatus.TheVariants.{Basic}
 use Rattle.integer_tableau.proofs.AllRows.{get_or-rows_of}
 use Rattle.integer_tableau.proofs.Expanded.{row_of_column, row_of_row, which}
-use Rattle.integer_tableau.specs.Lemmas.Fractions.{zero_over}
+use Rattle.integer_tableau.specs.Lemmas.Fractions.{zero_is_over}
 use Rattle.integer_tableau.proofs.Sums.{coefficient_is, numerator_within}
 use Rattle.integer_tableau.proofs.ToFractions.{bounds_many, costs_many, nonbasic_values_many, rows_many, statuses_many, values_many}
 use Rattle.integer_tableau.specs.Combined.{IsCompact, combined, combined_row, expanded, row_if_basic}
@@ -23,9 +23,6 @@ use Rattle.integer_tableau.specs.Small.{AreNumbersWithin, IsKept, IsOver, IsSmal
 use Rattle.integer_tableau.proofs.Combining.{combined_row_within, combined_within}
 use Rattle.integer_tableau.specs.declared.position.Position.{Position}
 use Rattle.integer_tableau.specs.declared.position.Position.TheVariants.{InBasis, InColumn}
-
-zero_is_over : (d k : ℕ) → 0 < d → IsOver d k zero_ℚ
-zero_is_over d k o = record { numerator = pos 0; small = omega arith; exact = sym (zero_over d o) }
 
 none_over : (d k j : ℕ) → 0 < d → IsOver d k (entry [] j)
 none_over d k j o = subst (IsOver d k) (sym (get_or_past [] j zero_ℚ (omega arith))) (zero_is_over d k o)

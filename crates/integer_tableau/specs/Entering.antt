@@ -1,5 +1,5 @@
 -- The entering variable, on whole numbers: ratios are compared by cross multiplication, since all have one denominator.
-use Rattle.std.specs.Prelude.{ℕ, ◌+◌, ◌*◌, ℤ, pos, nat_abs, int_lt, List, [], ◌∷◌, Option, Some, None, Bool, false, ◌&&◌, if◌then◌else◌}
+use Rattle.std.specs.Prelude.{ℕ, ◌+◌, ◌*◌, ℤ, pos, nat_abs, nat_eq, int_lt, List, [], ◌∷◌, Option, Some, None, Bool, false, ◌&&◌, if◌then◌else◌}
 use Rattle.tableau.specs.declared.bounds.Bounds.{Bounds}
 use Rattle.tableau.specs.declared.bounds.Direction.{Direction}
 use Rattle.tableau.specs.declared.bounds.Direction.TheVariants.{Rise, Fall}
@@ -17,6 +17,10 @@ abbrev pub better_candidate : Candidate → Option Candidate → Option Candidat
 better_candidate b None = Some b
 better_candidate b (Some best) =
     if int_lt (pos (b.reduced_cost * best.coefficient)) (pos (best.reduced_cost * b.coefficient)) then Some b else Some best
+
+-- none where the coefficient is 0: its ratio is greater than all others
+abbrev pub candidate_if_there : Candidate → Option Candidate
+candidate_if_there b = if nat_eq b.coefficient 0 then None else Some b
 
 -- as `is_eligible` has it, of the numerator of the coefficient
 abbrev pub is_eligible_numerator : Direction → BasisStatus → ℤ → Bool

@@ -1,4 +1,6 @@
 -- Lemmas that other crates stand on. Contracts cite none of them.
 pub mod MapFrom
+pub mod Scales
+pub mod Runs
 pub mod Fractions
 pub mod Comparing

@@ -9,6 +9,7 @@ use Rattle.event_core.specs.Rooms.{split_count}
 use Rattle.event_core.specs.Lemmas.Counting.{splits_are}
 use Rattle.node_pool.specs.Free.{SplitsAlone}
 use Rattle.node_pool.specs.Halting.{passes_budget, spends}
+use Rattle.node_pool.specs.Lemmas.Budgets.{or_false, some_split}
 
 or_left : (a b : Bool) → (a || b) ≡ false → a ≡ false
 or_left true b e = cc
@@ -30,12 +31,8 @@ none_split (f ∷ es) e = splits_are f es ∙ step (is_split f) (or_left (is_spl
 -- a split that is alone
 one_split : (budget nodes : ℕ) (es : List Event) → length es ≡ 1 → list_any is_split es ≡ true → spends budget nodes es ≡ false → nodes + 2 * split_count es ≤ budget
 one_split budget nodes [] size some e = cc
-one_split budget nodes (f ∷ []) size some e = subst (λ (n : ℕ). nodes + 2 * n ≤ budget) (sym (splits_are f [])) (step (is_split f) (no_more (is_split f) some) (or_left (passes_budget budget nodes f) false e))
+one_split budget nodes (f ∷ []) size some e = subst (λ (n : ℕ). nodes + 2 * n ≤ budget) (sym (splits_are f [])) (step (is_split f) (or_false (is_split f) some) (or_left (passes_budget budget nodes f) false e))
   where
-    no_more : (b : Bool) → (b || false) ≡ true → b ≡ true
-    no_more true h = refl
-    no_more false h = cc
-
     step : (b : Bool) → b ≡ true → (b && nat_lt budget (nodes + 2)) ≡ false → nodes + 2 * (cond b 1 0 + 0) ≤ budget
     step true h w = let room = ltb-false budget (nodes + 2) w in omega (arith, room)
     step false h w = cc
@@ -50,14 +47,6 @@ within_budget budget nodes es alone within = step (list_any is_split es) refl
     step false e = let none = none_split es e in omega (arith, none)
 
 -- ---- past the budget
-some_split : (budget nodes : ℕ) (es : List Event) → spends budget nodes es ≡ true → list_any is_split es ≡ true
-some_split budget nodes [] e = cc
-some_split budget nodes (f ∷ es) e = step (is_split f) (nat_lt budget (nodes + 2)) (spends budget nodes es) (some_split budget nodes es) e
-  where
-    step : (a b c : Bool) → (c ≡ true → list_any is_split es ≡ true) → ((a && b) || c) ≡ true → (a || list_any is_split es) ≡ true
-    step true b c more h = refl
-    step false b c more h = more h
-
 -- the event that is taken out of the list is the split
 pub split_taken : (budget nodes : ℕ) (es rest : List Event) (o : Option Event) (e : Event) → SplitsAlone es → spends budget nodes es ≡ true → es ≡ rest ++ option_to_list o → o ≡ Some e
     → (es ≡ e ∷ []) × (passes_budget budget nodes e ≡ true)
@@ -66,10 +55,6 @@ split_taken budget nodes es rest o e alone over items taken = found rest (items 
     size : length es ≡ 1
     size = alone (some_split budget nodes es over)
 
-    over_or : (b : Bool) → (b || false) ≡ true → b ≡ true
-    over_or true h = refl
-    over_or false h = cc
-
     found : (xs : List Event) → es ≡ xs ++ e ∷ [] → (es ≡ e ∷ []) × (passes_budget budget nodes e ≡ true)
-    found [] q = (q, over_or (passes_budget budget nodes e) (subst (λ (l : List Event). spends budget nodes l ≡ true) q over))
+    found [] q = (q, or_false (passes_budget budget nodes e) (subst (λ (l : List Event). spends budget nodes l ≡ true) q over))
     found (x ∷ xs) q = absurd (omega (arith, size, ap (λ (l : List Event). length l) q, length-append xs (e ∷ [])))

@@ -1,2 +1,3 @@
 pub mod Props
 pub mod Groups
+pub mod Budgets

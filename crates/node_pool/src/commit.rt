@@ -2,19 +2,17 @@
 ghost use Rattle.std.specs.Prelude.{◌≡◌, ◌↔◌, ◌+◌, ◌*◌, ◌<◌, ◌≤◌, ◌^◌, ◌++◌, [], ◌∷◌, true, false, All, length, vec_capacity, Some, None, IsSome, Ok, OnOk, OnErr, IfOk, IsErrOf};
 ghost use Rattle.outside.specs.Faults.{Counts};
 ghost use Rattle.outside.specs.Images.{LeavesOnly};
-ghost use Rattle.event_core.specs.Judging.{judged};
 ghost use Rattle.event_core.specs.Histories.{is_journaled, entries_by, AreLegalFrom};
 ghost use Rattle.event_core.specs.Rooms.{AreReady, split_count};
 ghost use Rattle.event_core.specs.Made.{made_for_each};
-ghost use Rattle.event_core.specs.declared.admit.Admit.TheVariants.{Yes};
 ghost use Rattle.event_codec.specs.Groups.{most_group_events, group_code, group_of};
 ghost use Rattle.node_journal.specs.Appends.{IsWithOrWithout};
 ghost use Rattle.node_journal.specs.History.{ExtendsMoments};
 ghost use Rattle.node_journal.specs.Whole.{payloads_in};
 ghost use Rattle.node_pool.specs.Free.{SplitsAlone};
-ghost use Rattle.node_pool.specs.Halting.{passes_budget, spends, budget_halt, halt_after, fails_by_disk};
+ghost use Rattle.node_pool.specs.Halting.{passes_budget, spends, halt_after, fails_by_disk};
 ghost use Rattle.node_pool.specs.Payloads.{model_in};
-ghost use Rattle.node_pool.specs.Applied.{Applies, AppliesAll, AppliesNothing};
+ghost use Rattle.node_pool.specs.Applied.{AppliesAll, AppliesNothing};
 ghost use Rattle.node_tree.specs.Limits.{most_nodes};
 
 use crate::free::{add_children, reserve_for};
@@ -195,47 +193,5 @@ impl<D: Disk> Pool<D> {
             Ok((payload, made)) => self.add(worker, events, &payload, made),
             Err(_) => Err(CommitFault::Memory),
         }
-    }
-
-    /// The same of one event.
-    pub fn commit(
-        &mut self,
-        alloc: Global,
-        worker: u32,
-        event: Event,
-    ) -> Result<Receipt, CommitFault>
-        requires admitted { judged self.old.state.state (Some worker) event ≡ Yes }
-        requires journaled { is_journaled event ≡ true }
-        ensures applied { OnOk result (Applies self.old.state (Some worker) event self.new.state) }
-        ensures number { IfOk result (λ r. r.first ≡ self.old.journal.count) }
-        ensures one { IfOk result (λ r. r.count ≡ 1) }
-        ensures unchanged { OnErr result (AppliesNothing self.old.state self.new.state) }
-        ensures halted { IsErrOf result CommitFault.Halted ↔ IsSome self.old.halt }
-        ensures spent { IsErrOf result CommitFault.Budget ↔ ((self.old.halt ≡ None) × (passes_budget self.old.budget (length self.old.state.state.nodes) event ≡ true)) }
-        ensures halt { self.new.halt ≡ halt_after self.old.halt result (event ∷ []) (D.count self.new.journal.disk) }
-        ensures cause { Counts (D.count self.old.journal.disk) (D.count self.new.journal.disk) (fails_by_disk result) }
-        ensures any_moment { D.tells ≡ true → self.old.halt ≡ None → LeavesOnly (D.past self.old.journal.disk) (D.now self.old.journal.disk) (D.past self.new.journal.disk) (D.now self.new.journal.disk) (IsWithOrWithout (payloads_in (D.now self.old.journal.disk)) (group_code (event ∷ []))) }
-        ensures continued { D.tells ≡ true → ExtendsMoments (D.past self.old.journal.disk ++ D.now self.old.journal.disk ∷ []) (D.past self.new.journal.disk ++ D.now self.new.journal.disk ∷ []) }
-        ensures model { D.tells ≡ true → model_in (payloads_in (D.now self.new.journal.disk)) ≡ model_in (payloads_in (D.now self.old.journal.disk)) }
-        ensures opened { self.new.journal.opened ≡ self.old.journal.opened }
-        ensures budget { self.new.budget ≡ self.old.budget }
-        ensures faults { self.new.faults ≡ self.old.faults }
-    {
-        if self.halt.is_some() {
-            return Err(CommitFault::Halted);
-        }
-        self.journal.history_holds();
-        let state = &self.state;
-        state.conditions_hold();
-        journals_are_legal(state.problem());
-        // Before memory is asked for, so that `Budget` comes exactly where it is due.
-        if passes_budget(self.budget, state.tree().len(), &event) {
-            self.halt = Some(Halt::Budget { event });
-            return Err(CommitFault::Budget);
-        }
-        let Ok(events) = vec![in alloc; event] else {
-            return Err(CommitFault::Memory);
-        };
-        self.commit_all(alloc, worker, events)
     }
 }

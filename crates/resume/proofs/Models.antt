@@ -4,7 +4,6 @@ use Rattle.std.specs.Option.{ForSome}
 use Rattle.std.proofs.Common.{arith, ◌∙◌, ap, subst, length-append}
 use Rattle.std.proofs.lemmas.Bool.Decides.{nat_tests}
 use Rattle.std.proofs.lemmas.Int.{ints, to_z-of_z}
-use Rattle.std.specs.Int.RustNames.{FitsSigned}
 use Rattle.std.specs.Int.{w64, cast_unsigned, cast_signed}
 use Rattle.problem.specs.Problem.{Problem}
 use Rattle.problem.specs.Limits.{largest_bound}
@@ -15,6 +14,7 @@ use Rattle.mps_reader.specs.Reading.{Reads, IsRefused, reading, text_limit, fini
 use Rattle.mps_reader.specs.declared.kinds.Kind.{Kind}
 use Rattle.mps_reader.specs.declared.kinds.Kind.TheVariants as kind
 use Rattle.resume.specs.Models.{bound_of, IsTextOf, IsModelOf, IsNoModel}
+use Rattle.event_codec.specs.Lemmas.Uppers.{upper_fits}
 
 pub for_some : {T : Type 0} (o : Option T) (P : T → Type 0) → IfSome o P → ForSome o P
 for_some None P h x e = cc
@@ -96,9 +96,6 @@ small_model text upper p is = let s : length text ≤ text_limit = short_text te
 pub small_size : (z : ℤ) → IsUpper z → nat_abs z ≤ largest_bound
 small_size (pos n) h = omega (arith, ints)
 small_size (negsuc n) h = absurd (omega (arith, ints))
-
-upper_fits : (z : ℤ) → IsUpper z → FitsSigned w64 z
-upper_fits z h = grind (arith, ints)
 
 pub read_size : (z : ℤ) (n : ℕ) → IsUpper z → n ≡ nat_abs (cast_signed w64 (cast_unsigned w64 z)) → n ≤ largest_bound
 read_size z n h e = let same : cast_signed w64 (cast_unsigned w64 z) ≡ z = to_z-of_z w64 z (upper_fits z h) in let le = small_size z h in omega (arith, e ∙ ap (λ (y : ℤ). nat_abs y) same, le)

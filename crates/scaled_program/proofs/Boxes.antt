@@ -8,10 +8,11 @@ use Rattle.tableau.specs.Start.{started}
 use Rattle.tableau.specs.Tableau.{Tableau}
 use Rattle.integer_tableau.specs.Small.{IsSmallTimes}
 use Rattle.integer_tableau.specs.Scales.{AreScalesTo, Scales, all_bounds, scale_at, scaled_by, unscaled, unscaled_bounds, unscaled_program}
-use Rattle.scaled_program.proofs.FromCode.{column_scale, is_small}
+use Rattle.scaled_program.proofs.FromCode.{is_small}
 use Rattle.integer_tableau.specs.Lemmas.MapFrom.{append-map_from, drop-map_from, length-map_from}
 use Rattle.scaled_program.proofs.Numbers.{scaled_self}
 use Rattle.scaled_program.proofs.Starts.{start_columns, start_unscaled}
+use Rattle.integer_tableau.specs.Lemmas.Scales.{column_scale}
 
 spans_same : (σ : Scales) (i : ℕ) (spans : List Span) → ((j : ℕ) → j < length spans → σ (i + j) ≡ 1) → all_bounds σ i (map span_bounds spans) ≡ map span_bounds spans
 spans_same σ i [] h = refl

@@ -3,7 +3,6 @@ use Rattle.std.proofs.Common.{◌≡◌, ℕ, ◌-◌, ◌<◌, ◌≤◌, arith
 use Rattle.std.specs.Prelude.{nat_abs, nat_lt, if◌then◌else◌}
 use Rattle.std.proofs.Math.Nat.{mul-le-mul_left}
 use Rattle.std.proofs.lemmas.Bool.{cases_lt}
-use borrow.Author.Tests.{lt-ltb}
 use Rattle.std.proofs.lemmas.List.{get_or_past}
 use Rattle.fraction.specs.Rational.{ℚ}
 use Rattle.tableau.specs.Elimination.{entry}
@@ -20,6 +19,7 @@ use Rattle.tableau.specs.Multipliers.{direction_of, mult_of_cost, mult_of_row, n
 use Rattle.tableau.specs.Pivot.{pivoted}
 use Rattle.tableau.specs.Place.{place}
 use Rattle.tableau.specs.declared.place.Place.TheVariants.{Pivot}
+use Rattle.integer_tableau.specs.Lemmas.Scales.{column_scale}
 
 -- two clauses on what an option has
 pub both : {A : Type 0} (P Q R : A → Type 0) (o : Option A) → ((x : A) → P x → Q x → R x) → IfSome o P → IfSome o Q → IfSome o R
@@ -57,9 +57,6 @@ module _ (greatest : ℕ) (scales : List ℕ) (costs : ℕ) (h : AreScalesTo gre
       total = x.total;
     };
   }
-
-pub column_scale : (columns : ℕ) (scales : List ℕ) (i : ℕ) → i < columns → scale_at columns scales i ≡ 1
-column_scale columns scales i l = ap (λ b. if b then 1 else get_or scales (i - columns) 1) (lt-ltb i columns l)
 
 -- ---- tableaus that code keeps
 module _ (greatest : ℕ) (scales : List ℕ) (costs : ℕ) (h : AreScalesTo greatest scales costs) (t v : Tableau) (small : IsSmallTimes greatest t)

@@ -1,6 +1,6 @@
 -- No elimination in small numbers is cramped, and no value by a small dictionary.
 use Rattle.std.proofs.Common.{◌≡◌, ℕ, zero, suc, ◌+◌, ◌*◌, ◌<◌, ◌≤◌, ◌^◌, arith, refl, ap, sym, ◌∙◌, subst, false, Some, None, List, [], ◌∷◌, ◌++◌, length, get_or, set, take, drop}
-use Rattle.std.specs.Prelude.{ℤ, pos, negsuc, neg_ℤ, nat_abs, ◌*ℤ◌, ◌+ℤ◌, if◌then◌else◌}
+use Rattle.std.specs.Prelude.{ℤ, pos, neg_ℤ, nat_abs, ◌*ℤ◌, ◌+ℤ◌, if◌then◌else◌}
 use Rattle.std.specs.Ordering.{int_eq}
 use Rattle.std.specs.Option.{option_and_then, option_map}
 use Rattle.std.proofs.Math.Nat.{mul-le-mul}
@@ -15,7 +15,7 @@ use Rattle.tableau.specs.Pivot.{eliminated, rows_eliminated}
 use Rattle.tableau.specs.Tableau.{Tableau, row_of}
 use Rattle.integer_tableau.specs.Range.{size_limit}
 use Rattle.integer_tableau.specs.Substitution.{quotient_numerator}
-use Rattle.integer_tableau.specs.Lemmas.Fractions.{add_frac, frac-num_positive, frac-size, less_over, mul_frac, negative_quotient_exact, zero_over}
+use Rattle.integer_tableau.specs.Lemmas.Fractions.{add_frac, frac-num_positive, frac-size, less_over, mul_frac, negative_quotient_exact, zero_over, abs-negative_quotient}
 
 -- ---- numbers over a denominator
 -- a multiple of 1/d, of size at most 2^62/d
@@ -56,16 +56,12 @@ size_product : (m n : ℕ) → m ≤ size_limit → n ≤ size_limit → m * n �
 size_product m n h k = omega (arith, mul-le-mul h k)
 
 -- ---- the solved row
-quotient_size : (b a : ℤ) → nat_abs (quotient_numerator b a) ≡ nat_abs a
-quotient_size (pos b) a = omega (arith, ints)
-quotient_size (negsuc b) a = refl
-
 module _ (p : ℚ) (b : ℤ) (d : ℕ) (o : 0 < d) (l : d < size_limit) (hb : 0 < nat_abs b) (sb : nat_abs b ≤ size_limit) (e : p ≡ frac b d) where
   quotient_there : (t : ℚ) → IsOver d t → (x : ℚ) × (negative_quotient p t ≡ Some x) × IsOver (nat_abs b) x
   quotient_there t h = (
     frac (quotient_numerator b h.numerator) (nat_abs b),
     (λ i. negative_quotient (e i) (h.exact i)) ∙ negative_quotient_exact b h.numerator d o (omega arith) hb (omega arith) (omega (arith, h.small)),
-    record { numerator = quotient_numerator b h.numerator; small = omega (arith, h.small, quotient_size b h.numerator); exact = refl },
+    record { numerator = quotient_numerator b h.numerator; small = omega (arith, h.small, abs-negative_quotient b h.numerator); exact = refl },
   )
 
   quotients_there : (ts : List ℚ) → AreOver d ts → (ds : List ℚ) × (negative_quotients p ts ≡ Some ds) × AreOver (nat_abs b) ds

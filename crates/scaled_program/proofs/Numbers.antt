@@ -4,11 +4,11 @@ use Rattle.std.specs.Prelude.{ℤ, pos, negsuc, nat_abs, ◌*ℤ◌, int_lt}
 use Rattle.std.specs.Bool.{one_answer}
 use Rattle.std.specs.Ordering.{is_lt, is_eq}
 use Rattle.std.proofs.Math.Nat.{mul-pos, mul-le-mul}
-use Rattle.std.proofs.lemmas.Int.{ints, unsigned_abs-mul}
+use Rattle.std.proofs.lemmas.Int.{ints}
 use Rattle.fraction.specs.Checked.{abs_ℚ, compare, div_checked, mul_checked}
 use Rattle.fraction.specs.Lemmas.Integers.{diff-mul, diff-pos, diff-same, is_diff, le-mul_ℤ, mul-le_ℤ}
 use Rattle.fraction.specs.Lemmas.Order.{compare_equal}
-use Rattle.fraction.specs.Lemmas.Rational.{frac-*ℚ, frac_same, lit_one, ℚ_is, zero-*ℚ, one-*ℚ, *ℚ_comm, *ℚ_assoc}
+use Rattle.fraction.specs.Lemmas.Rational.{frac-*ℚ, frac_same, lit_one, ℚ_is, zero-*ℚ, one-*ℚ, *ℚ_comm, *ℚ_assoc, abs-times}
 use Rattle.fraction.specs.Lemmas.Ring.{+ℚ-mul, ring_ℚ}
 use Rattle.fraction.specs.Rational.{ℚ, frac, inv_ℚ, whole, ◌*ℚ◌, ◌+ℚ◌}
 use Rattle.tableau.specs.Elimination.{zero_ℚ}
@@ -100,9 +100,6 @@ scaled_below a b x o p =
     ap (λ (y : ℚ). int_lt y.num (pos 0)) (scaled_is a b x p) ∙ below_zero (x.num *ℤ pos a) (x.den * b) (mul-pos x.lowest.0 p) ∙ (times_sign x.num a o).1
 
 -- ---- ratios
-pub size_times : (z : ℤ) (a : ℕ) → nat_abs (z *ℤ pos a) ≡ nat_abs z * a
-size_times z a = unsigned_abs-mul z (pos a)
-
 -- the ratio of a reduced cost to a coefficient: the unit of their variable falls out
 pub ratio_scaled : (a b : ℤ) (d k s r : ℕ) → 0 < d → 0 < k → 0 < s → 0 < r → nat_abs a * k ≤ size_limit → nat_abs b * k ≤ size_limit → 0 < nat_abs b → d * s < size_limit → d * r < size_limit
     → div_checked (abs_ℚ (scaled_by k s (frac a d))) (abs_ℚ (scaled_by k r (frac b d))) ≡ Some (scaled_by r s (frac (pos (nat_abs a)) (nat_abs b)))
@@ -119,10 +116,10 @@ ratio_scaled a b d k s r od ok os or ha hb ob hs hr =
     pb = mul-pos ob ok
 
     top : abs_ℚ (scaled_by k s (frac a d)) ≡ frac (pos (nat_abs a * k)) (d * s)
-    top = ap abs_ℚ (scaled_frac k s a d os od) ∙ abs-frac (a *ℤ pos k) (d * s) (mul-pos od os) ∙ ap (λ n. frac (pos n) (d * s)) (size_times a k)
+    top = ap abs_ℚ (scaled_frac k s a d os od) ∙ abs-frac (a *ℤ pos k) (d * s) (mul-pos od os) ∙ ap (λ n. frac (pos n) (d * s)) (abs-times a k)
 
     bottom : abs_ℚ (scaled_by k r (frac b d)) ≡ frac (pos (nat_abs b * k)) (d * r)
-    bottom = ap abs_ℚ (scaled_frac k r b d or od) ∙ abs-frac (b *ℤ pos k) (d * r) (mul-pos od or) ∙ ap (λ n. frac (pos n) (d * r)) (size_times b k)
+    bottom = ap abs_ℚ (scaled_frac k r b d or od) ∙ abs-frac (b *ℤ pos k) (d * r) (mul-pos od or) ∙ ap (λ n. frac (pos n) (d * r)) (abs-times b k)
 
     sizes : (m n : ℕ) → m ≤ size_limit → n < size_limit → m * n ≤ 2 ^ 124
     sizes m n h l = let g : n ≤ size_limit = omega arith in omega (arith, mul-le-mul h g)

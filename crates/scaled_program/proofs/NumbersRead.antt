@@ -1,11 +1,10 @@
 -- Numbers that code reads with scales: they are small enough for that, and a list of them is read from place to place.
-use Rattle.std.proofs.Common.{◌≡◌, ℕ, zero, suc, ◌+◌, ◌-◌, ◌*◌, ◌<◌, ◌≤◌, arith, refl, ap, sym, ◌∙◌, subst, List, [], ◌∷◌, ◌++◌, length, get_or, map, set, take, drop, inl, inr}
-use Rattle.std.specs.Prelude.{pos, negsuc, neg_ℤ, nat_abs, if◌then◌else◌}
+use Rattle.std.proofs.Common.{◌≡◌, ℕ, zero, suc, ◌+◌, ◌-◌, ◌*◌, ◌<◌, ◌≤◌, arith, refl, ap, sym, ◌∙◌, subst, List, [], ◌∷◌, ◌++◌, length, map, set, take, drop, inl, inr}
+use Rattle.std.specs.Prelude.{pos, negsuc, neg_ℤ, nat_abs}
 use Rattle.std.proofs.Math.Nat.{mul-le-mul}
 use Rattle.std.proofs.lemmas.Bool.{cases_lt}
 use Rattle.std.proofs.lemmas.Int.{ints}
 use Rattle.std.proofs.lemmas.List.{get_or-drop, get_or-map, get_or_past, length-map, length-take, take_more}
-use borrow.Author.Tests.{le-ltb}
 use Rattle.fraction.specs.Lemmas.Rational.{frac_same, lit_one, neg_ℚ-frac}
 use Rattle.fraction.specs.Rational.{ℚ, neg_ℚ, whole}
 use Rattle.tableau.specs.declared.bounds.Direction.{Direction}
@@ -16,9 +15,10 @@ use Rattle.integer_tableau.specs.Range.{size_limit}
 use Rattle.integer_tableau.specs.Scales.{map_from, scale_at, scaled_by, unscaled_row}
 use Rattle.integer_tableau.specs.Small.{IsOver}
 use Rattle.scaled_program.specs.Sizes.{AreSmallTimes}
-use Rattle.integer_tableau.specs.Lemmas.Fractions.{frac-den_le, less_over, zero_over}
+use Rattle.integer_tableau.specs.Lemmas.Fractions.{frac-den_le, less_over, zero_is_over}
 use Rattle.fraction.specs.Lemmas.Bounds.{frac-num_le}
 use Rattle.integer_tableau.specs.Lemmas.MapFrom.{append-map_from}
+use Rattle.integer_tableau.specs.Lemmas.Scales.{row_scale}
 
 -- ---- one number
 module _ (d k : ℕ) (x : ℚ) (o : 0 < d) (l : d * k < size_limit) (h : IsOver d k x) where
@@ -44,12 +44,8 @@ one_more f all xs i y l h e =
     many = omega (arith, l, length-take i xs)
 
 -- ---- the rows' variables alone
-behind : (n : ℕ) (scales : List ℕ) (j : ℕ) → scale_at n scales (n + j) ≡ get_or scales j 1
-behind n scales j =
-    ap (λ b. if b then 1 else get_or scales (n + j - n) 1) (le-ltb (n + j) n (omega arith)) ∙ ap (λ i. get_or scales i 1) (let e : n + j - n ≡ j = omega arith in e)
-
 scale_same : (n : ℕ) (scales : List ℕ) (j : ℕ) → scale_at 0 scales j ≡ scale_at n scales (n + j)
-scale_same n scales j = ap (scale_at 0 scales) (let e : j ≡ 0 + j = omega arith in e) ∙ behind 0 scales j ∙ sym (behind n scales j)
+scale_same n scales j = ap (scale_at 0 scales) (let e : j ≡ 0 + j = omega arith in e) ∙ row_scale 0 scales j ∙ sym (row_scale n scales j)
 
 shifted : (f g : ℕ → ℚ → ℚ) (n : ℕ) → ((j : ℕ) (x : ℚ) → f j x ≡ g (n + j) x) → (i : ℕ) (xs : List ℚ) → map_from f i xs ≡ map_from g (n + i) xs
 shifted f g n h i [] = refl
@@ -61,9 +57,6 @@ rows_alone n scales unit xs =
     ∙ ap (λ k. unscaled_row (scale_at n scales) unit k xs) (let e : n + 0 ≡ n = omega arith in e)
 
 -- ---- multipliers are as small as the row is
-zero_is_over : (d k : ℕ) → 0 < d → IsOver d k zero_ℚ
-zero_is_over d k o = record { numerator = pos 0; small = omega arith; exact = sym (zero_over d o) }
-
 negative_over : (d k : ℕ) (x : ℚ) → 0 < d → IsOver d k x → IsOver d k (neg_ℚ x)
 negative_over d k x o h = record {
   numerator = neg_ℤ h.numerator;

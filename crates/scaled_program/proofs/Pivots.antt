@@ -23,16 +23,17 @@ use Rattle.integer_tableau.specs.Small.{IsOver}
 use Rattle.scaled_program.specs.Sizes.{IsSmall, IsSmallAt}
 use Rattle.integer_tableau.specs.Lemmas.MapFrom.{get_or-map_from, length-map_from, set-map_from}
 use Rattle.scaled_program.proofs.NotCramped.{HasSmallRows, elimination_there, IsOver as IsFractionOver}
-use Rattle.scaled_program.proofs.Numbers.{nonzero_scaled, scaled_frac, scaled_zero, size_times}
+use Rattle.scaled_program.proofs.Numbers.{nonzero_scaled, scaled_frac, scaled_zero}
 use Rattle.scaled_program.proofs.Places.{row_unscaled, violated_same, violation_same}
 use Rattle.scaled_program.proofs.Rows.{entry_unscaled, solved_unscaled, substituted_unscaled}
 use Rattle.scaled_program.proofs.Values.{values_unscaled}
+use Rattle.fraction.specs.Lemmas.Rational.{abs-times}
 
 -- ---- sizes
 over_unscaled : (d k b : ℕ) (x : ℚ) → 0 < d → 0 < b → IsOver d k x → IsFractionOver (d * b) (scaled_by k b x)
 over_unscaled d k b x o p h = record {
   numerator = h.numerator *ℤ pos k;
-  small = omega (arith, size_times h.numerator k, h.small);
+  small = omega (arith, abs-times h.numerator k, h.small);
   exact = ap (scaled_by k b) h.exact ∙ scaled_frac k b h.numerator d p o;
 }
 

@@ -1,10 +1,9 @@
 -- The place of a tableau that is read with scales is that of the tableau.
 use Rattle.std.proofs.Common.{◌≡◌, ℕ, zero, suc, ◌+◌, ◌*◌, ◌^◌, ◌<◌, ◌≤◌, arith, refl, ap, sym, ◌∙◌, subst, Option, Some, None, List, [], ◌∷◌, get_or, Bool, true, false}
-use Rattle.std.specs.Prelude.{ℤ, pos, nat_abs, int_lt, not, ◌&&◌, if◌then◌else◌}
+use Rattle.std.specs.Prelude.{pos, nat_abs, not, ◌&&◌, if◌then◌else◌}
 use Rattle.std.specs.Option.{option_and_then, option_map, unwrap_or}
 use Rattle.std.specs.Ordering.{is_lt}
 use Rattle.std.proofs.lemmas.Bool.{and_parts}
-use Rattle.std.proofs.lemmas.Int.{ints}
 use Rattle.fraction.specs.Checked.{abs_ℚ, compare, div_checked}
 use Rattle.fraction.specs.Rational.{ℚ, frac}
 use Rattle.tableau.specs.declared.bounds.Bounds.{Bounds}
@@ -27,19 +26,18 @@ use Rattle.integer_tableau.specs.Lemmas.MapFrom.{get_or-map_from}
 use Rattle.scaled_program.proofs.NotCramped.{nonzero_over}
 use Rattle.scaled_program.proofs.Numbers.{ratio_scaled, scaled_above, scaled_below, scaled_equal, scaled_less, scaled_zero}
 use Rattle.scaled_program.proofs.Rows.{entry_unscaled}
-
-one : 0 < 1
-one = omega arith
+use Rattle.fraction.specs.Lemmas.Rational.{lit_one}
+use Rattle.tableau.specs.Lemmas.Places.{eligible_nonzero}
 
 -- ---- bounds
 module _ (σ : Scales) (i : ℕ) (o : 0 < σ i) where
   pub below_same : (v : ℚ) (l : Option ℚ) → is_below (unscaled_value σ i v) (option_map (unscaled_value σ i) l) ≡ is_below v l
   below_same v None = refl
-  below_same v (Some l) = scaled_less 1 (σ i) v l one o
+  below_same v (Some l) = scaled_less 1 (σ i) v l lit_one o
 
   above_same : (v : ℚ) (u : Option ℚ) → is_above (unscaled_value σ i v) (option_map (unscaled_value σ i) u) ≡ is_above v u
   above_same v None = refl
-  above_same v (Some u) = scaled_less 1 (σ i) u v one o
+  above_same v (Some u) = scaled_less 1 (σ i) u v lit_one o
 
   pub violation_same : (b : Bounds) (v : ℚ) → violation (unscaled_bounds σ i b) (unscaled_value σ i v) ≡ violation b v
   violation_same b v = λ t. if below_same v b.lower t then Some Rise else if above_same v b.upper t then Some Fall else None
@@ -47,7 +45,7 @@ module _ (σ : Scales) (i : ℕ) (o : 0 < σ i) where
   pub differ_same : (l u : Option ℚ) → ends_differ (option_map (unscaled_value σ i) l) (option_map (unscaled_value σ i) u) ≡ ends_differ l u
   differ_same None u = refl
   differ_same (Some l) None = refl
-  differ_same (Some l) (Some u) = ap not (scaled_equal 1 (σ i) l u one o)
+  differ_same (Some l) (Some u) = ap not (scaled_equal 1 (σ i) l u lit_one o)
 
   or_zero : (l : Option ℚ) → unwrap_or (option_map (unscaled_value σ i) l) zero_ℚ ≡ unscaled_value σ i (unwrap_or l zero_ℚ)
   or_zero None = sym (scaled_zero 1 (σ i))
@@ -75,19 +73,6 @@ eligible_same a b Rise AtLower t o p = scaled_above a b t o p
 eligible_same a b Rise AtUpper t o p = scaled_below a b t o p
 eligible_same a b Fall AtLower t o p = scaled_below a b t o p
 eligible_same a b Fall AtUpper t o p = scaled_above a b t o p
-
-above_nonzero : (z : ℤ) → int_lt (pos 0) z ≡ true → 0 < nat_abs z
-above_nonzero z e = grind (arith, ints)
-
-below_nonzero : (z : ℤ) → int_lt z (pos 0) ≡ true → 0 < nat_abs z
-below_nonzero z e = grind (arith, ints)
-
-eligible_nonzero : (w : Direction) (s : BasisStatus) (t : ℚ) → is_eligible w s t ≡ true → 0 < nat_abs t.num
-eligible_nonzero w Basic t e = cc
-eligible_nonzero Rise AtLower t e = above_nonzero t.num e
-eligible_nonzero Rise AtUpper t e = below_nonzero t.num e
-eligible_nonzero Fall AtLower t e = below_nonzero t.num e
-eligible_nonzero Fall AtUpper t e = above_nonzero t.num e
 
 -- a ratio stands for this one
 abbrev pub read_ratio : ℕ → ℕ → ℕ × ℚ → ℕ × ℚ

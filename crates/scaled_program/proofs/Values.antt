@@ -6,8 +6,8 @@ use Rattle.std.proofs.lemmas.Int.{unsigned_abs-mul}
 use Rattle.std.proofs.Math.Nat.{mul-le-mul, mul-one, mul-pos}
 use Rattle.fraction.specs.Bounds.{Within}
 use Rattle.fraction.specs.Checked.{add_checked, dot_from, mul_checked}
-use Rattle.fraction.specs.Lemmas.Bounds.{Within-+ℚ, add_fits_within, add_is, value_from_add, value_from_mul, was_some, was_mapped}
-use Rattle.fraction.specs.Lemmas.Rational.{frac-*ℚ, lit_one}
+use Rattle.fraction.specs.Lemmas.Bounds.{Within-+ℚ, add_fits_within, add_is, value_from_add, value_from_mul, was_some, was_mapped, Within-more}
+use Rattle.fraction.specs.Lemmas.Rational.{frac-*ℚ, lit_one, abs-times}
 use Rattle.fraction.specs.Rational.{ℚ, frac, whole, ◌*ℚ◌, ◌+ℚ◌}
 use Rattle.tableau.specs.Elimination.{entry, zero_ℚ}
 use Rattle.tableau.specs.Pivot.{computed_value, computed_values}
@@ -19,19 +19,13 @@ use Rattle.integer_tableau.specs.Numbers.{total_size}
 use Rattle.integer_tableau.specs.Small.{IsOver}
 use Rattle.integer_tableau.specs.Lemmas.Comparing.{times_one}
 use Rattle.integer_tableau.specs.Lemmas.Fractions.{Within-frac, mul_frac, zero_over}
-use Rattle.scaled_program.proofs.Numbers.{scaled_frac, scaled_product, scaled_sum, scaled_zero, size_times}
+use Rattle.scaled_program.proofs.Numbers.{scaled_frac, scaled_product, scaled_sum, scaled_zero}
 
 one : 0 < 1
 one = omega arith
 
 within_over : (z : ℤ) (d : ℕ) → 0 < d → Within d (nat_abs z) (frac z d)
 within_over z d o = subst (λ m. Within m (nat_abs z) (frac z d)) (mul-one d) (subst (λ m. Within (d * 1) m (frac z d)) (mul-one (nat_abs z)) (Within-frac z d 1 o))
-
-more_within : (n a b : ℕ) (x : ℚ) → a ≤ b → Within n a x → Within n b x
-more_within n a b x h w = record { divides = w.divides; size = more (nat_abs x.num * n) a b x.den h w.size }
-  where
-    more : (m a b d : ℕ) → a ≤ b → m ≤ a * d → m ≤ b * d
-    more m a b d h k = omega (arith, mul-le-mul h (let z : d ≤ d = omega arith in z))
 
 module _ (σ : Scales) (d k : ℕ) (od : 0 < d) (ok : 0 < k) (lk : d * k < size_limit) where
   -- a coefficient times a whole number: the unit of the variable falls out
@@ -47,7 +41,7 @@ module _ (σ : Scales) (d k : ℕ) (od : 0 < d) (ok : 0 < k) (lk : d * k < size_
       let e : mul_checked (scaled_by m k x) (scaled_by 1 m (whole z)) ≡ Some (frac ((a *ℤ pos m) *ℤ (z *ℤ pos 1)) (d * k * (1 * m))) =
       (λ i. mul_checked (left h i) (scaled_frac 1 m z 1 om lit_one i))
       ∙ mul_frac (a *ℤ pos m) (z *ℤ pos 1) (d * k) (1 * m) (mul-pos od ok) (omega arith)
-      (omega (arith, sizes (nat_abs a * m) (nat_abs z) h.small lz, ap (λ n. n * nat_abs (z *ℤ pos 1)) (size_times a m), ap (λ n. nat_abs a * m * n) (ap nat_abs (times_one z))))
+      (omega (arith, sizes (nat_abs a * m) (nat_abs z) h.small lz, ap (λ n. n * nat_abs (z *ℤ pos 1)) (abs-times a m), ap (λ n. nat_abs a * m * n) (ap nat_abs (times_one z))))
       (omega (arith, denominators (d * k) m lk (least d m od lm))) in
       e ∙ ap Some (sym (value_from_mul (scaled_by m k x) (scaled_by 1 m (whole z)) _ e) ∙ scaled_product 1 k m x (whole z) ok om)
     where
@@ -66,7 +60,7 @@ module _ (σ : Scales) (d k : ℕ) (od : 0 < d) (ok : 0 < k) (lk : d * k < size_
 
   product_within : (x : ℚ) (z : ℤ) (m : ℕ) → 0 < m → IsOver d m x → Within (d * k) (size_limit * nat_abs z) (scaled_by 1 k (x *ℚ whole z))
   product_within x z m om h =
-      more_within (d * k) (nat_abs (h.numerator *ℤ z)) (size_limit * nat_abs z) _
+      Within-more (d * k) (nat_abs (h.numerator *ℤ z)) (size_limit * nat_abs z) _
       (omega (arith, unsigned_abs-mul h.numerator z, mul-le-mul (least (nat_abs h.numerator) m om h.small) (let g : nat_abs z ≤ nat_abs z = omega arith in g)))
       (subst (Within (d * k) (nat_abs (h.numerator *ℤ z))) (sym (ap (λ y. scaled_by 1 k (y *ℚ whole z)) h.exact ∙ product_is h.numerator z)) (within_over (h.numerator *ℤ z) (d * k) (mul-pos od ok)))
     where

@@ -1,17 +1,16 @@
 -- What a commit of events makes of a pool's list.
-use Rattle.std.specs.Prelude.{◌≡◌, ◌↔◌, ◌≤◌, ◌<◌, ◌+◌, ◌||◌, ◌&&◌, nat_lt, ℕ, Bool, true, false, List, [], ◌∷◌, length, Option, Some, None, IsSome, Result, Ok, Err, OnOk, OnErr, IfOk, IsErrOf, refl}
-use Rattle.std.specs.List.{list_any}
+use Rattle.std.specs.Prelude.{◌≡◌, ◌↔◌, ◌≤◌, ◌<◌, ℕ, Bool, true, false, List, [], ◌∷◌, length, Option, Some, None, IsSome, Result, Ok, Err, OnOk, OnErr, IfOk, IsErrOf, refl}
 use Rattle.std.proofs.Common.{sym, ap, ◌∙◌, subst, arith}
 use Rattle.std.proofs.lemmas.List.{length-map}
 use Rattle.outside.specs.Faults.{Rose}
 use Rattle.outside.specs.declared.disk.Disk.{Ghosts}
 use Rattle.node_events.specs.declared.event.Event.{Event}
-use Rattle.event_core.specs.Frames.{is_split}
 use Rattle.event_core.specs.States.{State}
 use Rattle.event_core.specs.Histories.{state_from, AreLegalFrom}
 use Rattle.node_pool.specs.Applied.{AppliesAll, AppliesNothing}
 use Rattle.node_pool.specs.Free.{SplitsAlone}
-use Rattle.node_pool.specs.Halting.{passes_budget, spends, halt_after, IsHalt, IsDiskHalt}
+use Rattle.node_pool.specs.Halting.{spends, halt_after, IsHalt, IsDiskHalt}
+use Rattle.node_pool.specs.Lemmas.Budgets.{some_split, over_alone}
 use Rattle.node_pool.specs.declared.halt.Halt.{Halt}
 use Rattle.node_pool.specs.declared.halt.Halt.TheVariants as stop_by
 use Rattle.node_pool.specs.declared.answers.Receipt.{Receipt}
@@ -31,25 +30,6 @@ use Rattle.worker_gate.proofs.Following.{Lasts, follows_nothing, follows_all}
 use Rattle.worker_gate.proofs.Keeping.{several_kept, list_grows, halt_kept, list_halts}
 use Rattle.worker_gate.proofs.Making.{made_nothing, made_events, made_halt}
 use Rattle.worker_gate.proofs.Asking.{same_kept, same_list}
-
--- ---- events that pass the budget
-some_split : (budget nodes : ℕ) (es : List Event) → spends budget nodes es ≡ true → list_any is_split es ≡ true
-some_split budget nodes [] h = cc
-some_split budget nodes (e ∷ es) h = step (is_split e) (nat_lt budget (nodes + 2)) (spends budget nodes es) (some_split budget nodes es) h
-  where
-    step : (a b c : Bool) → (c ≡ true → list_any is_split es ≡ true) → ((a && b) || c) ≡ true → (a || list_any is_split es) ≡ true
-    step true b c more k = refl
-    step false b c more k = more k
-
--- they are a split that is alone
-over_alone : (budget nodes : ℕ) (es : List Event) → length es ≡ 1 → spends budget nodes es ≡ true → (e : Event) × (es ≡ e ∷ []) × (passes_budget budget nodes e ≡ true)
-over_alone budget nodes [] size h = cc
-over_alone budget nodes (e ∷ []) size h = (e, refl, alone (passes_budget budget nodes e) h)
-  where
-    alone : (b : Bool) → (b || false) ≡ true → b ≡ true
-    alone true k = refl
-    alone false k = cc
-over_alone budget nodes (e ∷ f ∷ es) size h = absurd (omega (arith, size))
 
 -- ---- no event, for want of memory
 pub nothing_made : (w : ℕ) (at : List PoolEntry) → IsLegalList at → halt_in at ≡ None → Makes w at at (AreUnmade at)

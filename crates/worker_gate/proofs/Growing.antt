@@ -84,8 +84,6 @@ nodes_within budget s o es alone h = step (list_any is_split es) refl
     step false e = same (length (state_from s (entries_by o es)).nodes) (length s.nodes) (unsplit s o es e)
 
 -- one after the other
-pub joined_most : (limit a b c : ℕ) → b ≤ max limit a → c ≤ max limit b → c ≤ max limit a
-joined_most limit a b c h k = grind arith
 
 -- ---- legal lists
 module _ (list own : List PoolEntry) (legal : IsLegalList list) where

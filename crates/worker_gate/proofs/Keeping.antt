@@ -25,8 +25,9 @@ use Rattle.worker_gate.specs.Calls.{entry_by}
 use Rattle.worker_gate.specs.Kins.{entries_with, opening_of, list_of, IsPoolOf, IsKept}
 use Rattle.worker_gate.specs.Lemmas.Lists.{events-happened, opening-append, halt-first, halt-none, halt-happened, state-append, history-append}
 use Rattle.worker_gate.proofs.Following.{Follows}
-use Rattle.worker_gate.proofs.Growing.{entries-grow, entries-halt, nodes_within, joined_most, still_legal}
+use Rattle.worker_gate.proofs.Growing.{entries-grow, entries-halt, nodes_within, still_legal}
 use Rattle.problem.specs.Limits.{most_cuts}
+use Rattle.node_pool.specs.Lemmas.Budgets.{joined_most}
 
 -- ---- halts
 halt_same : (list : List PoolEntry) (es : List Entry) → halt_in (list ++ happened es) ≡ halt_in list

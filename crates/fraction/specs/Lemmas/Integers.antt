@@ -1,9 +1,10 @@
 -- Lemmas: integers, their products and their order.
-use Rattle.std.proofs.Common.{◌≡◌, ℕ, ◌+◌, ◌*◌, ◌≤◌, ◌<◌, Bool, true, false, arith, refl, ap, sym, ◌∙◌, subst}
-use Rattle.std.specs.Prelude.{ℤ, pos, ◌+ℤ◌, ◌-ℤ◌, ◌*ℤ◌, neg_ℤ, ◌≤ℤ◌, int_lt}
-use Rattle.std.proofs.lemmas.Int.{ints}
+use Rattle.std.proofs.Common.{◌≡◌, ℕ, ◌+◌, ◌*◌, ◌≤◌, ◌<◌, Bool, true, false, arith, refl, ap, sym, ◌∙◌, subst, ◌^◌, to_z, of_z}
+use Rattle.std.specs.Prelude.{ℤ, pos, ◌+ℤ◌, ◌-ℤ◌, ◌*ℤ◌, neg_ℤ, ◌≤ℤ◌, int_lt, nat_abs}
+use Rattle.std.proofs.lemmas.Int.{ints, to_z-of_z, fits_signed_from_abs}
 use Rattle.std.proofs.Math.Nat.{mul-le-mul_right, le_of_mul-le-mul_right}
 use borrow.Author.Differences.{up, down, product_is}
+use Rattle.std.specs.Int.{w128}
 
 -- p less q
 pub diff : ℕ → ℕ → ℤ
@@ -117,3 +118,10 @@ same_less a c p q f g = step (int_lt a c) (int_lt p q) refl refl
     step true false m n = absurd (let k = g (grind (arith, ints)) in grind (arith, ints, k))
     step false true m n = absurd (let k = f (grind (arith, ints)) in grind (arith, ints, k))
     step false false m n = n ∙ sym m
+
+pub abs-neg : (z : ℤ) → nat_abs (neg_ℤ z) ≡ nat_abs z
+abs-neg z = omega (arith, ints)
+
+-- a number that is small is itself after a cast to bits and back
+pub back128 : (z : ℤ) → nat_abs z < 2 ^ 127 → to_z w128 (of_z w128 z) ≡ z
+back128 z h = to_z-of_z w128 z (fits_signed_from_abs w128 z h)

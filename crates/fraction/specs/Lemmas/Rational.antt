@@ -32,7 +32,7 @@ same_den z d e p l = subst (λ e. (m : IsLowest z e) → made z d l ≡ made z e
 same_parts : (z y : ℤ) (d e : ℕ) → z ≡ y → d ≡ e → (l : IsLowest z d) (m : IsLowest y e) → made z d l ≡ made y e m
 same_parts z y d e q p l = subst (λ y. (m : IsLowest y e) → made z d l ≡ made y e m) q (same_den z d e p l)
 
-abs-times : (z : ℤ) (n : ℕ) → nat_abs (z *ℤ pos n) ≡ nat_abs z * n
+pub abs-times : (z : ℤ) (n : ℕ) → nat_abs (z *ℤ pos n) ≡ nat_abs z * n
 abs-times z n = unsigned_abs-mul z (pos n)
 
 -- equal fractions are one
@@ -42,6 +42,9 @@ pub ℚ_same : (x y : ℚ) → x.num *ℤ pos y.den ≡ y.num *ℤ pos x.den →
     let d : x.den ≡ y.den = same_lowest (nat_abs x.num) x.den (nat_abs y.num) y.den x.lowest.0 y.lowest.0 x.lowest.1 y.lowest.1 a in
     let n : x.num ≡ y.num = cancel_ℤ x.num y.num y.den y.lowest.0 (e ∙ ap (λ d. y.num *ℤ pos d) d) in
     same_parts x.num y.num x.den y.den n d x.lowest y.lowest
+
+pub same_by_parts : (x y : ℚ) → x.num ≡ y.num → x.den ≡ y.den → x ≡ y
+same_by_parts x y n d = ℚ_same x y (λ i. n i *ℤ pos (sym d i))
 
 -- ---- what `frac` is
 div-exact : (z : ℤ) (g : ℕ) → g ∣ nat_abs z → int_div z (pos g) *ℤ pos g ≡ z

@@ -9,11 +9,12 @@ use Rattle.std.proofs.lemmas.Bool.Decides.{Decides-int_eq}
 use Rattle.fraction.specs.Bounds.{Within}
 use Rattle.fraction.specs.Checked.{add_checked, mul_checked}
 use Rattle.fraction.specs.Lemmas.Bounds.{add_fits_within, add_is, mul_fits_small, mul_is, frac-num_le, small_product}
-use Rattle.fraction.specs.Lemmas.Integers.{diff-add, diff-mul, diff-neg, diff-pos, diff-same, is_diff, neg-mul_ℤ}
+use Rattle.fraction.specs.Lemmas.Integers.{diff-add, diff-mul, diff-neg, diff-pos, diff-same, is_diff, neg-mul_ℤ, abs-neg}
 use Rattle.fraction.specs.Lemmas.Rational.{frac-*ℚ, frac-+ℚ, frac_den, frac_is, frac_same, lit_one, neg_ℚ-frac, abs-signed}
 use Rattle.fraction.specs.Rational.{frac, inv_ℚ, signed_as, whole}
 use Rattle.integer_tableau.specs.Substitution.{quotient_numerator}
-use Rattle.tableau.specs.Elimination.{add_multiple, negative_quotient}
+use Rattle.tableau.specs.Elimination.{add_multiple, negative_quotient, zero_ℚ}
+use Rattle.integer_tableau.specs.Small.{IsOver}
 
 -- a numerator of 64 bits, or a denominator
 abbrev pub IsNarrow : ℤ → Type 0
@@ -105,9 +106,6 @@ quotient_over : (b a : ℤ) (d : ℕ) → (neg_ℤ a *ℤ signed_as b d) *ℤ po
 quotient_over (pos b) a d = rw (is_diff a) (simp (diff-pos, diff-mul, diff-neg) (diff-same _ _ _ _ (omega arith)))
 quotient_over (negsuc b) a d = quotient_neg a d (suc b)
 
-abs-neg : (a : ℤ) → nat_abs (neg_ℤ a) ≡ nat_abs a
-abs-neg a = omega (arith, ints)
-
 pub negative_quotient_exact : (b a : ℤ) (d : ℕ) → 0 < d → d < 2 ^ 63 → 0 < nat_abs b → IsNarrow b → IsNarrow a
     → negative_quotient (frac b d) (frac a d) ≡ Some (frac (quotient_numerator b a) (nat_abs b))
 negative_quotient_exact b a d o hd p hb ha =
@@ -134,3 +132,10 @@ not_zero z h = step (int_eq z (pos 0)) refl
 -- a fraction is not 0 where its numerator is not
 pub frac-num_positive : (b : ℤ) (d : ℕ) → 0 < d → 0 < nat_abs b → int_eq (frac b d).num (pos 0) ≡ false
 frac-num_positive b d o p = not_zero (frac b d).num (num_positive (nat_abs (frac b d).num) (nat_abs b) d (frac b d).den p (frac b d).lowest.0 (frac-size b d o))
+
+pub abs-negative_quotient : (p a : ℤ) → nat_abs (quotient_numerator p a) ≡ nat_abs a
+abs-negative_quotient (pos p) a = abs-neg a
+abs-negative_quotient (negsuc p) a = refl
+
+pub zero_is_over : (d k : ℕ) → 0 < d → IsOver d k zero_ℚ
+zero_is_over d k o = record { numerator = pos 0; small = omega arith; exact = sym (zero_over d o) }

@@ -7,7 +7,7 @@ use Rattle.core_search.specs.OpenNodes.{AreOpenNodes}
 use Rattle.core_search.specs.Processing.{IsEnding, IsExhausted}
 use Rattle.core_search.specs.Workers.{IsPrepared}
 use Rattle.core_search.proofs.Entering.{joined, same_problem}
-use Rattle.core_search.proofs.Limiting.{joined_few}
+use Rattle.node_pool.specs.Lemmas.Budgets.{joined_most}
 use Rattle.core_search.proofs.OpenLists.{none_left}
 use Rattle.core_search.proofs.Pooling.{goes_nowhere, goes_on, sound_still}
 use Rattle.core_search.proofs.Stepping.{joined_within}
@@ -37,7 +37,7 @@ loop-node-preserved g c =
       within_budget = joined_within a.budget a.state.state b.state.state z.state.state c.loop-node.invariant.within_budget within;
       nodes = c.in_default-step.ensures.nodes;
       prepared = c.in_default-step.ensures.prepared;
-      within_cuts = joined_few c.args.cuts (length a.state.state.cuts) (length b.state.state.cuts) (length z.state.state.cuts) c.loop-node.invariant.within_cuts few;
+      within_cuts = joined_most c.args.cuts (length a.state.state.cuts) (length b.state.state.cuts) (length z.state.state.cuts) c.loop-node.invariant.within_cuts few;
       limit = c.step.ensures.limit ∙ c.loop-node.invariant.limit;
       visits = visit b.state z.state c.loop-node.worker.costs c.step.new.worker.costs c.pop.new.self.items c.step.new.nodes.items c.in-Some.node
           (subst (AreVisits c.args.cuts a.state b.state c.loop-node.worker.costs) c.in-Some.ensures.items c.loop-node.invariant.visits)

@@ -1,9 +1,7 @@
-use Rattle.std.proofs.Common.{ap, ◌∙◌}
 use Rattle.std.specs.Prelude.{length}
 use Rattle.event_core.specs.States.{State, box_of}
 use Rattle.expand.specs.Lemmas.Events.{settlement_fits}
-use Rattle.core_search.proofs.Closing.{settles_legally, closing_some, closing_nodes, closing_cuts, closing_unspent}
-use Rattle.core_search.proofs.Stepping.{on_either}
+use Rattle.core_search.proofs.Closing.{settles_legally, closing_some, closing_nodes, closing_cuts, closing_unspent, either_keeps}
 use Rattle.core_search.proofs.process.close.Goals as goal
 
 pub settle_node-requires-clause-some : goal.settle_node-requires-clause-some
@@ -23,16 +21,12 @@ returns-clause-unspent g c = λ e.
 
 pub returns-clause-nodes : goal.returns-clause-nodes
 returns-clause-nodes g c =
-    let s = c.args.pool.now.state.state in
-    on_either c.settle_node.result
-    (λ h. ap (λ (u : State). u.nodes) h.state ∙ closing_nodes s c.args.node c.args.settlement c.requires.closing)
-    (λ h. ap (λ (u : State). u.nodes) h.state)
-    c.settle_node.ensures.made c.settle_node.ensures.unmade
+    let s = c.args.pool.now.state in
+    either_keeps (λ (u : State). u.nodes) c.args.node c.args.settlement s _ c.settle_node.result
+    (closing_nodes s.state c.args.node c.args.settlement c.requires.closing) c.settle_node.ensures.made c.settle_node.ensures.unmade
 
 pub returns-clause-cuts : goal.returns-clause-cuts
 returns-clause-cuts g c =
-    let s = c.args.pool.now.state.state in
-    on_either c.settle_node.result
-    (λ h. ap (λ (u : State). u.cuts) h.state ∙ closing_cuts s c.args.node c.args.settlement c.requires.closing)
-    (λ h. ap (λ (u : State). u.cuts) h.state)
-    c.settle_node.ensures.made c.settle_node.ensures.unmade
+    let s = c.args.pool.now.state in
+    either_keeps (λ (u : State). u.cuts) c.args.node c.args.settlement s _ c.settle_node.result
+    (closing_cuts s.state c.args.node c.args.settlement c.requires.closing) c.settle_node.ensures.made c.settle_node.ensures.unmade

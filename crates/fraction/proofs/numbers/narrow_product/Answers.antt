@@ -3,7 +3,7 @@ use mir.Val.{SFits}
 use Rattle.std.specs.Int.{w128}
 use Rattle.std.proofs.Math.Nat.{mul-le-mul}
 use Rattle.std.proofs.lemmas.Int.{ints, fits_signed_from_abs, to_z-of_z, unsigned_abs-mul}
-use Rattle.fraction.proofs.Casts.{back}
+use Rattle.fraction.specs.Lemmas.Integers.{back128}
 use Rattle.fraction.proofs.numbers.narrow_product.Goals as goal
 
 times : (x y : ℤ) (m n : ℕ) → nat_abs x ≤ m → nat_abs y ≤ n → nat_abs (x *ℤ y) ≤ m * n
@@ -25,7 +25,7 @@ pub overflow_mul-result : goal.overflow_mul-result
 overflow_mul-result c = fits_signed_from_abs w128 _ (subst (λ (z : ℤ). nat_abs z < 2 ^ 127) (sym (factors c)) (small c))
 
 pub returns-clause-value : goal.returns-clause-value
-returns-clause-value c = ap (λ (z : ℤ). to_z w128 (of_z w128 z)) (factors c) ∙ back _ (small c)
+returns-clause-value c = ap (λ (z : ℤ). to_z w128 (of_z w128 z)) (factors c) ∙ back128 _ (small c)
 
 pub returns-clause-small : goal.returns-clause-small
 returns-clause-small c = subst (λ (z : ℤ). nat_abs z < 2 ^ 127) (sym (returns-clause-value c)) (small c)

@@ -1,14 +1,14 @@
 use Rattle.std.proofs.Common.{◌≡◌, ◌<◌, ◌^◌, ◌+ℤ◌, ◌*ℤ◌, ◌∙◌, ℤ, pos, nat_abs, to_z, of_z, arith, ap, sym, subst, w64}
 use Rattle.std.specs.Int.{w128}
 use Rattle.std.proofs.lemmas.Int.{ints, fits_signed_from_abs, to_z-of_z}
-use Rattle.fraction.proofs.Casts.{back}
+use Rattle.fraction.specs.Lemmas.Integers.{back128}
 use Rattle.fraction.proofs.numbers.short_cross.Goals as goal
 
 sum_small : (x y : ℤ) → nat_abs x < 2 ^ 126 → nat_abs y < 2 ^ 126 → nat_abs (x +ℤ y) < 2 ^ 127
 sum_small x y h k = omega (arith, ints)
 
 sum_back : (x y : ℤ) → nat_abs x < 2 ^ 126 → nat_abs y < 2 ^ 126 → to_z w128 (of_z w128 x) +ℤ to_z w128 (of_z w128 y) ≡ x +ℤ y
-sum_back x y h k = λ i. back x (omega (arith, h)) i +ℤ back y (omega (arith, k)) i
+sum_back x y h k = λ i. back128 x (omega (arith, h)) i +ℤ back128 y (omega (arith, k)) i
 
 pub overflow_add-result : goal.overflow_add-result
 overflow_add-result c =
@@ -18,7 +18,7 @@ overflow_add-result c =
 sum : (c : goal.After-short_scaled-2) → to_z w128 (of_z w128 (to_z w128 (of_z w128 c.short_scaled.result) +ℤ to_z w128 (of_z w128 c.short_scaled-2.result))) ≡ c.short_scaled.result +ℤ c.short_scaled-2.result
 sum c =
     ap (λ (z : ℤ). to_z w128 (of_z w128 z)) (sum_back c.short_scaled.result c.short_scaled-2.result c.short_scaled.ensures.small c.short_scaled-2.ensures.small)
-    ∙ back _ (sum_small c.short_scaled.result c.short_scaled-2.result c.short_scaled.ensures.small c.short_scaled-2.ensures.small)
+    ∙ back128 _ (sum_small c.short_scaled.result c.short_scaled-2.result c.short_scaled.ensures.small c.short_scaled-2.ensures.small)
 
 pub returns-clause-value : goal.returns-clause-value
 returns-clause-value c =

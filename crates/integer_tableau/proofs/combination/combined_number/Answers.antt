@@ -7,9 +7,9 @@ use Rattle.integer_tableau.specs.Combined.{combined, numerator_of}
 use Rattle.integer_tableau.specs.Numbers.{total_size}
 use Rattle.integer_tableau.specs.Range.{size_limit}
 use Rattle.integer_tableau.specs.declared.position.Position.TheVariants.{InBasis}
+use Rattle.fraction.specs.Lemmas.Integers.{back128}
 use Rattle.integer_tableau.proofs.CombinedLoops.{IsNext, next_number}
 use Rattle.integer_tableau.proofs.Combining.{numerator_within}
-use Rattle.integer_tableau.proofs.Loops.{back128}
 use Rattle.integer_tableau.proofs.combination.combined_number.Goals as goal
 
 next : (c : goal.After-number_term-total) → let d = nat_abs (to_z w64 (of_z w64 c.args.denominator)) in let j = c.loop-j.j + 1 in

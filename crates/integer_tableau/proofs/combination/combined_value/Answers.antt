@@ -7,8 +7,8 @@ use Rattle.std.proofs.lemmas.List.{get_or_default}
 use Rattle.integer_tableau.specs.Combined.{combined_value, value_numerator}
 use Rattle.integer_tableau.specs.Numbers.{number_at, total_size}
 use Rattle.integer_tableau.specs.declared.position.Position.TheVariants.{InBasis}
+use Rattle.fraction.specs.Lemmas.Integers.{back128}
 use Rattle.integer_tableau.proofs.CombinedLoops.{IsNext, at_next_place, first_size, first_sum, next_value}
-use Rattle.integer_tableau.proofs.Loops.{back128}
 use Rattle.integer_tableau.proofs.Products.{last_sum}
 use Rattle.integer_tableau.proofs.combination.combined_value.Goals as goal
 
