@@ -4,11 +4,12 @@ ghost use Rattle.std.specs.Option.{ForSome};
 ghost use Rattle.event_codec.specs.Codes.{IsCodable};
 ghost use Rattle.event_codec.specs.Models.{IsUpper};
 
+use crate::groups::{GROUPS, show_group};
 use crate::printing::show_event;
-use anyhow::{Result, bail};
 use event_codec::{CodecError, decode, decode_model, encode, encode_model};
 use node_events::Event;
 use std::alloc::{AllocError, Global};
+use std::io;
 
 /// Payloads in hexadecimal digits, a blank before each field.
 const EVENTS: [&str; 21] = [
@@ -62,10 +63,18 @@ fn digits_of(alloc: Global, text: &str) -> Result<String, AllocError> {
     Ok(digits)
 }
 
+/// The bytes of hexadecimal digits.
+fn decoded(alloc: Global, digits: &str) -> io::Result<Vec<u8>> {
+    match hex::decode(alloc, digits.as_bytes()) {
+        Ok(bytes) => Ok(bytes),
+        Err(_) => Err(io::Error::other("a text of other digits")),
+    }
+}
+
 /// The bytes of a text in hexadecimal digits.
-pub(crate) fn bytes_of(alloc: Global, text: &str) -> Result<Vec<u8>> {
+fn bytes_of(alloc: Global, text: &str) -> io::Result<Vec<u8>> {
     let digits = digits_of(alloc, text)?;
-    Ok(hex::decode(alloc, digits.as_bytes())?)
+    decoded(alloc, &digits)
 }
 
 /// Whether an event is spelled by these bytes.
@@ -77,36 +86,28 @@ fn is_spelled(alloc: Global, event: &Event, bytes: &[u8]) -> Result<bool, AllocE
 }
 
 /// Prints an event and whether it is spelled by these bytes.
-fn show_spelled<R: Print + Alloc<A = Global>>(rt: &R, event: &Event, bytes: &[u8]) -> Result<()>
+fn show_spelled<R: Print + Alloc<A = Global>>(rt: &R, event: &Event, bytes: &[u8]) -> io::Result<()>
     requires { IsCodable event.now }
 {
     show_event(rt, event)?;
     let is_same = is_spelled(rt.alloc(), event, bytes)?;
-    println!(rt; "  spelled so: {is_same}")?;
-    Ok(())
+    println!(rt; "  spelled so: {is_same}")
 }
 
 /// Prints why a payload spells no event.
-pub(crate) fn show_fault<R: Print>(rt: &R, text: &str, fault: CodecError) -> Result<()> {
+pub(crate) fn show_fault<R: Print>(rt: &R, text: &str, fault: CodecError) -> io::Result<()> {
     match fault {
-        CodecError::Fault(fault) => println!(rt; "payload {text}: {fault:?}")?,
-        CodecError::Memory => bail!("no memory"),
+        CodecError::Fault(fault) => println!(rt; "payload {text}: {fault:?}"),
+        CodecError::Memory => Err(io::Error::from(io::ErrorKind::OutOfMemory)),
     }
-    Ok(())
 }
 
 /// Prints the event that bytes spell and whether it is spelled so, or their first fault.
-fn show_event_of<R: Print + Alloc<A = Global>>(rt: &R, text: &str, bytes: &[u8]) -> Result<()> {
+fn show_event_of<R: Print + Alloc<A = Global>>(rt: &R, text: &str, bytes: &[u8]) -> io::Result<()> {
     match decode(rt.alloc(), bytes) {
         Ok(event) => show_spelled(rt, &event, bytes),
         Err(fault) => show_fault(rt, text, fault),
     }
-}
-
-/// Prints what a payload spells.
-fn show_payload<R: Print + Alloc<A = Global>>(rt: &R, text: &str) -> Result<()> {
-    let bytes = bytes_of(rt.alloc(), text)?;
-    show_event_of(rt, text, &bytes)
 }
 
 /// Whether a model's record is these bytes.
@@ -128,37 +129,65 @@ fn show_record<R: Print + Alloc<A = Global>>(
     text: &[u8],
     upper: Option<i64>,
     bytes: &[u8],
-) -> Result<()>
+) -> io::Result<()>
     requires { ForSome upper IsUpper }
 {
     let is_same = is_record(rt.alloc(), text, upper, bytes)?;
     let size = text.len();
-    println!(rt; "model of {size} bytes, upper {upper:?}, spelled so: {is_same}")?;
-    Ok(())
+    println!(rt; "model of {size} bytes, upper {upper:?}, spelled so: {is_same}")
 }
 
 /// Prints the model whose record these bytes are and whether it is spelled so, or their first fault.
-fn show_model_of<R: Print + Alloc<A = Global>>(rt: &R, text: &str, bytes: &[u8]) -> Result<()> {
+fn show_model_of<R: Print + Alloc<A = Global>>(rt: &R, text: &str, bytes: &[u8]) -> io::Result<()> {
     match decode_model(bytes) {
-        Ok(model) => show_record(rt, model.text, model.upper, bytes)?,
-        Err(fault) => println!(rt; "model {text}: {fault:?}")?,
+        Ok(model) => show_record(rt, model.text, model.upper, bytes),
+        Err(fault) => println!(rt; "model {text}: {fault:?}"),
     }
-    Ok(())
 }
 
-/// Prints what the record of a model spells.
-fn show_model<R: Print + Alloc<A = Global>>(rt: &R, text: &str) -> Result<()> {
+/// What a payload is read as.
+#[derive(Clone, Copy)]
+enum Kind {
+    Event,
+    Model,
+    Group,
+}
+
+/// Prints what the bytes of a payload spell.
+fn show_bytes<R: Print + Alloc<A = Global>>(
+    rt: &R,
+    kind: Kind,
+    text: &str,
+    bytes: &[u8],
+) -> io::Result<()> {
+    match kind {
+        Kind::Event => show_event_of(rt, text, bytes),
+        Kind::Model => show_model_of(rt, text, bytes),
+        Kind::Group => show_group(rt, text, bytes),
+    }
+}
+
+/// Prints what a payload spells.
+fn show_payload<R: Print + Alloc<A = Global>>(rt: &R, kind: Kind, text: &str) -> io::Result<()> {
     let bytes = bytes_of(rt.alloc(), text)?;
-    show_model_of(rt, text, &bytes)
+    show_bytes(rt, kind, text, &bytes)
 }
 
 /// Prints what payloads spell.
-pub(crate) fn show<R: Print + Alloc<A = Global>>(rt: &R) -> Result<()> {
-    for text in &EVENTS {
-        show_payload(rt, text)?;
-    }
-    for text in &MODELS {
-        show_model(rt, text)?;
+fn show_payloads<R: Print + Alloc<A = Global>>(
+    rt: &R,
+    kind: Kind,
+    texts: &[&str],
+) -> io::Result<()> {
+    for text in texts {
+        show_payload(rt, kind, text)?;
     }
     Ok(())
+}
+
+/// Prints what payloads spell as events, as models and as groups.
+pub(crate) fn show<R: Print + Alloc<A = Global>>(rt: &R) -> io::Result<()> {
+    show_payloads(rt, Kind::Event, &EVENTS)?;
+    show_payloads(rt, Kind::Model, &MODELS)?;
+    show_payloads(rt, Kind::Group, &GROUPS)
 }

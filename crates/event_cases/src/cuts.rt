@@ -2,9 +2,9 @@
 
 ghost use Rattle.std.specs.Prelude.{◌<◌};
 
-use crate::events::single;
-use anyhow::Result;
-use case_tools::{Sum, problem_of};
+use crate::models::made;
+use crate::plans::single;
+use case_tools::Sum;
 use derivation_book::Book;
 use fraction::Frac;
 use node_events::{Mult, Proof};
@@ -41,16 +41,15 @@ fn show_cut<R: Print + Alloc<A = Global>>(
     problem: &Problem,
     book: &mut Book,
     factor: Frac,
-) -> Result<()> {
+) -> io::Result<()> {
     book.reserve(1)?;
     let mult = single(rt.alloc(), 0, factor)?;
     let is_cut = cut_by(rt.alloc(), problem, book, mult)?;
-    println!(rt; "cut by {factor} of row 0: {is_cut}")?;
-    Ok(())
+    println!(rt; "cut by {factor} of row 0: {is_cut}")
 }
 
 /// The proof by a factor of a row, which isn't rounded.
-fn bound(alloc: Global, row: u32, factor: Frac) -> Result<Proof> {
+fn bound(alloc: Global, row: u32, factor: Frac) -> io::Result<Proof> {
     let mult = single(alloc, row, factor)?;
     Ok(Proof::Bound {
         mult,
@@ -65,7 +64,7 @@ fn is_proved(
     book: &Book,
     (row, factor): (u32, Frac),
     cutoff: i8,
-) -> Result<bool> {
+) -> io::Result<bool> {
     let proof = bound(alloc, row, factor)?;
     let limit = Some(Frac::of(i128::from(cutoff)));
     Ok(book.admits(alloc, problem, problem.root(), limit, &proof)?)
@@ -78,10 +77,9 @@ fn show_bound<R: Print + Alloc<A = Global>>(
     book: &Book,
     (row, factor): (u32, Frac),
     cutoff: i8,
-) -> Result<()> {
+) -> io::Result<()> {
     let is_proved = is_proved(rt.alloc(), problem, book, (row, factor), cutoff)?;
-    println!(rt; "cut bound {cutoff} by {factor} of row {row}: {is_proved}")?;
-    Ok(())
+    println!(rt; "cut bound {cutoff} by {factor} of row {row}: {is_proved}")
 }
 
 /// Prints what a cut is made by.
@@ -106,7 +104,7 @@ fn show_cuts<R: Print + Alloc<A = Global>>(
     rt: &R,
     problem: &Problem,
     book: &mut Book,
-) -> Result<()> {
+) -> io::Result<()> {
     let half = Frac::make(1, 2);
     show_book(rt, book)?;
     show_bound(rt, problem, book, (0, half), 2)?;
@@ -118,8 +116,8 @@ fn show_cuts<R: Print + Alloc<A = Global>>(
 }
 
 /// Prints the cuts of the model, and its bounds.
-pub(crate) fn show<R: Print + Alloc<A = Global>>(rt: &R) -> Result<()> {
-    let problem = problem_of(rt.alloc(), MODEL)?;
+pub(crate) fn show<R: Print + Alloc<A = Global>>(rt: &R) -> io::Result<()> {
+    let problem = made(rt.alloc(), MODEL)?;
     let mut book = Book::make(rt.alloc());
     show_cuts(rt, &problem, &mut book)
 }

@@ -2,8 +2,8 @@
 
 ghost use Rattle.incumbent.specs.Offers.{IsIncumbentOf};
 
-use anyhow::Result;
-use case_tools::{NumberOrNone, problem_of};
+use crate::models::made;
+use case_tools::NumberOrNone;
 use fraction::Frac;
 use incumbent::Incumbent;
 use problem::{Point, Problem};
@@ -31,7 +31,7 @@ fn show_offer<R: Print + Alloc<A = Global>>(
     problem: &Problem,
     incumbent: &mut Incumbent,
     number: i64,
-) -> Result<()>
+) -> io::Result<()>
     requires { IsIncumbentOf problem.now incumbent.old }
     ensures { IsIncumbentOf problem.now incumbent.new }
 {
@@ -39,7 +39,7 @@ fn show_offer<R: Print + Alloc<A = Global>>(
     let taken = incumbent.offer(problem, point);
     let cutoff = NumberOrNone(incumbent.cutoff());
     print!(rt; "incumbent offer {number}: taken {taken}, cutoff {cutoff}")?;
-    Ok(show_point(rt, incumbent)?)
+    show_point(rt, incumbent)
 }
 
 /// Prints whether an objective is better than that of an incumbent.
@@ -53,19 +53,19 @@ fn show_offers<R: Print + Alloc<A = Global>>(
     rt: &R,
     problem: &Problem,
     incumbent: &mut Incumbent,
-) -> Result<()>
+) -> io::Result<()>
     requires { IsIncumbentOf problem.now incumbent.old }
 {
     show_offer(rt, problem, incumbent, 6)?;
     show_offer(rt, problem, incumbent, 5)?;
     show_offer(rt, problem, incumbent, 4)?;
     show_bettered(rt, incumbent, Frac::make(-1, 2))?;
-    Ok(show_bettered(rt, incumbent, Frac::of(0))?)
+    show_bettered(rt, incumbent, Frac::of(0))
 }
 
 /// Prints the offers to an incumbent of the model.
-pub(crate) fn show<R: Print + Alloc<A = Global>>(rt: &R) -> Result<()> {
-    let problem = problem_of(rt.alloc(), MODEL)?;
+pub(crate) fn show<R: Print + Alloc<A = Global>>(rt: &R) -> io::Result<()> {
+    let problem = made(rt.alloc(), MODEL)?;
     let mut incumbent = Incumbent::none();
     show_offers(rt, &problem, &mut incumbent)
 }

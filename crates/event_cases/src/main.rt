@@ -7,19 +7,20 @@ mod cuts;
 mod events;
 mod groups;
 mod incumbents;
+mod models;
+mod plans;
 mod printing;
 
-use anyhow::Result;
 use event_core::Entry;
+use std::io;
 use std::mem::size_of;
 
 // An event of a history takes at most 64 bytes beside the numbers that it carries.
 const _: () = prove!(size_of::<Entry>() <= 64);
 
-fn main(rt: HostRuntime) -> Result<()> {
+fn main(rt: HostRuntime) -> io::Result<()> {
     events::show(&rt)?;
     codes::show(&rt)?;
-    groups::show(&rt)?;
     incumbents::show(&rt)?;
     cuts::show(&rt)?;
     answers::show(&rt)

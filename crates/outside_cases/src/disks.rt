@@ -4,7 +4,6 @@ ghost use Rattle.std.specs.Prelude.{◌≡◌, ◌≤◌, length};
 ghost use Rattle.outside.specs.OnDisk.{disk_now};
 
 use crate::texts::text_of;
-use anyhow::{Result, bail};
 use outside::{Disk, MemDisk};
 use std::alloc::Global;
 use std::io;
@@ -35,47 +34,46 @@ fn show_counts<R: Print>(rt: &R, disk: &mut MemDisk) -> io::Result<()> {
 }
 
 /// Prints the calls of a disk whose second call fails.
-fn show_failing_calls<R: Print>(rt: &R, disk: &mut MemDisk) -> Result<()>
+fn show_failing_calls<R: Print>(rt: &R, disk: &mut MemDisk) -> io::Result<()>
     requires { 3 ≤ length (disk_now disk.old).seen }
 {
     let size = disk.size();
     let write = disk.write_at(3, b"de");
     println!(rt; "disk failing at call 1: size {size:?}, write {write:?}")?;
     show_bytes(rt, disk)?;
-    Ok(show_counts(rt, disk)?)
+    show_counts(rt, disk)
 }
 
 /// Prints the calls of a disk whose second call fails.
-fn show_failing<R: Print + Alloc<A = Global>>(rt: &R) -> Result<()> {
+fn show_failing<R: Print + Alloc<A = Global>>(rt: &R) -> io::Result<()> {
     let mut disk = MemDisk::failing(rt.alloc(), b"abc", &[1])?;
     show_failing_calls(rt, &mut disk)
 }
 
 /// Prints the calls of a disk that stops at its second call.
-fn show_stopping_calls<R: Print>(rt: &R, disk: &mut MemDisk) -> Result<()>
+fn show_stopping_calls<R: Print>(rt: &R, disk: &mut MemDisk) -> io::Result<()>
     requires { 2 ≤ length (disk_now disk.old).seen }
 {
     let cut = disk.cut(2);
     let (sync, size) = (disk.sync(), disk.size());
     println!(rt; "disk stopping at call 1: cut {cut:?}, sync {sync:?}, size {size:?}")?;
-    Ok(show_bytes(rt, disk)?)
+    show_bytes(rt, disk)
 }
 
 /// Prints the calls of a disk that stops at its second call.
-fn show_stopping<R: Print + Alloc<A = Global>>(rt: &R) -> Result<()> {
+fn show_stopping<R: Print + Alloc<A = Global>>(rt: &R) -> io::Result<()> {
     let mut disk = MemDisk::stopping_at(rt.alloc(), b"abc", 1)?;
     show_stopping_calls(rt, &mut disk)
 }
 
 /// Prints what a crash leaves.
-fn show_left<R: Print>(rt: &R, wish: &str, image: &[u8]) -> Result<()> {
+fn show_left<R: Print>(rt: &R, wish: &str, image: &[u8]) -> io::Result<()> {
     let left = text_of(image);
-    println!(rt; "disk image for {wish:?}: {left:?}")?;
-    Ok(())
+    println!(rt; "disk image for {wish:?}: {left:?}")
 }
 
 /// Prints what a crash may leave that is closest to a wish.
-fn show_image<R: Print + Alloc<A = Global>>(rt: &R, disk: &MemDisk, wish: &str) -> Result<()> {
+fn show_image<R: Print + Alloc<A = Global>>(rt: &R, disk: &MemDisk, wish: &str) -> io::Result<()> {
     let image = disk.image(rt.alloc(), wish.as_bytes())?;
     show_left(rt, wish, &image)
 }
@@ -94,24 +92,23 @@ fn change(disk: &mut MemDisk) -> bool
 }
 
 /// The disk of `abcdef` that is so changed.
-fn changed(alloc: Global) -> Result<MemDisk> {
+fn changed(alloc: Global) -> io::Result<MemDisk> {
     let mut disk = MemDisk::from_bytes(alloc, b"abcdef")?;
     if change(&mut disk) {
         Ok(disk)
     } else {
-        bail!("a call fails")
+        Err(io::Error::other("a call fails"))
     }
 }
 
 /// Prints the bytes that a disk keeps.
-fn show_text_kept<R: Print>(rt: &R, kept: &[u8]) -> Result<()> {
+fn show_text_kept<R: Print>(rt: &R, kept: &[u8]) -> io::Result<()> {
     let kept = text_of(kept);
-    println!(rt; "disk keeps {kept:?}")?;
-    Ok(())
+    println!(rt; "disk keeps {kept:?}")
 }
 
 /// Prints what a disk keeps.
-fn show_kept<R: Print + Alloc<A = Global>>(rt: &R, disk: &MemDisk) -> Result<()> {
+fn show_kept<R: Print + Alloc<A = Global>>(rt: &R, disk: &MemDisk) -> io::Result<()> {
     let kept = disk.kept(rt.alloc())?;
     show_text_kept(rt, &kept)
 }
@@ -123,7 +120,7 @@ fn show_sync<R: Print>(rt: &R, disk: &mut MemDisk) -> io::Result<()> {
 }
 
 /// Prints images of a disk before and behind a sync.
-fn show_images_of<R: Print + Alloc<A = Global>>(rt: &R, disk: &mut MemDisk) -> Result<()> {
+fn show_images_of<R: Print + Alloc<A = Global>>(rt: &R, disk: &mut MemDisk) -> io::Result<()> {
     show_bytes(rt, disk)?;
     show_kept(rt, disk)?;
     for wish in &WISHES {
@@ -134,30 +131,29 @@ fn show_images_of<R: Print + Alloc<A = Global>>(rt: &R, disk: &mut MemDisk) -> R
 }
 
 /// Prints images of each kind.
-fn show_images<R: Print + Alloc<A = Global>>(rt: &R) -> Result<()> {
+fn show_images<R: Print + Alloc<A = Global>>(rt: &R) -> io::Result<()> {
     let mut disk = changed(rt.alloc())?;
     show_images_of(rt, &mut disk)
 }
 
 /// Prints the last two bytes of a disk of five.
-fn show_last<R: Print>(rt: &R, disk: &mut MemDisk) -> Result<()>
+fn show_last<R: Print>(rt: &R, disk: &mut MemDisk) -> io::Result<()>
     requires { 5 ≤ length (disk_now disk.old).seen }
 {
     let mut buf = [0; 2];
     let read = disk.read_at(3, &mut buf);
     let given = text_of(&buf);
-    println!(rt; "disk read at 3: {read:?} {given:?}")?;
-    Ok(())
+    println!(rt; "disk read at 3: {read:?} {given:?}")
 }
 
 /// Prints a read.
-fn show_read<R: Print + Alloc<A = Global>>(rt: &R) -> Result<()> {
+fn show_read<R: Print + Alloc<A = Global>>(rt: &R) -> io::Result<()> {
     let mut disk = MemDisk::from_bytes(rt.alloc(), b"aXYZe")?;
     show_last(rt, &mut disk)
 }
 
 /// Prints the calls of disks.
-pub(crate) fn show<R: Print + Alloc<A = Global>>(rt: &R) -> Result<()> {
+pub(crate) fn show<R: Print + Alloc<A = Global>>(rt: &R) -> io::Result<()> {
     show_failing(rt)?;
     show_stopping(rt)?;
     show_images(rt)?;

@@ -8,9 +8,9 @@ mod sources;
 mod texts;
 mod words;
 
-use anyhow::Result;
+use std::io;
 
-fn main(rt: HostRuntime) -> Result<()> {
+fn main(rt: HostRuntime) -> io::Result<()> {
     sources::show(&rt)?;
     sinks::show(&rt)?;
     disks::show(&rt)?;

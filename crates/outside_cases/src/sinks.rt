@@ -1,7 +1,6 @@
 //! A sink in memory that takes pieces, and fails where it is listed; and the hold that holds nobody up.
 
 use crate::texts::text_of;
-use anyhow::Result;
 use outside::{Hold, MemSink, NoHold, Put, Sink, write_all};
 use std::alloc::{AllocError, Global};
 use std::io;
@@ -27,14 +26,14 @@ fn show_kept<R: Print>(rt: &R, sink: &MemSink) -> io::Result<()> {
 }
 
 /// Prints writes before the end, two ends, and a write behind them.
-fn show_calls<R: Print>(rt: &R, sink: &mut MemSink) -> Result<()> {
+fn show_calls<R: Print>(rt: &R, sink: &mut MemSink) -> io::Result<()> {
     for text in &["abc", "de", "fg"] {
         show_write(rt, sink, text)?;
     }
     show_finish(rt, sink)?;
     show_finish(rt, sink)?;
     show_write(rt, sink, "h")?;
-    Ok(show_kept(rt, sink)?)
+    show_kept(rt, sink)
 }
 
 /// A sink in pieces of two bytes, two of whose calls fail.
@@ -44,7 +43,7 @@ fn failing(alloc: Global) -> Result<MemSink, AllocError> {
 }
 
 /// Prints the calls of a sink that fails.
-fn show_failing<R: Print + Alloc<A = Global>>(rt: &R) -> Result<()> {
+fn show_failing<R: Print + Alloc<A = Global>>(rt: &R) -> io::Result<()> {
     let mut sink = failing(rt.alloc())?;
     show_calls(rt, &mut sink)
 }
@@ -56,11 +55,10 @@ fn put_at_once(alloc: Global) -> Put {
 }
 
 /// Prints the writes of sinks.
-pub(crate) fn show<R: Print + Alloc<A = Global>>(rt: &R) -> Result<()> {
+pub(crate) fn show<R: Print + Alloc<A = Global>>(rt: &R) -> io::Result<()> {
     show_failing(rt)?;
     let put = put_at_once(rt.alloc());
     println!(rt; "sink write at once: {put:?}")?;
     NoHold.asks(0);
-    println!(rt; "hold: worker 0 goes on")?;
-    Ok(())
+    println!(rt; "hold: worker 0 goes on")
 }

@@ -3,7 +3,6 @@
 ghost use Rattle.std.specs.Prelude.{◌<◌};
 
 use crate::texts::text_of;
-use anyhow::Result;
 use outside::{Got, MemSource, ReadFault, Source, read_all};
 use std::alloc::{AllocError, Global};
 use std::io;
@@ -29,7 +28,7 @@ fn show_read<R: Print>(rt: &R, source: &mut MemSource) -> io::Result<()> {
 }
 
 /// Prints what so many reads give.
-fn show_reads<R: Print>(rt: &R, source: &mut MemSource, reads: u8) -> Result<()> {
+fn show_reads<R: Print>(rt: &R, source: &mut MemSource, reads: u8) -> io::Result<()> {
     for _ in 0..reads {
         show_read(rt, source)?;
     }
@@ -37,16 +36,14 @@ fn show_reads<R: Print>(rt: &R, source: &mut MemSource, reads: u8) -> Result<()>
 }
 
 /// Prints the bytes that a reading to a limit gives.
-fn show_given<R: Print>(rt: &R, limit: u8, bytes: &[u8]) -> Result<()> {
+fn show_given<R: Print>(rt: &R, limit: u8, bytes: &[u8]) -> io::Result<()> {
     let given = text_of(bytes);
-    println!(rt; "source to {limit} gave {given:?}")?;
-    Ok(())
+    println!(rt; "source to {limit} gave {given:?}")
 }
 
 /// Prints how a reading to a limit fails.
-fn show_fault<R: Print>(rt: &R, limit: u8, fault: ReadFault) -> Result<()> {
-    println!(rt; "source to {limit}: {fault:?}")?;
-    Ok(())
+fn show_fault<R: Print>(rt: &R, limit: u8, fault: ReadFault) -> io::Result<()> {
+    println!(rt; "source to {limit}: {fault:?}")
 }
 
 /// Prints what all reads to a limit give.
@@ -54,7 +51,7 @@ fn show_read_all<R: Print + Alloc<A = Global>>(
     rt: &R,
     source: &mut MemSource,
     limit: u8,
-) -> Result<()> {
+) -> io::Result<()> {
     match read_all(rt.alloc(), source, usize::from(limit)) {
         Ok(bytes) => show_given(rt, limit, &bytes),
         Err(fault) => show_fault(rt, limit, fault),
@@ -70,25 +67,25 @@ fn five(alloc: Global, failing: &[u64], most: u8) -> Result<MemSource, AllocErro
 }
 
 /// Prints reads of which two fail.
-fn show_failing<R: Print + Alloc<A = Global>>(rt: &R) -> Result<()> {
+fn show_failing<R: Print + Alloc<A = Global>>(rt: &R) -> io::Result<()> {
     let mut source = five(rt.alloc(), &[1, 3], 2)?;
     show_reads(rt, &mut source, 6)
 }
 
 /// Prints what all reads of a source to a limit give.
-fn show_limit<R: Print + Alloc<A = Global>>(rt: &R, limit: u8) -> Result<()> {
+fn show_limit<R: Print + Alloc<A = Global>>(rt: &R, limit: u8) -> io::Result<()> {
     let source = MemSource::new(rt.alloc(), b"abcde")?;
     show_read_all(rt, &mut source.in_pieces(3), limit)
 }
 
 /// Prints a reading that fails.
-fn show_failing_limit<R: Print + Alloc<A = Global>>(rt: &R) -> Result<()> {
+fn show_failing_limit<R: Print + Alloc<A = Global>>(rt: &R) -> io::Result<()> {
     let mut source = five(rt.alloc(), &[2], 2)?;
     show_read_all(rt, &mut source, 9)
 }
 
 /// Prints the reads of sources.
-pub(crate) fn show<R: Print + Alloc<A = Global>>(rt: &R) -> Result<()> {
+pub(crate) fn show<R: Print + Alloc<A = Global>>(rt: &R) -> io::Result<()> {
     show_failing(rt)?;
     for limit in &[0, 3, 4, 5, 9] {
         show_limit(rt, *limit)?;

@@ -1,8 +1,8 @@
 //! The paths of a command.
 
-use anyhow::Result;
 use command_words::{Paths, Words, WordsFault, paths_of};
 use std::alloc::{AllocError, Global};
+use std::io;
 
 /// Lines that are commands, and lines that are none.
 const LINES: [&str; 19] = [
@@ -48,24 +48,22 @@ fn shown(path: &Option<String>) -> &str {
 }
 
 /// Prints paths.
-fn show_paths<R: Print>(rt: &R, line: &str, paths: &Paths) -> Result<()> {
+fn show_paths<R: Print>(rt: &R, line: &str, paths: &Paths) -> io::Result<()> {
     let (model, journal, cert) = (
         shown(&paths.model),
         shown(&paths.journal),
         shown(&paths.cert),
     );
-    println!(rt; "words {line}: model {model}, journal {journal}, certificate {cert}")?;
-    Ok(())
+    println!(rt; "words {line}: model {model}, journal {journal}, certificate {cert}")
 }
 
 /// Prints why a line is no command.
-fn show_fault<R: Print>(rt: &R, line: &str, fault: WordsFault) -> Result<()> {
-    println!(rt; "words {line}: {fault:?}")?;
-    Ok(())
+fn show_fault<R: Print>(rt: &R, line: &str, fault: WordsFault) -> io::Result<()> {
+    println!(rt; "words {line}: {fault:?}")
 }
 
 /// Prints the paths of the words of a line.
-fn show_words<R: Print + Alloc<A = Global>>(rt: &R, line: &str, words: &Words) -> Result<()> {
+fn show_words<R: Print + Alloc<A = Global>>(rt: &R, line: &str, words: &Words) -> io::Result<()> {
     match paths_of(rt.alloc(), words) {
         Ok(paths) => show_paths(rt, line, &paths),
         Err(fault) => show_fault(rt, line, fault),
@@ -73,13 +71,13 @@ fn show_words<R: Print + Alloc<A = Global>>(rt: &R, line: &str, words: &Words) -
 }
 
 /// Prints the paths of a line.
-fn show_line<R: Print + Alloc<A = Global>>(rt: &R, line: &str) -> Result<()> {
+fn show_line<R: Print + Alloc<A = Global>>(rt: &R, line: &str) -> io::Result<()> {
     let words = words_of(rt.alloc(), line)?;
     show_words(rt, line, &words)
 }
 
 /// Prints the paths of each line.
-pub(crate) fn show<R: Print + Alloc<A = Global>>(rt: &R) -> Result<()> {
+pub(crate) fn show<R: Print + Alloc<A = Global>>(rt: &R) -> io::Result<()> {
     for line in &LINES {
         show_line(rt, line)?;
     }

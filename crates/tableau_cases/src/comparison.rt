@@ -1,10 +1,10 @@
 // Random linear programs by each form of the tableau.
 
-use crate::ends::{End, fraction_end, integer_end, scaled_end};
+use crate::ends::{End, Form, end_in};
 use crate::programs::random_program;
 use anyhow::Result;
 use problem::Problem;
-use std::alloc::{AllocError, Global};
+use std::alloc::Global;
 use std::io;
 use tableau::{LinearProgram, Place};
 
@@ -71,43 +71,49 @@ impl Counts {
             differ: 0,
         }
     }
+}
 
-    /// Counts the ends of one program's runs.
-    fn count(&mut self, integers: &Option<End>, scaled: &Option<End>, fractions: &Option<End>) {
-        self.integers.count(integers);
-        self.scaled.count(scaled);
-        self.fractions.count(fractions);
-        if differ(integers, fractions) || differ(scaled, fractions) {
-            self.differ = self.differ.saturating_add(1);
-        }
+/// The end of a problem's linear program over its box in a form.
+fn end_of(alloc: Global, problem: &Problem, form: Form) -> Result<Option<End>> {
+    let program = LinearProgram::of(alloc, problem, problem.root())?;
+    end_in(alloc, form, program, problem.root(), PIVOTS)
+}
+
+/// Counts how a problem's run in another form ends. Whether that differs from its end on fractions.
+fn count_other(
+    alloc: Global,
+    tally: &mut Tally,
+    problem: &Problem,
+    form: Form,
+    fractions: &Option<End>,
+) -> Result<bool> {
+    let end = end_of(alloc, problem, form)?;
+    tally.count(&end);
+    Ok(differ(&end, fractions))
+}
+
+/// Counts how a problem's runs in the other forms end, and whether one differs from its end on fractions.
+fn count_others(
+    alloc: Global,
+    counts: &mut Counts,
+    problem: &Problem,
+    fractions: &Option<End>,
+) -> Result<()> {
+    let integers = &mut counts.integers;
+    let integers_differ = count_other(alloc, integers, problem, Form::Integers, fractions)?;
+    let scaled = &mut counts.scaled;
+    let scaled_differ = count_other(alloc, scaled, problem, Form::Scaled, fractions)?;
+    if integers_differ || scaled_differ {
+        counts.differ = counts.differ.saturating_add(1);
     }
-}
-
-/// The end of a problem's linear program over its box, on whole numbers.
-fn on_integers(alloc: Global, problem: &Problem) -> Result<Option<End>> {
-    let program = LinearProgram::of(alloc, problem, problem.root())?;
-    integer_end(alloc, &program, problem.root(), PIVOTS)
-}
-
-/// The end of a problem's linear program over its box, on scaled numbers.
-fn on_scaled(alloc: Global, problem: &Problem) -> Result<Option<End>> {
-    let program = LinearProgram::of(alloc, problem, problem.root())?;
-    scaled_end(alloc, &program, problem.root(), PIVOTS)
-}
-
-/// The end of a problem's linear program over its box, on fractions.
-fn on_fractions(alloc: Global, problem: &Problem) -> Result<Option<End>, AllocError> {
-    let program = LinearProgram::of(alloc, problem, problem.root())?;
-    fraction_end(alloc, program, PIVOTS)
+    Ok(())
 }
 
 /// Solves a problem's linear program over its box in each form, and counts how that ends.
 fn compare(alloc: Global, counts: &mut Counts, problem: &Problem) -> Result<()> {
-    let integers = on_integers(alloc, problem)?;
-    let scaled = on_scaled(alloc, problem)?;
-    let fractions = on_fractions(alloc, problem)?;
-    counts.count(&integers, &scaled, &fractions);
-    Ok(())
+    let fractions = end_of(alloc, problem, Form::Fractions)?;
+    counts.fractions.count(&fractions);
+    count_others(alloc, counts, problem, &fractions)
 }
 
 /// Compares the forms on the random program of a seed.
@@ -137,13 +143,17 @@ fn show_tally<R: Print>(rt: &R, form: &str, tally: Tally, neither: &str) -> io::
     )
 }
 
-/// Solves so many random programs in each form, and prints how often each end came, and how often the forms differed.
-pub(crate) fn show<R: Print + Alloc<A = Global>>(rt: &R, programs: u32) -> Result<()> {
-    let counts = compared(rt.alloc(), programs)?;
+/// Prints how often each end came, and how often the forms differed.
+fn show_counts<R: Print>(rt: &R, counts: Counts) -> io::Result<()> {
     show_tally(rt, "whole numbers", counts.integers, "given up")?;
     show_tally(rt, "scaled numbers", counts.scaled, "given up")?;
     show_tally(rt, "fractions", counts.fractions, "cramped")?;
     let differ = counts.differ;
-    println!(rt; "random programs whose runs differ: {differ}")?;
-    Ok(())
+    println!(rt; "random programs whose runs differ: {differ}")
+}
+
+/// Solves so many random programs in each form, and prints how often each end came, and how often the forms differed.
+pub(crate) fn show<R: Print + Alloc<A = Global>>(rt: &R, programs: u32) -> Result<()> {
+    let counts = compared(rt.alloc(), programs)?;
+    Ok(show_counts(rt, counts)?)
 }

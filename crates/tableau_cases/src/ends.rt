@@ -52,7 +52,7 @@ fn fraction_run(
 }
 
 /// The end of a run of at most so many pivots on fractions; none where its start is cramped.
-pub(crate) fn fraction_end(
+fn fraction_end(
     alloc: Global,
     program: LinearProgram,
     pivots: u32,
@@ -116,18 +116,17 @@ fn integer_start(
     }
 }
 
-/// The end of a run of at most so many pivots on whole numbers; none where it is given up. A box of other columns is an error.
-pub(crate) fn integer_end(
+/// The end of a run of at most so many pivots on whole numbers; none where it is given up.
+fn integer_end(
     alloc: Global,
     program: &LinearProgram,
     area: &IntBox,
     pivots: u32,
-) -> Result<Option<End>> {
-    if area.len() != program.columns() {
-        bail!("a linear program of other columns");
-    }
+) -> Result<Option<End>, AllocError>
+    requires { length area.now ≡ length program.now.costs }
+{
     match integer_start(alloc, program, area)? {
-        Some(start) => Ok(end_of(alloc, start.run(u64::from(pivots)))?),
+        Some(start) => end_of(alloc, start.run(u64::from(pivots))),
         None => Ok(None),
     }
 }
@@ -189,20 +188,58 @@ fn scaled_start(
     }
 }
 
-/// The end of a run of at most so many pivots on scaled numbers; none where it is given up. A box of other columns is an error.
-pub(crate) fn scaled_end(
+/// The end of a run of at most so many pivots on scaled numbers; none where it is given up.
+fn scaled_end(
     alloc: Global,
     program: &LinearProgram,
+    area: &IntBox,
+    pivots: u32,
+) -> Result<Option<End>, AllocError>
+    requires { length area.now ≡ length program.now.costs }
+{
+    match scaled_start(alloc, program, area)? {
+        Some(start) => scaled_end_of(alloc, start.run(u64::from(pivots))),
+        None => Ok(None),
+    }
+}
+
+/// A form of the tableau.
+#[derive(Clone, Copy)]
+pub(crate) enum Form {
+    Integers,
+    Scaled,
+    Fractions,
+}
+
+/// The end of a run of at most so many pivots in a form; none where it is given up, or its start is cramped.
+fn end_in_form(
+    alloc: Global,
+    form: Form,
+    program: LinearProgram,
+    area: &IntBox,
+    pivots: u32,
+) -> Result<Option<End>, AllocError>
+    requires { length area.now ≡ length program.costs }
+{
+    match form {
+        Form::Integers => integer_end(alloc, &program, area, pivots),
+        Form::Scaled => scaled_end(alloc, &program, area, pivots),
+        Form::Fractions => fraction_end(alloc, program, pivots),
+    }
+}
+
+/// The same. A box of other columns is an error.
+pub(crate) fn end_in(
+    alloc: Global,
+    form: Form,
+    program: LinearProgram,
     area: &IntBox,
     pivots: u32,
 ) -> Result<Option<End>> {
     if area.len() != program.columns() {
         bail!("a linear program of other columns");
     }
-    match scaled_start(alloc, program, area)? {
-        Some(start) => Ok(scaled_end_of(alloc, start.run(u64::from(pivots)))?),
-        None => Ok(None),
-    }
+    Ok(end_in_form(alloc, form, program, area, pivots)?)
 }
 
 /// Whether two points are the same.

@@ -1,6 +1,6 @@
 // Linear programs that were worked out by hand.
 
-use crate::ends::{End, fraction_end, integer_end, scaled_end};
+use crate::ends::{End, Form, end_in};
 use anyhow::{Result, bail};
 use case_tools::{Sum, problem_of};
 use fraction::Frac;
@@ -86,93 +86,52 @@ fn show_some<R: Print>(rt: &R, run: &str, end: &End) -> io::Result<()> {
 }
 
 /// Prints how a run ends.
-fn show_end<R: Print>(rt: &R, run: &str, end: &Option<End>) -> Result<()> {
+fn show_end<R: Print>(rt: &R, run: &str, end: &Option<End>) -> io::Result<()> {
     match end {
-        Some(end) => show_some(rt, run, end)?,
-        None => println!(rt; "tableau {run}: given up")?,
+        Some(end) => show_some(rt, run, end),
+        None => println!(rt; "tableau {run}: given up"),
+    }
+}
+
+/// The forms of the tableau, as they are printed.
+const FORMS: [(&str, Form); 3] = [
+    ("on whole numbers", Form::Integers),
+    ("on scaled numbers", Form::Scaled),
+    ("on fractions", Form::Fractions),
+];
+
+/// The end of a case's run in a form.
+fn end_of(alloc: Global, problem: &Problem, case: &Case, form: Form) -> Result<Option<End>> {
+    let (_, _, with_cut, pivots) = *case;
+    let program = program_of(alloc, problem, with_cut)?;
+    end_in(alloc, form, program, problem.root(), pivots)
+}
+
+/// Prints how a case's run in a form ends.
+fn show_form<R: Print + Alloc<A = Global>>(
+    rt: &R,
+    problem: &Problem,
+    case: &Case,
+    (run, form): (&str, Form),
+) -> Result<()> {
+    let end = end_of(rt.alloc(), problem, case, form)?;
+    Ok(show_end(rt, run, &end)?)
+}
+
+/// Prints the title of a case, and how the runs of its problem end in each form.
+fn show_forms<R: Print + Alloc<A = Global>>(rt: &R, problem: &Problem, case: &Case) -> Result<()> {
+    let title = case.0;
+    println!(rt; "tableau of {title}")?;
+    for form in &FORMS {
+        show_form(rt, problem, case, *form)?;
     }
     Ok(())
 }
 
-/// The end of a run on whole numbers.
-fn on_integers(
-    alloc: Global,
-    problem: &Problem,
-    with_cut: bool,
-    pivots: u32,
-) -> Result<Option<End>> {
-    let program = program_of(alloc, problem, with_cut)?;
-    integer_end(alloc, &program, problem.root(), pivots)
-}
-
-/// The end of a run on scaled numbers.
-fn on_scaled(alloc: Global, problem: &Problem, with_cut: bool, pivots: u32) -> Result<Option<End>> {
-    let program = program_of(alloc, problem, with_cut)?;
-    scaled_end(alloc, &program, problem.root(), pivots)
-}
-
-/// The end of a run on fractions.
-fn on_fractions(
-    alloc: Global,
-    problem: &Problem,
-    with_cut: bool,
-    pivots: u32,
-) -> Result<Option<End>> {
-    let program = program_of(alloc, problem, with_cut)?;
-    Ok(fraction_end(alloc, program, pivots)?)
-}
-
-/// Prints how a run on whole numbers ends.
-fn show_integers<R: Print + Alloc<A = Global>>(
-    rt: &R,
-    problem: &Problem,
-    with_cut: bool,
-    pivots: u32,
-) -> Result<()> {
-    let end = on_integers(rt.alloc(), problem, with_cut, pivots)?;
-    show_end(rt, "on whole numbers", &end)
-}
-
-/// Prints how a run on scaled numbers ends.
-fn show_scaled<R: Print + Alloc<A = Global>>(
-    rt: &R,
-    problem: &Problem,
-    with_cut: bool,
-    pivots: u32,
-) -> Result<()> {
-    let end = on_scaled(rt.alloc(), problem, with_cut, pivots)?;
-    show_end(rt, "on scaled numbers", &end)
-}
-
-/// Prints how a run on fractions ends.
-fn show_fractions<R: Print + Alloc<A = Global>>(
-    rt: &R,
-    problem: &Problem,
-    with_cut: bool,
-    pivots: u32,
-) -> Result<()> {
-    let end = on_fractions(rt.alloc(), problem, with_cut, pivots)?;
-    show_end(rt, "on fractions", &end)
-}
-
-/// Prints how the runs of a problem end in each form.
-fn show_all<R: Print + Alloc<A = Global>>(
-    rt: &R,
-    problem: &Problem,
-    with_cut: bool,
-    pivots: u32,
-) -> Result<()> {
-    show_integers(rt, problem, with_cut, pivots)?;
-    show_scaled(rt, problem, with_cut, pivots)?;
-    show_fractions(rt, problem, with_cut, pivots)
-}
-
 /// Prints a case.
 fn show_case<R: Print + Alloc<A = Global>>(rt: &R, case: &Case) -> Result<()> {
-    let (title, text, with_cut, pivots) = *case;
-    println!(rt; "tableau of {title}")?;
-    let problem = problem_of(rt.alloc(), text)?;
-    show_all(rt, &problem, with_cut, pivots)
+    let problem = problem_of(rt.alloc(), case.1)?;
+    show_forms(rt, &problem, case)
 }
 
 /// Prints each case.
