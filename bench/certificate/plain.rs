@@ -31,12 +31,14 @@ fn write_line(out: &mut BufWriter<File>, line: &[Word]) -> std::io::Result<()> {
     out.write_all(b"\n")
 }
 
-/// What this process has used of the processor so far, in seconds: a tick is a hundredth.
-fn processor_seconds() -> std::io::Result<f64> {
-    let told = std::fs::read_to_string("/proc/self/stat")?;
-    let behind_name = told.rsplit(") ").next().unwrap_or("");
-    let ticks = behind_name.split(' ').skip(11).take(2);
-    Ok(ticks.map(|ticks| ticks.parse::<f64>().unwrap_or(0.0)).sum::<f64>() / 100.0)
+extern "C" {
+    /// What this process has used of the processor so far, in microseconds (C's `clock`).
+    fn clock() -> i64;
+}
+
+fn processor_seconds() -> f64 {
+    // It takes nothing and changes nothing.
+    unsafe { clock() as f64 / 1e6 }
 }
 
 fn main() -> std::io::Result<()> {
@@ -47,12 +49,12 @@ fn main() -> std::io::Result<()> {
         .lines()
         .map(|line| line.split(' ').map(word).collect())
         .collect();
-    let start = processor_seconds()?;
+    let start = processor_seconds();
     let mut out = BufWriter::with_capacity(1 << 16, File::create(to)?);
     for line in &lines {
         write_line(&mut out, line)?;
     }
     out.into_inner()?.sync_all()?;
-    println!("{}", processor_seconds()? - start);
+    println!("{}", processor_seconds() - start);
     Ok(())
 }
