@@ -1,5 +1,5 @@
 // Points whose numbers need not be whole.
-ghost use Rattle.std.specs.Prelude.{◌≡◌, ◌<◌, ◌↔◌, ◌++◌, ◌∷◌, [], IsTrue, IfOk, OnOk, IfSome, Some, length, slice_get};
+ghost use Rattle.std.specs.Prelude.{◌≡◌, ◌<◌, ◌↔◌, ◌++◌, ◌∷◌, [], IsTrue, IfOk, OnOk, OnErr, IfSome, Some, length, slice_get};
 ghost use Rattle.node_events.specs.Points.{numbers_of};
 
 use fraction::{Frac, NarrowFrac};
@@ -66,9 +66,10 @@ fn widened(alloc: Global, numbers: &[NarrowFrac], number: Frac) -> Result<Vec<Fr
 }
 
 impl Numbers {
-    /// Puts one more number behind the others: in 64 bits, as long as each fits. The one error is want of memory.
+    /// Puts one more number behind the others: in 64 bits, as long as each fits. The one error is want of memory, after which the numbers are as before.
     fn push(&mut self, alloc: Global, number: Frac) -> Result<(), AllocError>
-        ensures { OnOk result (numbers_of self.new ≡ numbers_of self.old ++ number ∷ []) }
+        ensures ok { OnOk result (numbers_of self.new ≡ numbers_of self.old ++ number ∷ []) }
+        ensures err { OnErr result (numbers_of self.new ≡ numbers_of self.old) }
     {
         match self {
             Numbers::Wide(numbers) => Ok(numbers.push(number)?),
@@ -107,9 +108,10 @@ impl RationalPoint {
         })
     }
 
-    /// Puts the number of one more column behind the others. The one error is want of memory.
+    /// Puts the number of one more column behind the others. The one error is want of memory, after which the point is as before.
     pub fn push(&mut self, alloc: Global, number: Frac) -> Result<(), AllocError>
-        ensures { OnOk result (self.new ≡ self.old ++ number ∷ []) }
+        ensures ok { OnOk result (self.new ≡ self.old ++ number ∷ []) }
+        ensures err { OnErr result (self.new ≡ self.old) }
     {
         self.numbers.push(alloc, number)
     }

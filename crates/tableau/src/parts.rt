@@ -1,6 +1,6 @@
 // Tableaus from their parts.
 
-ghost use Rattle.std.specs.Prelude.{◌≡◌, ◌<◌, ◌≤◌, ◌++◌, ◌∷◌, ◌^◌, [], length, IfOk, OnOk};
+ghost use Rattle.std.specs.Prelude.{◌≡◌, ◌<◌, ◌≤◌, ◌++◌, ◌∷◌, ◌^◌, [], length, IfOk, OnOk, OnErr};
 
 use crate::bounds::Bounds;
 use crate::elimination::Workspace;
@@ -40,10 +40,11 @@ impl TableauRows {
         }
     }
 
-    /// Puts the row of these coefficients behind the others. The one error is want of memory.
+    /// Puts the row of these coefficients behind the others. The one error is want of memory, after which the rows are as before.
     pub fn push(&mut self, alloc: Global, coefficients: &[Frac]) -> Result<(), AllocError>
         requires { length coefficients.now < 2 ^ 32 }
-        ensures { OnOk result (self.new ≡ self.old ++ coefficients.now ∷ []) }
+        ensures ok { OnOk result (self.new ≡ self.old ++ coefficients.now ∷ []) }
+        ensures err { OnErr result (self.new ≡ self.old) }
     {
         let row = SparseRow::of_coefficients(alloc, coefficients)?;
         self.rows.push(row)?;

@@ -11,7 +11,7 @@ returns-in_err-number c =
 
 pub loop-preserved : goal.loop-preserved
 loop-preserved c =
-    rw c.in_ok-push.ensures (goes_on (fraction_at is_small) c.loop.point c.args.count c.loop.counter c.loop.cursor c.in_ok-number.number _ (elements_at (fraction_at is_small) c.args.count c.args.cursor.now) c.loop-test.true c.in_ok-number.ensures c.loop.invariant)
+    rw c.in_ok-push.ensures.ok (goes_on (fraction_at is_small) c.loop.point c.args.count c.loop.counter c.loop.cursor c.in_ok-number.number _ (elements_at (fraction_at is_small) c.args.count c.args.cursor.now) c.loop-test.true c.in_ok-number.ensures c.loop.invariant)
 
 pub returns : goal.returns
 returns c = is_done (fraction_at is_small) c.loop.point c.args.count c.loop.counter c.loop.cursor (elements_at (fraction_at is_small) c.args.count c.args.cursor.now) c.loop-test.false c.loop.invariant
