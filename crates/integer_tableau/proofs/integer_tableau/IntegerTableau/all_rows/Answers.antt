@@ -19,7 +19,7 @@ push-requires c =
 pub loop-variable-preserved : goal.loop-variable-preserved
 loop-variable-preserved c =
     one_more c.args.self.now.rows c.loop-variable.rows _ c.loop-variable.variable c.deref.result.now []
-    (omega (arith, c.loop-variable-test.true, rows_many _ _ _ _ _ _ c.args.self.now c.self.invariant.0 c.self.view_is refl, c.self.inside.positions.ok)) c.loop-variable.invariant (c.deref.ensures.value ∙ c.in_ok-row.ensures) c.in_ok-push.ensures
+    (omega (arith, c.loop-variable-test.true, rows_many _ _ _ _ _ _ c.args.self.now c.self.invariant.0 c.self.view_is refl, c.self.inside.positions.ok)) c.loop-variable.invariant (c.deref.ensures.value ∙ c.in_ok-row.ensures) c.in_ok-push.ensures.ok
 
 pub returns : goal.returns
 returns c =
