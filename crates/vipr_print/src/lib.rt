@@ -3,6 +3,7 @@
 
 mod fault;
 mod from_feed;
+mod integer_terms;
 pub mod laws;
 mod lines;
 mod pieces;

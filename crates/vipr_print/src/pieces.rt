@@ -4,6 +4,7 @@ ghost use Rattle.std.specs.List.{flat_map};
 ghost use Rattle.std.specs.Fmt.{decimal, signed_decimal};
 ghost use Rattle.vipr_print.specs.Spelling.{spelled_number, spelled_term, spelled_terms, spelled_sense, spelled_row, spelled_why, nonzero, count_nonzero, spelled_nonzero, spelled_nonzeros, next_column, column_numbers};
 
+use crate::integer_terms::push_integer_term;
 use cert_rows::{CertRow, Label, Why};
 use fraction::Frac;
 use itoa::Buffer;
@@ -41,13 +42,22 @@ pub fn push_number(out: &mut Vec<u8>, x: Frac) -> Result<(), AllocError>
     push_natural(out, den)
 }
 
-fn push_term(out: &mut Vec<u8>, term: &Term) -> Result<(), AllocError>
+fn push_long_term(out: &mut Vec<u8>, term: &Term) -> Result<(), AllocError>
     ensures { OnOk result (out.new.items ≡ out.old.items ++ spelled_term term.now) }
 {
     out.extend_from_slice(b" ")?;
     push_natural(out, u128::from(term.column()))?;
     out.extend_from_slice(b" ")?;
     push_number(out, term.coefficient())
+}
+
+fn push_term(out: &mut Vec<u8>, term: &Term) -> Result<(), AllocError>
+    ensures { OnOk result (out.new.items ≡ out.old.items ++ spelled_term term.now) }
+{
+    match term.integer() {
+        Some(number) => push_integer_term(out, term.column(), number),
+        None => push_long_term(out, term),
+    }
 }
 
 /// Pushes how many terms there are, and each term.
