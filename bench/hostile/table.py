@@ -1,9 +1,14 @@
 """What bench/hostile.sh prints: the cost of the dearest texts of a model, section by section, beside that of a plain text.
 
   table.py FOLDER PROGRAM RUNS
+
+`colliding` in FOLDER is the program of colliding.rs.
 """
+import functools
 import itertools
 import os
+import random
+import shutil
 import subprocess
 import sys
 import time
@@ -12,8 +17,11 @@ FOLDER, PROGRAM, RUNS = sys.argv[1], sys.argv[2], int(sys.argv[3])
 LIMIT = 4_194_304  # the bytes that a model may have
 COLUMNS = ROWS = 1000  # as many as a model may have
 FIELD = 255  # the bytes that a field may have
-COLLIDING = 8192  # names that collide
-BITS = 12  # the last bits of the hash that they share
+COLLIDING = 100_000  # names that collide
+BITS = 14  # the last bits of the hash that they share: a table of so many names has 2^14 groups, and the last bits choose the first one
+
+# The texts of names that are chosen to collide, and of others.
+OTHERS, COLLIDE = f"ROWS: {COLLIDING} random names", f"ROWS: {COLLIDING} names that collide"
 
 # The number of most digits.
 LONGEST = "999999999.9999999".rjust(FIELD, "0")
@@ -91,14 +99,22 @@ def cut(text):
     return text
 
 
+@functools.cache
 def colliding():
-    """Names whose hashes with fixed keys share their last bits: SipHash-1-3 with keys of 0, of the name's length in 8 bytes and the name. Python has
-    that hash where it is told to take no random one."""
-    if sys.hash_info.algorithm != "siphash13" or os.environ.get("PYTHONHASHSEED") != "0":
-        return None
-    length, last = (8).to_bytes(8, "little"), (1 << BITS) - 1
-    found = (name for name in (b"%08x" % number for number in itertools.count()) if hash(length + name) & last == 0)
-    return [name.decode() for name in itertools.islice(found, COLLIDING)]
+    """Names whose hashes with the fixed key share their last bits."""
+    words = [os.path.join(FOLDER, "colliding"), str(COLLIDING), str(BITS)]
+    return subprocess.run(words, stdout=subprocess.PIPE, check=True, text=True).stdout.split()
+
+
+def others():
+    """As many random names of the same length."""
+    draw = random.Random(1)
+    return [f"{number:010x}" for number in draw.sample(range(1 << 40), COLLIDING)]
+
+
+def further(names):
+    """A small model with these names of further N rows, which no limit on rows counts."""
+    return around(rows="".join(f" N {name}\n" for name in names))
 
 
 def texts():
@@ -112,10 +128,8 @@ def texts():
     yield "blanks", around(rows=" " * (ROOM - 1) + "\n")
     yield "ROWS: further N rows", around(rows=filled(numbered(" N %x\n")))
     yield "ROWS: names of 255 bytes", around(rows=filled([f" N {name}\n" for name in (str(n).rjust(FIELD, "n") for n in range(20_000))]))
-    names = colliding()
-    if names is not None:
-        yield f"ROWS: {COLLIDING} names that collide", around(rows="".join(f" N {name}\n" for name in names))
-        yield f"ROWS: {COLLIDING} other names", around(rows="".join(f" N {number * 2654435761 % 2 ** 32:08x}\n" for number in range(COLLIDING)))
+    yield OTHERS, further(others())
+    yield COLLIDE, further(colliding())
     yield "COLUMNS: entries of further N rows", pairs(" N %05x\n", " x %05x 1\n", "columns")
     yield "COLUMNS: the longest numbers", longest_numbers()
     yield "COLUMNS: names of 255 bytes", longest_columns()
@@ -128,13 +142,13 @@ def texts():
     yield "no ENDATA", around(rows=filled(numbered(" N %x\n")), end="")
 
 
-def measured(path):
+def measured(path, ahead=()):
     """How a run ends, its seconds and its KiB. GNU time is told to start it, since what Python starts inherits Python's peak of memory."""
     memory, journal, certificate = (os.path.join(FOLDER, name) for name in ("memory", "journal", "certificate"))
     for old in (journal, certificate):
         if os.path.exists(old):
             os.remove(old)
-    words = ["/usr/bin/time", "-q", "-f", "%M", "-o", memory, PROGRAM, "solve", path, journal, certificate, "--nodes", "1"]
+    words = ["/usr/bin/time", "-q", "-f", "%M", "-o", memory, *ahead, PROGRAM, "solve", path, journal, certificate, "--nodes", "1"]
     begin = time.perf_counter()
     done = subprocess.run(words, stdout=subprocess.PIPE, stderr=subprocess.DEVNULL, text=True)
     seconds = time.perf_counter() - begin
@@ -142,16 +156,39 @@ def measured(path):
         return done.stdout.split("\n")[0], seconds, int(file.read().split()[-1])
 
 
+def of_names(path, runs, ahead):
+    """The least times of the text of names that collide and of that of others, by turns."""
+    times = [[], []]
+    for _ in range(runs):
+        for names, of_text in zip((colliding(), others()), times):
+            write(path, further(names))
+            of_text.append(measured(path, ahead)[1])
+    return map(min, times)
+
+
+def tell_names(path, how, runs, ahead=()):
+    collide, other = of_names(path, runs, ahead)
+    print(f"{COLLIDING} names that collide beside as many random ones, {how}: {1000 * collide:.1f} ms and {1000 * other:.1f} ms, {collide / other:.2f}", flush=True)
+
+
+def write(path, text):
+    with open(path, "w", newline="") as file:
+        file.write(text)
+
+
 def main():
     path, first = os.path.join(FOLDER, "model"), None
     for title, text in texts():
-        with open(path, "w", newline="") as file:
-            file.write(text)
+        write(path, text)
         runs = [measured(path) for _ in range(RUNS)]
         told, seconds, memory = runs[0][0], min(run[1] for run in runs), max(run[2] for run in runs)
         first = first or (seconds, memory)
         print(f"{title}: {len(text)} bytes, {told!r}, {1000 * seconds:.1f} ms, {memory / 1024:.1f} MiB; "
               f"{seconds / first[0]:.2f} of the time, {memory / first[1]:.2f} of the memory", flush=True)
+    tell_names(path, "with the program's key", RUNS)
+    if shutil.which("strace"):
+        # The system gives the program no random bytes, so it takes the fixed key. This shows that the names do collide under it.
+        tell_names(path, "with the fixed key, under strace", 1, ["strace", "-f", "-o", os.devnull, "-e", "trace=getrandom", "-e", "inject=getrandom:error=ENOSYS"])
 
 
 main()
