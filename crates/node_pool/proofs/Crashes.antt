@@ -1,6 +1,6 @@
 -- What crashes leave of a pool's journal.
 use Rattle.std.specs.Prelude.{◌≡◌, ◌≤◌, ℕ, List, [], ◌∷◌, ◌++◌, length, take, Option, Some, None, Ok, refl}
-use Rattle.std.proofs.Common.{sym, ap, ◌∙◌, subst, inl, arith, ⊎_elim, length-take}
+use Rattle.std.proofs.Common.{sym, ap, ◌∙◌, subst, inl, inr, arith, ⊎_elim, length-take}
 use Rattle.std.proofs.lemmas.List.{take_all}
 use Rattle.outside.specs.Images.{IsImage, Leaves, LeavesOnly, NoMomentPasses}
 use Rattle.outside.specs.Lemmas.Passing.{started}
@@ -16,8 +16,8 @@ use Rattle.node_journal.specs.Whole.{payloads_in}
 use Rattle.node_journal.specs.Lemmas.Histories.{get_seam}
 use Rattle.node_pool.specs.declared.halt.Halt.{Halt}
 use Rattle.node_pool.specs.declared.halt.Halt.TheVariants as halt
-use Rattle.node_pool.specs.Payloads.{events_given, model_in, IsJournalOf, IsBeginningOf, LeavesBeginnings}
-use Rattle.node_pool.proofs.Spelling.{beginning_sound, beginning_failed, model_stays}
+use Rattle.node_pool.specs.Payloads.{events_given, model_in, journal_entries, IsJournalOf, IsJournalAfter, IsBeginningOf, LeavesBeginnings}
+use Rattle.node_pool.proofs.Spelling.{journal_more, beginning_sound, beginning_failed, model_stays}
 
 -- ---- since the journal was opened
 -- while the journal is sound, each crash leaves a beginning of what stands on the disk
@@ -82,7 +82,7 @@ run_last past now past' now' P run c is =
     leaves_last P now run.moments run.each c
     (subst (λ (m : Moment). IsImage m c) (sym (last_push now past' now') ∙ ap (λ (l : List Moment). last_of now l) run.passed ∙ last_behind now past now run.moments) is)
 
--- The model's record stays.
+-- What a read gives is as before, or with the new payload: so the model's record stays.
 module _ (past : List Moment) (now : Moment) (past' : List Moment) (now' : Moment) (history : List Entry) (p : List ℕ) (stands : IsJournalOf (payloads_in now) history) where
   pub model_kept : LeavesOnly past now past' now' (IsWithOrWithout (payloads_in now) p) → IsImage now' now'.seen → model_in (payloads_in now') ≡ model_in (payloads_in now)
   unfolding payloads_in
@@ -90,3 +90,12 @@ module _ (past : List Moment) (now : Moment) (past' : List Moment) (now' : Momen
       (λ old. ap (λ (r : Records). model_in (payloads_held r)) old)
       (λ new. ap (λ (r : Records). model_in (payloads_held r)) new ∙ model_stays (payloads_in now) p (journaled history) stands)
       (run_last past now past' now' (IsWithOrWithout (payloads_in now) p) run now'.seen is)
+
+  -- the disk failed while the payload was added
+  pub stands_failed : (n : ℕ) (es : List Event) → group_of p ≡ Ok es → LeavesOnly past now past' now' (IsWithOrWithout (payloads_in now) p) → IsImage now' now'.seen
+      → IsJournalAfter (payloads_in now') history (Some (halt.Disk n es))
+  unfolding payloads_in
+  stands_failed n es read run is = ∣ ⊎_elim
+      (λ old. inl (ap (λ (r : Records). journal_entries (payloads_held r)) old ∙ stands))
+      (λ new. inr (ap (λ (r : Records). journal_entries (payloads_held r)) new ∙ journal_more (payloads_in now) p (journaled history) es stands read))
+      (run_last past now past' now' (IsWithOrWithout (payloads_in now) p) run now'.seen is) ∣₁

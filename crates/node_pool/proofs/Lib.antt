@@ -1,8 +1,10 @@
 pub mod RisingLists
 pub mod OpenAndHeld
 pub mod Spelling
+pub mod Standing
 pub mod Budgets
 pub mod FreeNodes
 pub mod Next
 pub mod Crashes
 pub mod Keeping
+pub mod Releasing

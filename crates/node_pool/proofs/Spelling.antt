@@ -60,9 +60,6 @@ pub journal_push : (ps qs : List (List ℕ)) (p : List ℕ) (es : List Entry) (w
 journal_push ps qs p es w fs all is read more =
     ap (λ (l : List (List ℕ)). journal_entries l) more ∙ journal_more ps p (journaled es) fs is read ∙ ap Some (sym (journaled-all es w fs all))
 
-pub journal_same : (ps qs : List (List ℕ)) (es fs : List Entry) → IsJournalOf ps es → qs ≡ ps → journaled fs ≡ journaled es → IsJournalOf qs fs
-journal_same ps qs es fs is p q = ap (λ (l : List (List ℕ)). journal_entries l) p ∙ is ∙ ap Some (sym q)
-
 -- ---- the first payloads
 take_front : {A : Type 0} (xs ys : List A) → take (length xs) (xs ++ ys) ≡ xs
 take_front [] ys = refl

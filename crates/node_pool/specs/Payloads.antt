@@ -1,5 +1,5 @@
 -- The events that the payloads of a journal spell, and what crashes leave of them.
-use Rattle.std.specs.Prelude.{◌≡◌, ◌<◌, ℕ, List, [], ◌∷◌, ◌++◌, length, take, Option, Some, None, Result, Ok, Err, slice_index_or, unwrap_or}
+use Rattle.std.specs.Prelude.{◌≡◌, ◌⊎◌, ◌<◌, ℕ, List, [], ◌∷◌, ◌++◌, length, take, Option, Some, None, Result, Ok, Err, slice_index_or, unwrap_or}
 use Rattle.outside.specs.declared.moment.Moment.{Moment}
 use Rattle.node_events.specs.declared.event.Event.{Event}
 use Rattle.event_core.specs.declared.entry.Entry.{Entry}
@@ -44,6 +44,11 @@ events_given history None = journaled history
 events_given history (Some Memory) = journaled history
 events_given history (Some (Budget event)) = journaled history
 events_given history (Some (Disk faults events)) = journaled history ++ entries_by None events
+
+-- The payloads are a model's record, and behind it those that spell the journaled events of the history, or all events that were given. Where the disk didn't
+-- fail these are the same; where it did, the events of that call may stand behind those of the history, all of them or none.
+abbrev pub IsJournalAfter : List (List ℕ) → List Entry → Option Halt → Type 0
+IsJournalAfter ps history halt = ∥ IsJournalOf ps history ⊎ (journal_entries ps ≡ Some (events_given history halt)) ∥₁
 
 -- the events of what a file holds, where the model's record may be missing, with all behind it
 abbrev pub entries_held : Records → Option (List Entry)

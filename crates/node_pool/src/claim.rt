@@ -18,6 +18,7 @@ impl<D: Disk> Pool<D> {
         ensures stays { AppliesNothing self.old.state self.new.state }
         ensures journal { self.new.journal ≡ self.old.journal }
         ensures halt { self.new.halt ≡ self.old.halt }
+        ensures at_halt { self.new.at_halt ≡ self.old.at_halt }
         ensures budget { self.new.budget ≡ self.old.budget }
         ensures faults { self.new.faults ≡ self.old.faults }
     {
@@ -37,6 +38,7 @@ impl<D: Disk> Pool<D> {
         ensures halted { result ≡ Claim.Halted → AppliesNothing self.old.state self.new.state }
         ensures journal { self.new.journal ≡ self.old.journal }
         ensures halt { self.new.halt ≡ self.old.halt }
+        ensures at_halt { self.new.at_halt ≡ self.old.at_halt }
         ensures budget { self.new.budget ≡ self.old.budget }
         ensures faults { self.new.faults ≡ self.old.faults }
     {

@@ -13,6 +13,7 @@ ghost use Rattle.node_pool.specs.Free.{SplitsAlone};
 ghost use Rattle.node_pool.specs.Halting.{passes_budget, spends, halt_after, fails_by_disk};
 ghost use Rattle.node_pool.specs.Payloads.{model_in};
 ghost use Rattle.node_pool.specs.Applied.{AppliesAll, AppliesNothing};
+ghost use Rattle.node_pool.specs.Releases.{history_at};
 ghost use Rattle.node_tree.specs.Limits.{most_nodes};
 
 use crate::free::{add_children, reserve_for};
@@ -24,6 +25,7 @@ use node_events::Event;
 use node_journal::AppendFault;
 use outside::Disk;
 use std::alloc::{AllocError, Global};
+use std::snapshot::Snapshot;
 
 /// Whether the event splits a node of a tree of so many, and the two children would pass the budget.
 fn passes_budget(budget: u32, nodes: usize, event: &Event) -> bool
@@ -67,6 +69,7 @@ impl<D: Disk> Pool<D> {
         ensures stays { AppliesNothing self.old.state self.new.state }
         ensures journal { self.new.journal ≡ self.old.journal }
         ensures halt { self.new.halt ≡ self.old.halt }
+        ensures at_halt { self.new.at_halt ≡ self.old.at_halt }
         ensures budget { self.new.budget ≡ self.old.budget }
         ensures faults { self.new.faults ≡ self.old.faults }
     {
@@ -107,6 +110,7 @@ impl<D: Disk> Pool<D> {
         ensures unhalted { ¬ IsErrOf result CommitFault.Halted }
         ensures unspent { ¬ IsErrOf result CommitFault.Budget }
         ensures halt { self.new.halt ≡ halt_after self.old.halt result events.items (D.count self.new.journal.disk) }
+        ensures at_halt { self.new.at_halt.value.history ≡ history_at self.old.halt self.new.halt self.old.at_halt.value.history self.old.state.history }
         ensures cause { Counts (D.count self.old.journal.disk) (D.count self.new.journal.disk) (fails_by_disk result) }
         ensures any_moment { D.tells ≡ true → LeavesOnly (D.past self.old.journal.disk) (D.now self.old.journal.disk) (D.past self.new.journal.disk) (D.now self.new.journal.disk) (IsWithOrWithout (payloads_in (D.now self.old.journal.disk)) (group_code events.items)) }
         ensures continued { D.tells ≡ true → ExtendsMoments (D.past self.old.journal.disk ++ D.now self.old.journal.disk ∷ []) (D.past self.new.journal.disk ++ D.now self.new.journal.disk ∷ []) }
@@ -132,6 +136,7 @@ impl<D: Disk> Pool<D> {
             Err(AppendFault::Disk) => {
                 let faults = self.journal.disk().faults();
                 let events = Events::of(events);
+                self.at_halt = Snapshot::of(&self.state);
                 self.halt = Some(Halt::Disk { faults, events });
                 Err(CommitFault::Disk)
             }
@@ -162,6 +167,7 @@ impl<D: Disk> Pool<D> {
         ensures halted { IsErrOf result CommitFault.Halted ↔ IsSome self.old.halt }
         ensures spent { IsErrOf result CommitFault.Budget ↔ ((self.old.halt ≡ None) × (spends self.old.budget (length self.old.state.state.nodes) events.items ≡ true)) }
         ensures halt { self.new.halt ≡ halt_after self.old.halt result events.items (D.count self.new.journal.disk) }
+        ensures at_halt { self.new.at_halt.value.history ≡ history_at self.old.halt self.new.halt self.old.at_halt.value.history self.old.state.history }
         // The count of faults rises exactly where the answer is `Disk`.
         ensures cause { Counts (D.count self.old.journal.disk) (D.count self.new.journal.disk) (fails_by_disk result) }
         // A crash at any moment of the call leaves the payloads from before, or with the one of all these events.
@@ -186,6 +192,7 @@ impl<D: Disk> Pool<D> {
             let Some(event) = events.pop() else {
                 unreachable!();
             };
+            self.at_halt = Snapshot::of(&self.state);
             self.halt = Some(Halt::Budget { event });
             return Err(CommitFault::Budget);
         }

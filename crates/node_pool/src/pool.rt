@@ -1,10 +1,11 @@
 // The state of a search with its journal.
-ghost use Rattle.std.specs.Prelude.{◌≡◌, ◌≤◌, [], true, length, vec_capacity, option_copied, unwrap_or, IfOk, IfErr, Some, None};
+ghost use Rattle.std.specs.Prelude.{◌≡◌, ◌≤◌, [], true, length, vec_capacity, is_some, option_copied, unwrap_or, IfOk, IfErr, Some, None};
 ghost use Rattle.node_journal.specs.History.{KeepsHistory};
 ghost use Rattle.node_journal.specs.Whole.{payloads_in};
 ghost use Rattle.node_pool.specs.Free.{AreFreeNodes};
 ghost use Rattle.node_pool.specs.Halting.{IsHalt};
-ghost use Rattle.node_pool.specs.Payloads.{IsJournalOf, LeavesBeginnings};
+ghost use Rattle.node_pool.specs.Payloads.{IsJournalOf, IsJournalAfter, LeavesBeginnings};
+ghost use Rattle.node_pool.specs.Releases.{OnlyReleases, history_at};
 ghost use Rattle.node_pool.specs.Lemmas.Props.{IsHalt-prop};
 ghost use Rattle.node_tree.specs.Limits.{most_nodes};
 
@@ -14,6 +15,7 @@ use event_core::State;
 use node_journal::Journal;
 use outside::Disk;
 use std::alloc::Global;
+use std::snapshot::Snapshot;
 
 /// The state of a search with its journal. What is told of the one holds of the other, whatever crash comes.
 pub struct Pool<D: Disk> {
@@ -24,15 +26,18 @@ pub struct Pool<D: Disk> {
     /// How many nodes the tree may have.
     pub(crate) budget: u32,
     pub(crate) halt: Option<Halt>,
+    /// The state when the pool was halted. It has no bytes, and is for contracts.
+    pub(crate) at_halt: Snapshot<State>,
     /// The disk's count of faults when the pool was made.
     pub(crate) faults: u64,
     ghost listed: { AreFreeNodes state.state free.items },
     // A release takes no memory.
     ghost room: { length state.state.nodes ≤ vec_capacity free },
     ghost few: { budget ≤ most_nodes },
-    ghost stands: { D.tells ≡ true → journal.fault ≡ None → IsJournalOf (payloads_in (D.now journal.disk)) state.history },
+    ghost stands: { D.tells ≡ true → IsJournalAfter (payloads_in (D.now journal.disk)) state.history halt },
     ghost crashes: { D.tells ≡ true → LeavesBeginnings journal.opened (D.past journal.disk) (D.now journal.disk) state.history halt },
     ghost halts: { IsHalt faults budget (D.count journal.disk) journal.fault state.state halt } by { IsHalt-prop faults budget (D.count journal.disk) journal.fault state.state halt },
+    ghost released: { is_some halt ≡ true → OnlyReleases at_halt.value.history state.history },
 }
 
 impl<D: Disk> Pool<D> {
@@ -59,12 +64,14 @@ impl<D: Disk> Pool<D> {
             return Err((state, journal));
         };
         let faults = journal.disk().faults();
+        let at_halt = Snapshot::of(&state);
         Ok(Pool {
             state,
             journal,
             free,
             budget,
             halt: None,
+            at_halt,
             faults,
         })
     }
@@ -100,6 +107,7 @@ impl<D: Disk> Pool<D> {
     /// Halts the pool for want of memory, unless it is halted already.
     pub fn halt(&mut self)
         ensures halt { self.new.halt ≡ Some (unwrap_or self.old.halt Halt.Memory) }
+        ensures at_halt { self.new.at_halt.value.history ≡ history_at self.old.halt self.new.halt self.old.at_halt.value.history self.old.state.history }
         ensures state { self.new.state ≡ self.old.state }
         ensures journal { self.new.journal ≡ self.old.journal }
         ensures budget { self.new.budget ≡ self.old.budget }
@@ -108,16 +116,21 @@ impl<D: Disk> Pool<D> {
         if self.halt.is_some() {
             return;
         }
+        self.at_halt = Snapshot::of(&self.state);
         self.halt = Some(Halt::Memory);
     }
 
     /// What each pool keeps. This computes nothing: its contract is for callers' proofs.
     pub fn history_holds(&self)
-        // While the journal is sound, the disk has the model's record and what spells the history's events.
+        // The disk has the model's record and what spells the history's events; after a halt by the disk perhaps all events of that call behind them.
+        ensures stands_after { D.tells ≡ true → IsJournalAfter (payloads_in (D.now self.now.journal.disk)) self.now.state.history self.now.halt }
+        // While the journal is sound, it has none but those of the history.
         ensures stands { D.tells ≡ true → self.now.journal.fault ≡ None → IsJournalOf (payloads_in (D.now self.now.journal.disk)) self.now.state.history }
         // Each crash since the journal was opened leaves a beginning of them, perhaps with all events in whose call the disk failed.
         ensures crashes { D.tells ≡ true → LeavesBeginnings self.now.journal.opened (D.past self.now.journal.disk) (D.now self.now.journal.disk) self.now.state.history self.now.halt }
         ensures halted { IsHalt self.now.faults self.now.budget (D.count self.now.journal.disk) self.now.journal.fault self.now.state.state self.now.halt }
+        // Behind a halt only releases stand.
+        ensures released { is_some self.now.halt ≡ true → OnlyReleases self.now.at_halt.value.history self.now.state.history }
         ensures kept { D.tells ≡ true → KeepsHistory self.now.journal.opened (D.past self.now.journal.disk) (D.now self.now.journal.disk) (payloads_in (D.now self.now.journal.disk)) self.now.journal.fault }
         ensures few { self.now.budget ≤ most_nodes }
         // The disk has counted no fewer faults than when the pool was made.
@@ -132,9 +145,11 @@ impl<D: Disk> Pool<D> {
         ensures state { result.0 ≡ self.state }
         ensures journal { result.1 ≡ self.journal }
         ensures halt { result.2 ≡ self.halt }
+        ensures stands_after { D.tells ≡ true → IsJournalAfter (payloads_in (D.now result.1.disk)) result.0.history result.2 }
         ensures stands { D.tells ≡ true → result.1.fault ≡ None → IsJournalOf (payloads_in (D.now result.1.disk)) result.0.history }
         ensures crashes { D.tells ≡ true → LeavesBeginnings result.1.opened (D.past result.1.disk) (D.now result.1.disk) result.0.history result.2 }
         ensures halted { IsHalt self.faults self.budget (D.count result.1.disk) result.1.fault result.0.state result.2 }
+        ensures released { is_some result.2 ≡ true → OnlyReleases self.at_halt.value.history result.0.history }
     {
         let Pool {
             state,
@@ -142,6 +157,7 @@ impl<D: Disk> Pool<D> {
             free: _,
             budget: _,
             halt,
+            at_halt: _,
             faults: _,
         } = self;
         (state, journal, halt)

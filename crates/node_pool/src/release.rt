@@ -17,6 +17,7 @@ impl<D: Disk> Pool<D> {
         ensures released { Applies self.old.state (Some worker) (event.Release node) self.new.state }
         ensures journal { self.new.journal ≡ self.old.journal }
         ensures halt { self.new.halt ≡ self.old.halt }
+        ensures at_halt { self.new.at_halt ≡ self.old.at_halt }
         ensures budget { self.new.budget ≡ self.old.budget }
         ensures faults { self.new.faults ≡ self.old.faults }
     {

@@ -16,16 +16,18 @@ use Rattle.outside.specs.declared.moment.Moment.{Moment}
 use Rattle.node_pool.specs.declared.halt.Halt.{Halt}
 use Rattle.node_pool.specs.declared.halt.Halt.TheVariants as halt
 use Rattle.node_pool.specs.Halting.{IsDiskHalt}
-use Rattle.event_core.specs.Rooms.{split_count}
+use Rattle.event_core.specs.Rooms.{Recorded, split_count}
 use Rattle.node_pool.specs.Free.{children_of_all}
-use Rattle.node_pool.specs.Payloads.{IsJournalOf, LeavesBeginnings, events_given}
+use Rattle.node_pool.specs.Payloads.{IsJournalOf, IsJournalAfter, LeavesBeginnings, events_given}
 use Rattle.node_pool.proofs.Budgets.{within_budget}
 use Rattle.node_pool.proofs.FreeNodes.{listed_below, added_listed, nodes_added}
 use Rattle.node_pool.proofs.RisingLists.{fewer, missing}
-use Rattle.node_pool.proofs.Spelling.{AreJournaledEvents, journal_push, journal_same}
+use Rattle.node_pool.proofs.Spelling.{AreJournaledEvents, journal_push}
+use Rattle.node_pool.proofs.Standing.{journal_sound, after_sound}
 use Rattle.node_pool.proofs.Next.{next_events}
-use Rattle.node_pool.proofs.Crashes.{leaves_sound, leaves_failed, leaves_stands, model_kept}
+use Rattle.node_pool.proofs.Crashes.{leaves_sound, leaves_failed, leaves_stands, model_kept, stands_failed}
 use Rattle.node_pool.proofs.Keeping.{unfailed, halts_none}
+use Rattle.node_pool.proofs.Releasing.{unhalted_since, none_since, history_now, history_kept}
 use Rattle.node_pool.proofs.pool.Pool.add.Goals as goal
 
 pub add_children-requires-clause-room : goal.add_children-requires-clause-room
@@ -50,20 +52,22 @@ invariant_of-self g c =
     let sound = unfailed old.faults old.budget (g.D.Disk.count old.journal.disk) old.journal.fault s old.halt c.requires.sound old.halts in
     let ps = payloads_in (g.D.Disk.now old.journal.disk) in
     let qs = payloads_in (g.D.Disk.now journal.disk) in
+    let stood = λ (told : g.D.Disk.tells ≡ true). journal_sound old.faults old.budget (g.D.Disk.count old.journal.disk) old.journal.fault s before sound.sound ps old.halt old.halts (old.stands told) in
     let stands = λ (told : g.D.Disk.tells ≡ true). subst (λ (l : List Entry). IsJournalOf qs l) (sym c.apply_all.ensures.history)
-    (journal_push ps qs (group_code es) before (Some w) es journaled (old.stands told sound.sound) c.requires.read (c.in-Ok.ensures.added told ∙ ap (λ (p : List ℕ). ps ++ p ∷ []) c.requires.spelled)) in
+    (journal_push ps qs (group_code es) before (Some w) es journaled (stood told) c.requires.read (c.in-Ok.ensures.added told ∙ ap (λ (p : List ℕ). ps ++ p ∷ []) c.requires.spelled)) in
     record {
       listed = added_listed s.problem before s new.state w es old.free.items c.add_children.new.free.items c.len-number.result c.conditions_hold.ensures.state c.conditions_hold.ensures.legal c.requires.legal journaled old.listed
           c.apply_all.ensures.state (c.len-number.ensures ∙ ap (λ (ns : List Node). length ns) c.tree-tree.ensures.nodes)
           (c.add_children.ensures.items ∙ ap (λ (l : List Event). old.free.items ++ children_of_all l c.len-number.result) c.deref.ensures.value);
       room = omega (arith, c.requires.room, c.add_children.ensures.capacity, ap (λ (t : State). length t.nodes) c.apply_all.ensures.state, nodes_added s (Some w) es);
       few = old.few;
-      stands = λ told unfailed. stands told;
+      stands = λ told. after_sound qs after old.halt (stands told);
       crashes = λ told. leaves_sound journal.opened (g.D.Disk.past journal.disk) (g.D.Disk.now journal.disk) after old.halt
           (subst (λ (f : Option ℕ). KeepsHistory journal.opened (g.D.Disk.past journal.disk) (g.D.Disk.now journal.disk) qs f) c.in-Ok.ensures.sound.1 (journal.kept told)) (stands told)
           (ap (λ (h : Option Halt). events_given after h) c.requires.sound);
       halts = halts_none old.faults old.budget (g.D.Disk.count journal.disk) journal.fault new.state old.halt c.requires.sound
           (record { sound = c.in-Ok.ensures.sound.1; unchanged = c.in-Ok.ensures.cause sound.sound ∙ sound.unchanged });
+      released = unhalted_since old.halt _ _ c.requires.sound;
     }
 
 pub invariant_of-self-in-Err-Memory : goal.invariant_of-self-in-Err-Memory
@@ -82,11 +86,12 @@ invariant_of-self-in-Err-Memory g c =
       listed = old.listed;
       room = old.room;
       few = old.few;
-      stands = λ told sound. journal_same (payloads_in (now old.journal.disk)) (payloads_in (now journal.disk)) es es (old.stands told both.0) (ap (λ (m : Moment). payloads_in m) none.same) refl;
+      stands = λ told. subst (λ (m : Moment). IsJournalAfter (payloads_in m) es old.halt) (sym none.same) (old.stands told);
       crashes = λ told. subst (λ n. LeavesBeginnings n (past journal.disk) (now journal.disk) es old.halt) (sym c.in-Err-Memory.ensures.opened)
           (leaves_stands old.journal.opened (past old.journal.disk) (now old.journal.disk) (past journal.disk) (now journal.disk) es old.halt none (old.crashes told));
       halts = halts_none old.faults old.budget (g.D.Disk.count journal.disk) journal.fault s old.halt c.requires.sound
           (record { sound = both.1; unchanged = cause ∙ before.unchanged });
+      released = unhalted_since old.halt _ _ c.requires.sound;
     }
 
 pub returns-in-Err-Disk-clause-model : goal.returns-in-Err-Disk-clause-model
@@ -96,7 +101,8 @@ returns-in-Err-Disk-clause-model g c told =
     let past = g.D.Disk.past in
     let now = g.D.Disk.now in
     let before = unfailed old.faults old.budget (g.D.Disk.count old.journal.disk) old.journal.fault old.state.state old.halt c.requires.sound old.halts in
-    model_kept (past old.journal.disk) (now old.journal.disk) (past journal.disk) (now journal.disk) old.state.history c.args.payload.now (old.stands told before.sound) (c.append.ensures.any_moment told before.sound)
+    let stood = journal_sound old.faults old.budget (g.D.Disk.count old.journal.disk) old.journal.fault old.state.state old.state.history before.sound (payloads_in (now old.journal.disk)) old.halt old.halts (old.stands told) in
+    model_kept (past old.journal.disk) (now old.journal.disk) (past journal.disk) (now journal.disk) old.state.history c.args.payload.now stood (c.append.ensures.any_moment told before.sound)
     (g.met.D.Disk.seen_is_image journal.disk told)
 
 pub invariant_of-self-in-Err-Disk : goal.invariant_of-self-in-Err-Disk
@@ -112,6 +118,7 @@ invariant_of-self-in-Err-Disk g c =
     let n = c.faults-faults.result in
     let journaled : AreJournaledEvents es = recursion_from_All (λ (e : Event). is_journaled e ≡ true) es c.requires.journaled in
     let before = unfailed old.faults old.budget (count old.journal.disk) old.journal.fault s old.halt c.requires.sound old.halts in
+    let stood = λ (told : g.D.Disk.tells ≡ true). journal_sound old.faults old.budget (count old.journal.disk) old.journal.fault s history before.sound (payloads_in (now old.journal.disk)) old.halt old.halts (old.stands told) in
     let failed = c.in-Err-Disk.ensures.fails before.sound (search rules) in
     let counted : count journal.disk ≡ n = ap (λ d. count d) (sym c.disk.ensures) ∙ sym c.faults-faults.ensures in
     let cause = rw c.in-Err-Disk.field-0-is at (c.in-Err-Disk.ensures.cause before.sound) in
@@ -128,10 +135,22 @@ invariant_of-self-in-Err-Disk g c =
       listed = old.listed;
       room = old.room;
       few = old.few;
-      stands = λ told sound. absurd (cc (failed, sound));
+      stands = λ told. subst (λ (l : List Event). IsJournalAfter (payloads_in (now journal.disk)) history (Some (halt.Disk n l))) (sym c.of-events.ensures)
+          (stands_failed (past old.journal.disk) (now old.journal.disk) (past journal.disk) (now journal.disk) history c.args.payload.now (stood told) n es payload (c.append.ensures.any_moment told before.sound)
+          (g.met.D.Disk.seen_is_image journal.disk told));
       crashes = λ told. subst (λ (l : List Event). LeavesBeginnings journal.opened (past journal.disk) (now journal.disk) history (Some (halt.Disk n l))) (sym c.of-events.ensures)
-          (leaves_failed journal.opened (now old.journal.disk) (past journal.disk) (now journal.disk) history n es c.args.payload.now payload (old.stands told before.sound)
-          (model_kept (past old.journal.disk) (now old.journal.disk) (past journal.disk) (now journal.disk) history c.args.payload.now (old.stands told before.sound) (c.append.ensures.any_moment told before.sound) (g.met.D.Disk.seen_is_image journal.disk told))
+          (leaves_failed journal.opened (now old.journal.disk) (past journal.disk) (now journal.disk) history n es c.args.payload.now payload (stood told)
+          (model_kept (past old.journal.disk) (now old.journal.disk) (past journal.disk) (now journal.disk) history c.args.payload.now (stood told) (c.append.ensures.any_moment told before.sound) (g.met.D.Disk.seen_is_image journal.disk told))
           (subst (λ k. EachFrom k (past journal.disk ++ now journal.disk ∷ []) (λ b. IsPrefixOf (payloads_in (now old.journal.disk) ++ c.args.payload.now ∷ []) (records b))) (sym c.in-Err-Disk.ensures.opened) (c.in-Err-Disk.ensures.since told before.sound)));
       halts = subst (λ (l : List Event). IsDiskHalt old.faults old.budget (count journal.disk) journal.fault s n l) (sym c.of-events.ensures) halted;
+      released = λ done. none_since _ _ (ap (λ (r : Recorded). r.history) c.of.ensures);
     }
+
+pub returns-in-Ok-clause-at_halt : goal.returns-in-Ok-clause-at_halt
+returns-in-Ok-clause-at_halt g c = sym (history_kept c.args.self.now.halt c.args.self.now.halt _ _ refl)
+
+pub returns-in-Err-Memory-clause-at_halt : goal.returns-in-Err-Memory-clause-at_halt
+returns-in-Err-Memory-clause-at_halt g c = sym (history_kept c.args.self.now.halt c.args.self.now.halt _ _ refl)
+
+pub returns-in-Err-Disk-clause-at_halt : goal.returns-in-Err-Disk-clause-at_halt
+returns-in-Err-Disk-clause-at_halt g c = ap (λ (r : Recorded). r.history) c.of.ensures ∙ sym (history_now c.args.self.now.halt _ _ _ c.requires.sound)

@@ -6,7 +6,7 @@ use Rattle.node_events.specs.declared.event.Event.{Event}
 use Rattle.event_core.specs.Histories.{is_journaled, entries_by, AreLegalFrom}
 use Rattle.std.proofs.lemmas.List.Elements.{recursion_from_All}
 use Rattle.node_pool.proofs.Spelling.{AreJournaledEvents}
-use Rattle.event_core.specs.Rooms.{split_count}
+use Rattle.event_core.specs.Rooms.{Recorded, split_count}
 use Rattle.node_pool.proofs.Budgets.{split_taken, within_budget}
 use Rattle.outside.specs.Images.{LeavesOnly}
 use Rattle.event_core.specs.Laws.{JournalsAreLegal}
@@ -20,6 +20,9 @@ use Rattle.node_pool.specs.Payloads.{events_given}
 use Rattle.node_pool.proofs.Next.{next_event}
 use Rattle.node_pool.proofs.Crashes.{none_added}
 use Rattle.node_pool.proofs.Keeping.{none_if, leaves_given, unfailed}
+use Rattle.node_pool.specs.Releases.{history_at}
+use Rattle.node_pool.proofs.Releasing.{none_since, history_now, history_kept}
+use Rattle.node_pool.proofs.Standing.{after_given}
 use Rattle.node_pool.proofs.pool.Pool.commit_all.Goals as goal
 
 pub invariant_of-self : goal.invariant_of-self
@@ -35,17 +38,19 @@ invariant_of-self g c =
     let split = split_taken old.budget (length s.nodes) c.args.events.items c.pop.new.self.items c.pop.result e c.requires.alone over c.pop.ensures.items c.in-Some.is in
     let legal = subst (λ (l : List Event). AreLegalFrom s (entries_by (Some c.args.worker) l)) split.0 c.requires.legal in
     let journaled = subst (λ (l : List Event). AreJournaledEvents l) split.0 (recursion_from_All (λ (f : Event). is_journaled f ≡ true) c.args.events.items c.requires.journaled) in
+    let given = ap (λ (h : Option Halt). events_given es h) (sym none) in
     record {
       listed = old.listed;
       room = old.room;
       few = old.few;
-      stands = old.stands;
-      crashes = λ told. leaves_given old.journal.opened (g.D.Disk.past disk) (g.D.Disk.now disk) es es old.halt (Some (halt.Budget e)) refl (ap (λ (h : Option Halt). events_given es h) (sym none)) (old.crashes told);
+      stands = λ told. after_given (payloads_in (g.D.Disk.now disk)) es es old.halt (Some (halt.Budget e)) refl given (old.stands told);
+      crashes = λ told. leaves_given old.journal.opened (g.D.Disk.past disk) (g.D.Disk.now disk) es es old.halt (Some (halt.Budget e)) refl given (old.crashes told);
       halts = record {
         sound = unfailed old.faults old.budget (g.D.Disk.count disk) old.journal.fault s old.halt none old.halts;
         next = next_event s.problem es s (subst (λ (p : Problem). JournalsAreLegal p) c.problem.ensures c.journals_are_legal.ensures) c.conditions_hold.ensures.legal c.conditions_hold.ensures.state c.args.worker e legal.0.admitted journaled.0;
         over = split.1;
       };
+      released = λ halted. none_since _ _ (ap (λ (r : Recorded). r.history) c.of.ensures);
     }
 
 pub returns-then-spends-clause-any_moment : goal.returns-then-spends-clause-any_moment
@@ -82,3 +87,20 @@ prepare-requires-clause-numbers g c =
     in
     let few = within_budget old.budget (length s.nodes) c.args.events.items c.requires.alone within in
     omega (arith, few, old.few, c.conditions_hold-2.ensures.few, ap (λ (ns : List Node). length ns) c.tree-tree.ensures.nodes, ap (λ (l : List Event). split_count l) c.deref-2.ensures.value)
+
+pub returns-then-is_some-clause-at_halt : goal.returns-then-is_some-clause-at_halt
+returns-then-is_some-clause-at_halt g c = sym (history_kept c.args.self.now.halt c.args.self.now.halt _ _ refl)
+
+pub returns-then-spends-clause-at_halt : goal.returns-then-spends-clause-at_halt
+returns-then-spends-clause-at_halt g c = ap (λ (r : Recorded). r.history) c.of.ensures ∙ sym (history_now c.args.self.now.halt _ _ _ (none_if c.args.self.now.halt (sym c.is_some.ensures ∙ c.if-is_some.false)))
+
+pub returns-in-Err-clause-at_halt : goal.returns-in-Err-clause-at_halt
+returns-in-Err-clause-at_halt g c = ap (λ a. a.value.history) c.prepare.ensures.at_halt ∙ sym (history_kept c.args.self.now.halt c.prepare.new.self.halt _ _ c.prepare.ensures.halt)
+
+pub returns-in-Ok-clause-at_halt : goal.returns-in-Ok-clause-at_halt
+returns-in-Ok-clause-at_halt g c =
+    let old = c.args.self.now in
+    let ready = c.prepare.new.self in
+    let new = c.add.new.self in
+    c.add.ensures.at_halt ∙ ap (λ h. history_at h new.halt ready.at_halt.value.history ready.state.history) c.prepare.ensures.halt ∙ ap (λ a. history_at old.halt new.halt a.value.history ready.state.history) c.prepare.ensures.at_halt
+    ∙ ap (λ r. history_at old.halt new.halt old.at_halt.value.history r) c.prepare.ensures.stays.history

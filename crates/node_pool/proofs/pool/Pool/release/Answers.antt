@@ -7,8 +7,9 @@ use Rattle.event_core.specs.Lemmas.Passing.{passing}
 use Rattle.node_journal.specs.Whole.{payloads_in}
 use Rattle.node_pool.specs.Free.{AreFreeNodes}
 use Rattle.node_pool.proofs.FreeNodes.{held_missing, is_held_by, is_open_held, fewer_free, released_nodes}
-use Rattle.node_pool.proofs.Spelling.{journal_same}
-use Rattle.node_pool.proofs.Keeping.{same_journaled, same_leaves, halts_other}
+use Rattle.node_pool.proofs.Keeping.{given_same, same_journaled, same_leaves, halts_other}
+use Rattle.node_pool.proofs.Releasing.{more_since}
+use Rattle.node_pool.proofs.Standing.{after_given}
 use Rattle.node_pool.proofs.pool.Pool.release.Goals as goal
 
 pub insert_node-requires-clause-absent : goal.insert_node-requires-clause-absent
@@ -37,13 +38,14 @@ invariant_of-self g c =
     let node = c.args.node in
     let ps = payloads_in (g.D.Disk.now disk) in
     let free = c.insert_node.new.free.items in
+    let same = same_journaled old.state.state new.state old.state.history new.history (Some c.args.worker) (event.Release node) refl c.apply.ensures.state c.apply.ensures.history in
     record {
       listed = subst (λ (s : State). AreFreeNodes s free) (sym c.apply.ensures.state)
           (released_nodes old.state.state c.args.worker node c.conditions_hold.ensures.sound c.requires old.free.items free old.listed c.insert_node.ensures.rising c.insert_node.ensures.nodes);
       room = omega (arith, old.room, c.insert_node.ensures.capacity, ap (λ (s : State). length s.nodes) c.apply.ensures.state);
       few = old.few;
-      stands = λ told sound. journal_same ps ps old.state.history new.history (old.stands told sound) refl
-          (same_journaled old.state.state new.state old.state.history new.history (Some c.args.worker) (event.Release node) refl c.apply.ensures.state c.apply.ensures.history);
+      stands = λ told. after_given ps old.state.history new.history old.halt old.halt same (given_same old.state.history new.history old.halt same) (old.stands told);
       crashes = λ told. same_leaves old.state.state new.state old.state.history new.history (Some c.args.worker) (event.Release node) refl c.apply.ensures.state c.apply.ensures.history old.journal.opened (g.D.Disk.past disk) (g.D.Disk.now disk) old.halt (old.crashes told);
       halts = halts_other old.faults old.budget (g.D.Disk.count disk) old.journal.fault old.state.state new.state old.halt (Some c.args.worker) (event.Release node) refl c.apply.ensures.state old.halts;
+      released = λ halted. more_since _ _ _ (Some c.args.worker) node c.apply.ensures.history (old.released halted);
     }
