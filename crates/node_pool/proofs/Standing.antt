@@ -9,7 +9,7 @@ use Rattle.event_core.specs.Histories.{journaled}
 use Rattle.node_pool.specs.declared.halt.Halt.{Halt}
 use Rattle.node_pool.specs.declared.halt.Halt.TheVariants as halt
 use Rattle.node_pool.specs.Halting.{IsHalt}
-use Rattle.node_pool.specs.Payloads.{journal_entries, events_given, IsJournalOf, IsJournalAfter}
+use Rattle.node_pool.specs.Payloads.{events_given, IsJournalOf, IsJournalAfter}
 
 -- ---- where no more was given than the history
 one_history : (ps : List (List ℕ)) (es : List Entry) → IsProp (IsJournalOf ps es)

@@ -1,4 +1,4 @@
-use Rattle.std.proofs.Common.{ap, refl, arith, List, length}
+use Rattle.std.proofs.Common.{ap, arith, List, length}
 use Rattle.event_core.specs.declared.entry.Entry.{Entry}
 use Rattle.event_core.specs.States.{State}
 use Rattle.event_core.specs.Histories.{journaled}
