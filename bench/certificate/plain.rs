@@ -1,6 +1,9 @@
 // The plain program beside the certificate's last part: it has the numbers of a certificate's lines in memory, and writes the same text through a
 // buffer of 64 KiB into a file, which it syncs.
 //
+// Its time is that of the writing alone: each number is made into text, and labels and words are copied. It makes no line: it has no tree and no
+// proofs, so it adds no rows, finds no bound of a node's box and puts no multipliers in order, as the certificate's part does in its time.
+//
 //   plain CERTIFICATE OUT     prints the processor seconds of the writing
 use std::fs::File;
 use std::io::{BufWriter, Write};

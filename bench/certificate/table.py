@@ -3,7 +3,7 @@
 The program searches an equation of 20 columns without a solution for a point, without cuts: 587,859 nodes or so. The same search with a budget that
 is one split short of that writes no certificate: what the whole one has in memory beyond it is the certificate's part. Then two commands go on from the
 journal: one that shows it, and one that writes the certificate, whose seconds beyond the first are the certificate's. A plain program that has the
-numbers of the lines in memory writes the same bytes through a buffer.
+numbers of the lines in memory writes the same bytes through a buffer. It makes no multipliers, which the certificate's seconds hold as well.
 """
 import os
 import subprocess

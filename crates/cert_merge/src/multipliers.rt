@@ -86,13 +86,14 @@ fn push_bound(
     Ok(())
 }
 
-/// What is left of each column, on the line of the bound that it goes to.
+/// What is left of each column, on the line of the bound that it goes to, in a list with room for so many.
 fn bound_multipliers(
     alloc: Global,
     state: &State,
     layout: Layout,
     setters: &Setters,
     costs: &[Frac],
+    room: usize,
 ) -> Result<Vec<(u32, Frac)>, AllocError>
     requires numbered { IsNumbered state.now.state }
     requires laid { layout ≡ layout_of state.now.state }
@@ -102,7 +103,7 @@ fn bound_multipliers(
     ensures { IfOk result (λ v. v.items ≡ bound_multipliers (λ j. slice_index_or costs.now j (whole (pos 0))) 0 (sources_by state.now.state 0 setters.now)) }
 {
     state.problem().limits_hold();
-    let mut items = Vec::new(alloc);
+    let mut items = Vec::with_capacity(alloc, room)?;
     for (column, left) in costs.iter().enumerate() {
         push_bound(&mut items, state, layout, setters, column as u32, *left)?;
     }
@@ -151,8 +152,10 @@ pub fn node_multipliers(
     let costs = state
         .book()
         .reduced_costs(alloc, state.problem(), target, mult)?;
-    let mut items = bound_multipliers(alloc, state, layout, setters, &costs)?;
-    push_all(&mut items, mult.as_slice())?;
+    let mult = mult.as_slice();
+    let room = costs.len() + mult.len();
+    let mut items = bound_multipliers(alloc, state, layout, setters, &costs, room)?;
+    push_all(&mut items, mult)?;
     sorted(alloc, items)
 }
 

@@ -28,7 +28,7 @@ returns c =
     c.in_ok-costs.ensures.costs) in
     let bounds : bs ≡ bound_multipliers (λ j. slice_index_or cs j (whole (pos 0))) 0 (sources_by s 0 ts) =
     c.in_ok-items.ensures ∙ ap (λ (ks : List ℚ). bound_multipliers (λ j. slice_index_or ks j (whole (pos 0))) 0 (sources_by s 0 ts)) c.deref.ensures.value in
-    let whole_list : items ≡ bs ++ mult = c.in_ok-push_all.ensures ∙ ap (λ (ms : List (ℕ × ℚ)). bs ++ ms) c.as_slice.ensures.items in
+    let whole_list : items ≡ bs ++ mult = c.in_ok-push_all.ensures ∙ ap (λ (ms : List (ℕ × ℚ)). bs ++ ms) c.as_slice-mult.ensures.items in
     if_both c.sorted.result (λ t. IsPermutation items t) (λ t. IsNonDecreasingBy (λ (m : ℕ × ℚ). m.0) t) (λ t. t ≡ node_multipliers s c.args._node target mult)
-    (λ ys p o. multipliers_are s c.conditions_hold.ensures.sound.tree c.args._node ts c.requires.setters target mult c.requires.multipliers c.as_slice.ensures.rising cs bs items ys exact bounds whole_list p o)
+    (λ ys p o. multipliers_are s c.conditions_hold.ensures.sound.tree c.args._node ts c.requires.setters target mult c.requires.multipliers c.as_slice-mult.ensures.rising cs bs items ys exact bounds whole_list p o)
     c.sorted.ensures.moved c.sorted.ensures.rising
