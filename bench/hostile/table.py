@@ -142,13 +142,19 @@ def texts():
     yield "no ENDATA", around(rows=filled(numbered(" N %x\n")), end="")
 
 
-def measured(path, ahead=()):
-    """How a run ends, its seconds and its KiB. GNU time is told to start it, since what Python starts inherits Python's peak of memory."""
-    memory, journal, certificate = (os.path.join(FOLDER, name) for name in ("memory", "journal", "certificate"))
+def words_for(path):
+    """A run over a model, with its journal from the beginning."""
+    journal, certificate = (os.path.join(FOLDER, name) for name in ("journal", "certificate"))
     for old in (journal, certificate):
         if os.path.exists(old):
             os.remove(old)
-    words = ["/usr/bin/time", "-q", "-f", "%M", "-o", memory, *ahead, PROGRAM, "solve", path, journal, certificate, "--nodes", "1"]
+    return [PROGRAM, "solve", path, journal, certificate, "--nodes", "1"]
+
+
+def measured(path):
+    """How a run ends, its seconds and its KiB. GNU time is told to start it, since what Python starts inherits Python's peak of memory."""
+    memory = os.path.join(FOLDER, "memory")
+    words = ["/usr/bin/time", "-q", "-f", "%M", "-o", memory] + words_for(path)
     begin = time.perf_counter()
     done = subprocess.run(words, stdout=subprocess.PIPE, stderr=subprocess.DEVNULL, text=True)
     seconds = time.perf_counter() - begin
@@ -156,19 +162,23 @@ def measured(path, ahead=()):
         return done.stdout.split("\n")[0], seconds, int(file.read().split()[-1])
 
 
-def of_names(path, runs, ahead):
-    """The least times of the text of names that collide and of that of others, by turns."""
+def of_processor(path, ahead):
+    """The seconds of the processor that a run takes."""
+    process = subprocess.Popen([*ahead, *words_for(path)], stdout=subprocess.DEVNULL)
+    _, _, usage = os.wait4(process.pid, 0)
+    return usage.ru_utime + usage.ru_stime
+
+
+def tell_names(path, how, runs, ahead=()):
+    """The least seconds of the processor with names that collide and with others, by turns."""
     times = [[], []]
     for _ in range(runs):
         for names, of_text in zip((colliding(), others()), times):
             write(path, further(names))
-            of_text.append(measured(path, ahead)[1])
-    return map(min, times)
-
-
-def tell_names(path, how, runs, ahead=()):
-    collide, other = of_names(path, runs, ahead)
-    print(f"{COLLIDING} names that collide beside as many random ones, {how}: {1000 * collide:.1f} ms and {1000 * other:.1f} ms, {collide / other:.2f}", flush=True)
+            of_text.append(of_processor(path, ahead))
+    collide, other = map(min, times)
+    print(f"{COLLIDING} names that collide beside as many random ones, {how}: {1000 * collide:.1f} ms of the processor and {1000 * other:.1f} ms, "
+          f"{collide / other:.2f}", flush=True)
 
 
 def write(path, text):
@@ -185,7 +195,7 @@ def main():
         first = first or (seconds, memory)
         print(f"{title}: {len(text)} bytes, {told!r}, {1000 * seconds:.1f} ms, {memory / 1024:.1f} MiB; "
               f"{seconds / first[0]:.2f} of the time, {memory / first[1]:.2f} of the memory", flush=True)
-    tell_names(path, "with the program's key", RUNS)
+    tell_names(path, "with the program's key", 5 * RUNS)
     if shutil.which("strace"):
         # The system gives the program no random bytes, so it takes the fixed key. This shows that the names do collide under it.
         tell_names(path, "with the fixed key, under strace", 1, ["strace", "-f", "-o", os.devnull, "-e", "trace=getrandom", "-e", "inject=getrandom:error=ENOSYS"])
