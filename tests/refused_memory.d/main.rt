@@ -8,11 +8,10 @@ use anyhow::Result;
 use outside::{Disk, MemDisk, MemSink, MemSource, NoHold};
 use solve_top::{Ran, Words, run};
 use std::alloc::{AllocError, Global};
-use std::env;
 use std::hash::{BuildHasherDefault, DefaultHasher};
-use std::io;
 use std::sync::Wait;
 use std::thread::Threads;
+use std::{env, io};
 
 /// What a command is given besides its disk.
 #[derive(Drop)]
