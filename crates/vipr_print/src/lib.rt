@@ -3,11 +3,11 @@
 
 mod fault;
 mod from_feed;
-mod integer_terms;
 pub mod laws;
 mod lines;
 mod pieces;
 mod printing;
+mod short_pieces;
 mod sizes;
 
 pub use fault::PrintFault;

@@ -6,7 +6,7 @@ ghost use Rattle.vipr_print.specs.Printed.{IsPrinted};
 
 use crate::fault::PrintFault;
 use crate::pieces::{
-    push_columns, push_natural, push_number, push_point, push_row, push_terms, push_why,
+    push_columns, push_natural, push_number, push_point, push_reason, push_row, push_terms,
 };
 use cert_rows::{CertRow, Goal, Why};
 use outside::{Sink, write_all};
@@ -217,9 +217,7 @@ fn make_derived(line: &mut Vec<u8>, derived: &(CertRow, Why)) -> Result<(), Allo
 {
     line.clear();
     push_row(line, &derived.0)?;
-    line.extend_from_slice(b" { ")?;
-    push_why(line, &derived.1)?;
-    Ok(line.extend_from_slice(b" } -1\n")?)
+    push_reason(line, &derived.1)
 }
 
 /// A derived line.

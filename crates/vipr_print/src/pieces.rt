@@ -1,10 +1,10 @@
 // The pieces of a line, pushed behind what a buffer has.
-ghost use Rattle.std.specs.Prelude.{◌≡◌, ◌++◌, OnOk, length};
+ghost use Rattle.std.specs.Prelude.{◌≡◌, ◌++◌, [], ◌∷◌, OnOk, IfSome, codes, length};
 ghost use Rattle.std.specs.List.{flat_map};
 ghost use Rattle.std.specs.Fmt.{decimal, signed_decimal};
 ghost use Rattle.vipr_print.specs.Spelling.{spelled_number, spelled_term, spelled_terms, spelled_sense, spelled_row, spelled_why, nonzero, count_nonzero, spelled_nonzero, spelled_nonzeros, next_column, column_numbers};
 
-use crate::integer_terms::push_integer_term;
+use crate::short_pieces::{push_front, push_integer_term, push_numbers};
 use cert_rows::{CertRow, Label, Why};
 use fraction::Frac;
 use itoa::Buffer;
@@ -60,15 +60,21 @@ fn push_term(out: &mut Vec<u8>, term: &Term) -> Result<(), AllocError>
     }
 }
 
+fn push_each_term(out: &mut Vec<u8>, terms: &[Term]) -> Result<(), AllocError>
+    ensures { OnOk result (out.new.items ≡ out.old.items ++ flat_map spelled_term terms.now) }
+{
+    for term in terms {
+        push_term(out, term)?;
+    }
+    Ok(())
+}
+
 /// Pushes how many terms there are, and each term.
 pub fn push_terms(out: &mut Vec<u8>, terms: &[Term]) -> Result<(), AllocError>
     ensures { OnOk result (out.new.items ≡ out.old.items ++ spelled_terms terms.now) }
 {
     push_natural(out, terms.len() as u128)?;
-    for term in terms {
-        push_term(out, term)?;
-    }
-    Ok(())
+    push_each_term(out, terms)
 }
 
 fn sense_text(sense: Sense) -> &'static [u8]
@@ -89,8 +95,41 @@ fn push_label(out: &mut Vec<u8>, label: &Label) -> Result<(), AllocError>
     push_natural(out, number as u128)
 }
 
-/// Pushes `label sense rhs list`.
-pub fn push_row(out: &mut Vec<u8>, row: &CertRow) -> Result<(), AllocError>
+/// The letter of a sense.
+fn sense_letter(sense: Sense) -> u8
+    ensures { 32 ∷ result ∷ 32 ∷ [] ≡ spelled_sense sense }
+{
+    match sense {
+        Sense::G => b'G',
+        Sense::L => b'L',
+        Sense::E => b'E',
+    }
+}
+
+/// The number itself, where it is whole and its size is below 2^63.
+fn integer(x: Frac) -> Option<i64>
+    ensures { IfSome result (λ n. signed_decimal n ≡ spelled_number x) }
+{
+    x.narrow()?.integer()
+}
+
+// Pushes a row whose right side is this whole number.
+fn push_short_row(out: &mut Vec<u8>, row: &CertRow, side: i64) -> Result<(), AllocError>
+    requires { signed_decimal side ≡ spelled_number row.now.rhs }
+    ensures { OnOk result (out.new.items ≡ out.old.items ++ spelled_row row.now) }
+{
+    let terms = row.terms.as_slice();
+    push_front(
+        out,
+        row.label.parts(),
+        sense_letter(row.sense),
+        side,
+        terms.len(),
+    )?;
+    push_each_term(out, terms)
+}
+
+fn push_long_row(out: &mut Vec<u8>, row: &CertRow) -> Result<(), AllocError>
     ensures { OnOk result (out.new.items ≡ out.old.items ++ spelled_row row.now) }
 {
     push_label(out, &row.label)?;
@@ -100,6 +139,16 @@ pub fn push_row(out: &mut Vec<u8>, row: &CertRow) -> Result<(), AllocError>
     push_terms(out, row.terms.as_slice())
 }
 
+/// Pushes `label sense rhs list`.
+pub fn push_row(out: &mut Vec<u8>, row: &CertRow) -> Result<(), AllocError>
+    ensures { OnOk result (out.new.items ≡ out.old.items ++ spelled_row row.now) }
+{
+    match integer(row.rhs) {
+        Some(side) => push_short_row(out, row, side),
+        None => push_long_row(out, row),
+    }
+}
+
 fn push_multipliers(out: &mut Vec<u8>, word: &[u8], terms: &[Term]) -> Result<(), AllocError>
     ensures { OnOk result (out.new.items ≡ out.old.items ++ word.now ++ spelled_terms terms.now) }
 {
@@ -107,8 +156,7 @@ fn push_multipliers(out: &mut Vec<u8>, word: &[u8], terms: &[Term]) -> Result<()
     push_terms(out, terms)
 }
 
-/// Pushes a reason.
-pub fn push_why(out: &mut Vec<u8>, why: &Why) -> Result<(), AllocError>
+fn push_why(out: &mut Vec<u8>, why: &Why) -> Result<(), AllocError>
     ensures { OnOk result (out.new.items ≡ out.old.items ++ spelled_why why.now) }
 {
     match why {
@@ -116,16 +164,22 @@ pub fn push_why(out: &mut Vec<u8>, why: &Why) -> Result<(), AllocError>
         Why::Lin { mult } => push_multipliers(out, b"lin ", mult.as_slice()),
         Why::Rnd { mult } => push_multipliers(out, b"rnd ", mult.as_slice()),
         Why::Uns { i1, l1, i2, l2 } => {
-            out.extend_from_slice(b"uns ")?;
-            push_natural(out, u128::from(*i1))?;
-            out.extend_from_slice(b" ")?;
-            push_natural(out, u128::from(*l1))?;
-            out.extend_from_slice(b" ")?;
-            push_natural(out, u128::from(*i2))?;
-            out.extend_from_slice(b" ")?;
-            push_natural(out, u128::from(*l2))
+            out.extend_from_slice(b"uns")?;
+            push_numbers(out, (*i1, *l1), (*i2, *l2))
         }
     }
+}
+
+/// Pushes a reason between braces, and the end of its line.
+pub fn push_reason(out: &mut Vec<u8>, why: &Why) -> Result<(), AllocError>
+    ensures { OnOk result (out.new.items ≡ out.old.items ++ (codes " { " ++ spelled_why why.now ++ codes " } -1\n")) }
+{
+    if let Why::Asm = why {
+        return Ok(out.extend_from_slice(b" { asm } -1\n")?);
+    }
+    out.extend_from_slice(b" { ")?;
+    push_why(out, why)?;
+    Ok(out.extend_from_slice(b" } -1\n")?)
 }
 
 fn one_if_nonzero(number: i64) -> usize
