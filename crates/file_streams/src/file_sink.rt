@@ -1,5 +1,5 @@
 // A sink that is a file.
-ghost use Rattle.std.specs.Prelude.{◌≡◌, ◌≤◌, true, length, IfOk};
+ghost use Rattle.std.specs.Prelude.{◌≡◌, ◌≤◌, [], true, length, IfOk, OnOk};
 ghost use Rattle.outside.specs.Faults.{Counts};
 
 use crate::destination::Destination;
@@ -83,7 +83,8 @@ impl<'a, R: Files<File = File> + Clock> FileSink<'a, R> {
 
     // Hands all that was gathered to the system, unless that has failed before.
     fn flush(&mut self) -> io::Result<()>
-        ensures { self.new.faults ≡ self.old.faults }
+        ensures faults { self.new.faults ≡ self.old.faults }
+        ensures empty { OnOk result (self.new.gathered.bytes.items ≡ []) }
     {
         if self.broken {
             return Err(Error::other("an earlier write has failed"));
@@ -110,8 +111,9 @@ impl<'a, R: Files<File = File> + Clock> FileSink<'a, R> {
         synced
     }
 
-    // Hands a piece to the system, and answers how many bytes of it were taken.
+    // Hands a piece to the system, and answers how many bytes of it were taken. Nothing that comes before it is still gathered.
     fn write_through(&mut self, piece: &[u8]) -> io::Result<usize>
+        requires { self.old.gathered.bytes.items ≡ [] }
         ensures faults { self.new.faults ≡ self.old.faults }
         ensures bound { IfOk result (λ n. n ≤ length piece.now) }
     {
@@ -133,7 +135,10 @@ impl<'a, R: Files<File = File> + Clock> FileSink<'a, R> {
             self.flush()?;
         }
         match self.gathered.add(piece) {
-            0 => self.write_through(piece),
+            0 => {
+                self.flush()?;
+                self.write_through(piece)
+            }
             count => Ok(count),
         }
     }

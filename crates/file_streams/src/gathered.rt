@@ -1,5 +1,5 @@
 // Bytes that are gathered before they are written.
-ghost use Rattle.std.specs.Prelude.{◌≡◌, ◌≤◌, ◌++◌, [], length, take};
+ghost use Rattle.std.specs.Prelude.{◌≡◌, ◌↔◌, ◌++◌, ◌-◌, [], IsTrue, length, min, take, vec_capacity};
 
 use std::alloc::Global;
 
@@ -32,13 +32,15 @@ impl Gathered {
     }
 
     /// Whether no more fit.
-    pub(crate) fn is_full(&self) -> bool {
+    pub(crate) fn is_full(&self) -> bool
+        ensures { IsTrue result ↔ (length self.now.bytes.items ≡ vec_capacity self.now.bytes) }
+    {
         self.bytes.len() == self.bytes.capacity()
     }
 
     /// Takes as much of the front of a piece as fits, and answers how many bytes that is.
     pub(crate) fn add(&mut self, piece: &[u8]) -> usize
-        ensures bound { result ≤ length piece.now }
+        ensures count { result ≡ min (length piece.now) (vec_capacity self.old.bytes - length self.old.bytes.items) }
         ensures bytes { self.new.bytes.items ≡ self.old.bytes.items ++ take result piece.now }
     {
         let count = piece.len().min(self.bytes.capacity() - self.bytes.len());
