@@ -9,7 +9,7 @@ use problem_box::IntBox;
 pub(crate) struct NodeView {
     /// The node's box.
     pub area: IntBox,
-    /// The incumbent's objective, if there is an incumbent.
+    /// The incumbent's aim, if there is an incumbent.
     pub cutoff: Option<Frac>,
     /// The branch that leads to the node; none at node 0.
     pub branch: Option<Branch>,

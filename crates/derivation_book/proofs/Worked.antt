@@ -14,6 +14,7 @@ use Rattle.derivation_book.specs.declared.cut.Cut.{Cut}
 use Rattle.derivation_book.specs.Rounded.{is_cut_coefficient, rounded_row}
 use Rattle.derivation_book.specs.Price.{price}
 use Rattle.derivation_book.specs.Legal.{is_legal_proof}
+use Rattle.problem.specs.declared.objective_sense.ObjectiveSense.TheVariants.{Minimise}
 
 abbrev n : ℕ → ℚ
 n k = whole (pos k)
@@ -40,7 +41,7 @@ row_parts r = (r.sense, parts r.rhs, map (λ (t : ℕ × ℚ). (t.0, parts t.1))
 
 -- ---- minimise x, 2x >= 3, x in 0..5
 abbrev p3 : Problem
-p3 = record { names = []; rows = row G (n 3) ((0, n 2) ∷ []) ∷ []; objective = (0, n 1) ∷ []; spans = span (pos 0) (pos 5) ∷ [] }
+p3 = record { names = []; rows = row G (n 3) ((0, n 2) ∷ []) ∷ []; objective = (0, n 1) ∷ []; sense = Minimise; spans = span (pos 0) (pos 5) ∷ [] }
 
 -- x >= 2
 abbrev k3 : Cut
@@ -125,7 +126,7 @@ no_column = refl
 
 -- ---- no objective, 2x + 2y = 3, x and y in 0..1
 abbrev pb : Problem
-pb = record { names = []; rows = row E (n 3) ((0, n 2) ∷ (1, n 2) ∷ []) ∷ []; objective = []; spans = span (pos 0) (pos 1) ∷ span (pos 0) (pos 1) ∷ [] }
+pb = record { names = []; rows = row E (n 3) ((0, n 2) ∷ (1, n 2) ∷ []) ∷ []; objective = []; sense = Minimise; spans = span (pos 0) (pos 1) ∷ span (pos 0) (pos 1) ∷ [] }
 
 abbrev k0 : Cut
 k0 = record { row = row G (n 2) ((0, n 1) ∷ (1, n 1) ∷ []); mult = (0, half) ∷ [] }
@@ -157,7 +158,7 @@ nothing_refuted = refl
 
 -- ---- minimise x/2, x in 1..5: bounded by 1/2, which may not be rounded up
 abbrev p20 : Problem
-p20 = record { names = []; rows = []; objective = (0, half) ∷ []; spans = span (pos 1) (pos 5) ∷ [] }
+p20 = record { names = []; rows = []; objective = (0, half) ∷ []; sense = Minimise; spans = span (pos 1) (pos 5) ∷ [] }
 
 half_bound : is_legal_proof p20 [] p20.spans (Some half) (Bound [] false) ≡ true
 unfolding frac gcd gcd_within ◌+ℚ◌ ◌*ℚ◌ neg_ℚ floor ceil add_fits add_checked mul_fits mul_checked compare

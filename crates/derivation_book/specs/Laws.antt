@@ -9,7 +9,8 @@ use Rattle.problem.specs.declared.row.Row.{Row}
 use Rattle.problem.specs.Linear.{Point, Terms, Multipliers, value}
 use Rattle.problem.specs.Rows.{Satisfies}
 use Rattle.problem.specs.Problem.{Problem}
-use Rattle.problem.specs.Feasible.{IsFeasible, objective_at}
+use Rattle.problem.specs.Directions.{aim_at}
+use Rattle.problem.specs.Feasible.{IsFeasible}
 use Rattle.cert_rows.specs.Lines.{row_at}
 use Rattle.cert_rows.specs.Combination.{AllSigned}
 use Rattle.cert_rows.specs.Validity.{IsRounded}
@@ -45,11 +46,11 @@ PricesBound p cs =
 abbrev pub ProofsAreDecided : Problem → List Cut → Type 0
 ProofsAreDecided p cs = (box : List Span) (cutoff : Option ℚ) (proof : Proof) → Decides (is_legal_proof p cs box cutoff proof) (IsLegalProof p cs box cutoff proof)
 
--- where a proof is legal, each feasible point of the box has an objective of at least the cutoff; where there is none, the box has no feasible point
+-- where a proof is legal, each feasible point of the box has an aim of at least the cutoff; where there is none, the box has no feasible point
 abbrev pub LegalProofsClose : Problem → List Cut → Type 0
 LegalProofsClose p cs =
     AreCutsOf p cs → (box : List Span) (cutoff : Option ℚ) (proof : Proof) → length box ≡ length p.spans → IsLegalProof p cs box cutoff proof
-    → (x : Point) → IsFeasible p x → IsInBox box x → (z : ℚ) × (cutoff ≡ Some z) × (z ≤ℚ objective_at p x)
+    → (x : Point) → IsFeasible p x → IsInBox box x → (z : ℚ) × (cutoff ≡ Some z) × (z ≤ℚ aim_at p x)
 
 -- a rounded row is one also over more cuts
 abbrev pub RoundedRowsStay : Problem → List Cut → Type 0

@@ -8,6 +8,7 @@ use Rattle.fraction.specs.Checked.{compare}
 use Rattle.problem_box.specs.declared.span.Span.{Span}
 use Rattle.problem.specs.declared.row.Sense.TheVariants.{G}
 use Rattle.problem.specs.Problem.{Problem}
+use Rattle.problem.specs.Directions.{aim}
 use Rattle.problem.specs.Feasible.{HasWholeObjective}
 use Rattle.cert_rows.specs.Validity.{IsCombination}
 use Rattle.node_events.specs.declared.proof.Proof.{Proof}
@@ -40,14 +41,14 @@ abbrev pub rounded_if : Bool → ℚ → ℚ
 rounded_if true v = whole (ceil v)
 rounded_if false v = v
 
--- no point of the box is below the cutoff: the objective's price reaches it, rounded up only where the objective is whole
+-- no point of the box is below the cutoff: the aim's price reaches it, rounded up only where the objective is whole
 pub record IsBounding (p : Problem) (cs : List Cut) (box : List Span) (cutoff : Option ℚ) (mult : Multipliers) (rounded : Bool) : Type 0 where
   pub multipliers : AreProofMultipliers p cs mult
   pub whole_objective : IsTrue rounded → HasWholeObjective p
   pub limit : ℚ
   pub limited : cutoff ≡ Some limit
   pub value : ℚ
-  pub priced : price p cs box p.objective mult ≡ Some value
+  pub priced : price p cs box (aim p) mult ≡ Some value
   pub reached : limit ≤ℚ rounded_if rounded value
 
 -- the bounds of the column cross
@@ -88,7 +89,7 @@ is_refuting p cs box mult = list_all (is_proof_multiplier p cs) mult && is_above
 
 -- each coefficient of the objective is a whole number
 abbrev pub has_whole_objective : Problem → Bool
-has_whole_objective p = list_all (λ t. nat_eq t.1.den 1) p.objective
+has_whole_objective p = list_all (λ t. nat_eq t.1.den 1) (aim p)
 
 -- a bound is rounded up only where the objective is whole
 abbrev pub may_round : Problem → Bool → Bool
@@ -100,10 +101,10 @@ reaches None rounded v = false
 reaches (Some z) rounded None = false
 reaches (Some z) rounded (Some v) = is_le (compare z (rounded_if rounded v))
 
--- a combination for the objective whose price over the box reaches the cutoff
+-- a combination for the aim, which is the objective that a search minimises, whose price over the box reaches the cutoff
 abbrev pub is_bounding : Problem → List Cut → List Span → Option ℚ → Multipliers → Bool → Bool
 is_bounding p cs box cutoff mult rounded =
-    list_all (is_proof_multiplier p cs) mult && may_round p rounded && reaches cutoff rounded (price p cs box p.objective mult)
+    list_all (is_proof_multiplier p cs) mult && may_round p rounded && reaches cutoff rounded (price p cs box (aim p) mult)
 
 -- the span is there and has no number
 abbrev pub has_crossed : Option Span → Bool

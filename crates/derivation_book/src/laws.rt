@@ -30,7 +30,7 @@ pub fn proofs_are_decided(_problem: &Problem, _book: &Book)
     ensures { ProofsAreDecided _problem.now _book.now.cuts }
 {}
 
-/// Where a book holds cuts of the problem and a proof is legal, each feasible point of the box has an objective of at least the cutoff; without a
+/// Where a book holds cuts of the problem and a proof is legal, each feasible point of the box has an aim of at least the cutoff; without a
 /// cutoff the box has none.
 pub fn legal_proofs_close(problem: &Problem, _book: &Book)
     ensures { LegalProofsClose problem.now _book.now.cuts }

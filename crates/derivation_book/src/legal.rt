@@ -47,7 +47,7 @@ pub fn reaches(cutoff: Option<Frac>, rounded: bool, price: Option<Frac>) -> bool
     }
 }
 
-/// Whether a bound of the objective may be rounded up, if asked.
+/// Whether a bound of the aim, which is the objective that a search minimises, may be rounded up, if asked.
 fn may_round(problem: &Problem, rounded: bool) -> bool
     ensures { result ≡ may_round problem.now rounded }
 {
@@ -97,7 +97,7 @@ impl Book {
         Ok(is_above_zero(price))
     }
 
-    /// Whether these multipliers show that the objective is at least the cutoff over the box.
+    /// Whether these multipliers show that the aim is at least the cutoff over the box.
     fn is_bounding(
         &self,
         alloc: Global,
@@ -117,7 +117,7 @@ impl Book {
             return Ok(false);
         }
         problem.limits_hold();
-        let price = self.price(alloc, problem, area, problem.objective().as_slice(), mult)?;
+        let price = self.price(alloc, problem, area, problem.aim().as_slice(), mult)?;
         Ok(reaches(cutoff, rounded, price))
     }
 

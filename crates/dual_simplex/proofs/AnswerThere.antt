@@ -48,6 +48,7 @@ use Rattle.dual_simplex.specs.Lemmas.Optimum.{point_cost}
 use Rattle.dual_simplex.specs.Lemmas.TrueAnswers.{rows_and_cuts, numbers, size, variables_are, balanced_value, cost_multipliers, point_is, costs_balanced, row_multipliers_are, row_balanced}
 use Rattle.dual_simplex.proofs.CommonDenominator.{IsThereWithin, Multiplies, whole_within, neg_within, integer_within, integer_coefficient, integer_coefficients, sum_there, columns_there, dot_there, with_columns_there}
 use Rattle.integer_tableau.specs.Range.{size_limit}
+use Rattle.problem.specs.Directions.{aim}
 
 abbrev row_of_cut : Cut → Row
 row_of_cut c = c.row
@@ -89,7 +90,7 @@ module _ (p : Problem) (cs : List Cut) (box : List Span) (columns : length box �
   number_count = length-numbers ls (numbers p cs box) rows (relaxation_rows p cs)
 
   -- ---- prices
-  module _ (modest : All IsModestSpan box) (target : Terms) (integer_target : HasIntegers target) (g u : List ℚ) (b : IsBalanced rows box p.objective target g u) (within : All (Within d size_limit) g) where
+  module _ (modest : All IsModestSpan box) (target : Terms) (integer_target : HasIntegers target) (g u : List ℚ) (b : IsBalanced rows box (aim p) target g u) (within : All (Within d size_limit) g) where
     abbrev mult : Multipliers
     mult = mult_from (length box) (numbers p cs box) g
 
@@ -118,7 +119,7 @@ module _ (p : Problem) (cs : List Cut) (box : List Span) (columns : length box �
         let same : coefficient target (0 + i) +ℚ neg_ℚ (entry coefficients.0 i) ≡ entry g i =
         ap (λ x. coefficient target (0 + i) +ℚ neg_ℚ x) (columns_exact ls mult 0 (length p.spans) coefficients.0 coefficients.1 i l)
         ∙ ap (λ j. coefficient target j +ℚ neg_ℚ (coefficient (combined_terms ls mult) j)) (let e : 0 + i ≡ i = omega arith in e)
-        ∙ reduced_is_factor ls (numbers p cs box) rows box p.objective target g u (relaxation_rows p cs) b i k in
+        ∙ reduced_is_factor ls (numbers p cs box) rows box (aim p) target g u (relaxation_rows p cs) b i k in
         subst (Within d size_limit) (sym same) (All-get_or (Within d size_limit) g i zero_ℚ (omega (arith, b.factors)) within)
 
     pub price_there : (v : ℚ) × (price p cs box target mult ≡ Some v)
@@ -136,13 +137,13 @@ module _ (p : Problem) (cs : List Cut) (box : List Span) (columns : length box �
   -- ---- a tableau
   module _ (t : Tableau) (h : IsTableauOf (size p cs box) (linear_program p cs box) t) where
     -- the price of the multipliers of the costs is the objective at the point
-    pub cost_price : All IsModestSpan box → All (Within d size_limit) t.reduced_costs → price p cs box p.objective (mult_of_cost t) ≡ Some (rational_value p.objective (point_of t))
+    pub cost_price : All IsModestSpan box → All (Within d size_limit) t.reduced_costs → price p cs box (aim p) (mult_of_cost t) ≡ Some (rational_value (aim p) (point_of t))
     cost_price modest within =
-        let w = price_there modest p.objective integers.objective t.reduced_costs t.nonbasic_values (costs_balanced p cs box t h) within in
-        let value : w.0 ≡ rational_value p.objective (point_of t) =
-        balanced_value p cs box p.objective t.reduced_costs t.nonbasic_values (costs_balanced p cs box t h) columns w.0 w.1
-        ∙ sym (point_cost p.objective rows (numbers p cs box) box t h) ∙ ap (rational_value p.objective) (sym (point_is p cs box t h)) in
-        ap (price p cs box p.objective) (cost_multipliers p cs box t h) ∙ w.1 ∙ ap Some value
+        let w = price_there modest (aim p) integers.objective t.reduced_costs t.nonbasic_values (costs_balanced p cs box t h) within in
+        let value : w.0 ≡ rational_value (aim p) (point_of t) =
+        balanced_value p cs box (aim p) t.reduced_costs t.nonbasic_values (costs_balanced p cs box t h) columns w.0 w.1
+        ∙ sym (point_cost (aim p) rows (numbers p cs box) box t h) ∙ ap (rational_value (aim p)) (sym (point_is p cs box t h)) in
+        ap (price p cs box (aim p)) (cost_multipliers p cs box t h) ∙ w.1 ∙ ap Some value
 
     -- the multipliers of a row are small
     row_within : (w : Direction) (r : ℕ) (row : List ℚ) → All (Within d size_limit) row → All (Within d size_limit) (row_multipliers w r row)
@@ -183,7 +184,7 @@ module _ (p : Problem) (cs : List Cut) (box : List Span) (columns : length box �
       cuts_there (c ∷ ds) k = λ i. there c.row.terms (All-head (λ (c : Cut). IsIntegerRow c.row) c ds k).terms i && cuts_there ds (All-tail (λ (c : Cut). IsIntegerRow c.row) c ds k) i
 
       pub sums_there : sums_fit p cs (point_of t) ≡ true
-      sums_there = λ i. there p.objective integers.objective i && rows_there p.rows integers.rows i && cuts_there cs integers.cuts i
+      sums_there = λ i. there (aim p) integers.objective i && rows_there p.rows integers.rows i && cuts_there cs integers.cuts i
 
   -- ---- the answer
   pub answer_there : All IsModestSpan box → (t : Tableau) (q : Place) → IsEnd p cs box q t → All (Within d size_limit) t.reduced_costs → All (Within d size_limit) t.values
@@ -191,7 +192,7 @@ module _ (p : Problem) (cs : List Cut) (box : List Span) (columns : length box �
   answer_there modest t q end costs values row = record {
     optimum = λ e.
         let h = tableau_at (λ f. let g : Done ≡ CrampedRatio = sym e ∙ f in cc) in
-        record { sums = sums_there t h values; priced = cost_price t h modest costs ∙ sym (sum_at_point t h values p.objective integers.objective) };
+        record { sums = sums_there t h values; priced = cost_price t h modest costs ∙ sym (sum_at_point t h values (aim p) integers.objective) };
     refuted = λ r e.
         let uncramped : q ≡ CrampedRatio → ⊥ = λ f. let g : NoColumn r ≡ CrampedRatio = sym e ∙ f in cc in
         let h = tableau_at uncramped in

@@ -34,6 +34,7 @@ use Rattle.dual_simplex.specs.Answers.{linear_program, pivot_limit, run_of_start
 use Rattle.dual_simplex.specs.Meaning.{IsTableauAt}
 use Rattle.dual_simplex.specs.Ends.{IsEnd, AreMultipliers}
 use Rattle.dual_simplex.specs.Lemmas.TrueAnswers.{size, variables_are, start_is_tableau, cost_multipliers_usable, row_multipliers_usable}
+use Rattle.problem.specs.Directions.{aim}
 
 abbrev row_of_cut : Cut → Row
 row_of_cut c = c.row
@@ -65,20 +66,20 @@ module _ (p : Problem) (cs : List Cut) (k : ℕ) (box : List Span) where
   pub cost_price_same : (t : Tableau) (target : Terms) → IsTableauAt p first box t → price p cs box target (mult_of_cost t) ≡ price p first box target (mult_of_cost t)
   cost_price_same t target h = first_priced p cs k (mult_of_cost t) (cost_multipliers_usable p first box t (sized t h)).2 box target
 
-  pub optimal_there : (t : Tableau) (v : ℚ) → IsTableauAt p first box t → sums_fit p first (point_of t) ≡ true → price p cs box p.objective (mult_of_cost t) ≡ Some v
+  pub optimal_there : (t : Tableau) (v : ℚ) → IsTableauAt p first box t → sums_fit p first (point_of t) ≡ true → price p cs box (aim p) (mult_of_cost t) ≡ Some v
       → Some (Optimal (point_of t) (mult_of_cost t) v) ≡ optimal_answer p first box (point_of t) (mult_of_cost t)
   optimal_there t v h f e =
       let u = cost_multipliers_usable p first box t (sized t h) in
-      sym (chosen _ _ f ∙ ap (option_map (λ v. Optimal (point_of t) (mult_of_cost t) v)) (sym (first_priced p cs k (mult_of_cost t) u.2 box p.objective) ∙ e))
+      sym (chosen _ _ f ∙ ap (option_map (λ v. Optimal (point_of t) (mult_of_cost t) v)) (sym (first_priced p cs k (mult_of_cost t) u.2 box (aim p)) ∙ e))
     where
       chosen : (b : Bool) (o : Option Answer) → b ≡ true → cond b o None ≡ o
       chosen true o e = refl
       chosen false o e = cc
 
-  pub optimal_not_priced : (t : Tableau) → IsTableauAt p first box t → price p cs box p.objective (mult_of_cost t) ≡ None → None ≡ optimal_answer p first box (point_of t) (mult_of_cost t)
+  pub optimal_not_priced : (t : Tableau) → IsTableauAt p first box t → price p cs box (aim p) (mult_of_cost t) ≡ None → None ≡ optimal_answer p first box (point_of t) (mult_of_cost t)
   optimal_not_priced t h e =
       let u = cost_multipliers_usable p first box t (sized t h) in
-      sym (neither (sums_fit p first (point_of t)) _ (ap (option_map (λ v. Optimal (point_of t) (mult_of_cost t) v)) (sym (first_priced p cs k (mult_of_cost t) u.2 box p.objective) ∙ e)))
+      sym (neither (sums_fit p first (point_of t)) _ (ap (option_map (λ v. Optimal (point_of t) (mult_of_cost t) v)) (sym (first_priced p cs k (mult_of_cost t) u.2 box (aim p)) ∙ e)))
     where
       neither : (b : Bool) (o : Option Answer) → o ≡ None → cond b o None ≡ None
       neither true o e = e

@@ -10,12 +10,13 @@ use Rattle.problem.specs.Problem.{Problem}
 use Rattle.derivation_book.specs.declared.cut.Cut.{Cut}
 use Rattle.dual_simplex.specs.Answers.{linear_program, run, answer}
 use Rattle.dual_simplex.proofs.Showing.{Shown, no_point, best_point, broken_off, shown, row, span}
+use Rattle.problem.specs.declared.objective_sense.ObjectiveSense.TheVariants.{Minimise}
 
 abbrev cut : ℚ → List (ℕ × ℚ) → Cut
 cut rhs terms = record { row = row G rhs terms; mult = [] }
 
 abbrev problem : List Row → List (ℕ × ℚ) → List Span → Problem
-problem rows objective box = record { names = []; rows = rows; objective = objective; spans = box }
+problem rows objective box = record { names = []; rows = rows; objective = objective; sense = Minimise; spans = box }
 
 -- the number of pivots and the answer
 abbrev ended : List Row → List (ℕ × ℚ) → List Span → List Cut → ℕ × Shown

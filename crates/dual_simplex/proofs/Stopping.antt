@@ -27,6 +27,7 @@ use Rattle.dual_simplex.specs.Answers.{linear_program, run_of_start, run, answer
 use Rattle.dual_simplex.specs.Claims.{IsStop, IsStoppedRun}
 use Rattle.dual_simplex.specs.Ends.{IsEnd, IsAnswerThere}
 use Rattle.dual_simplex.proofs.Ending.{is_end, run_is, ends_so}
+use Rattle.problem.specs.Directions.{aim}
 
 -- ---- pivots are counted
 pivoted_counts : (r c : ℕ) (t u : Tableau) → pivoted r c t ≡ Some u → u.pivots ≡ t.pivots + 1
@@ -117,7 +118,7 @@ infeasible_cramped m n (Some v) mult e = absurd (let z : ⊥ = cc in z)
 -- it tells the pivots of the run
 cramped_after : (p : Problem) (cs : List Cut) (box : List Span) (m n : ℕ) (o : Option Tableau) (q : Place) → answer_at p cs box m o q ≡ Cramped n → m ≡ n
 cramped_after p cs box m n None q e = cc
-cramped_after p cs box m n (Some t) Done e = optimal_cramped m n (sums_fit p cs (point_of t)) (price p cs box p.objective (mult_of_cost t)) (point_of t) (mult_of_cost t) e
+cramped_after p cs box m n (Some t) Done e = optimal_cramped m n (sums_fit p cs (point_of t)) (price p cs box (aim p) (mult_of_cost t)) (point_of t) (mult_of_cost t) e
 cramped_after p cs box m n (Some t) (NoColumn r) e = infeasible_cramped m n (price p cs box [] (mult_of_row t r)) (mult_of_row t r) e
 cramped_after p cs box m n (Some t) CrampedRatio e = cc
 cramped_after p cs box m n (Some t) (Pivot r c) e = absurd (let z : ⊥ = cc in z)

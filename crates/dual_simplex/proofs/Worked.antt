@@ -8,13 +8,14 @@ use Rattle.problem.specs.Problem.{Problem}
 use Rattle.derivation_book.specs.declared.cut.Cut.{Cut}
 use Rattle.dual_simplex.specs.Answers.{answer}
 use Rattle.dual_simplex.proofs.Showing.{no_point, best_point, shown, row, span}
+use Rattle.problem.specs.declared.objective_sense.ObjectiveSense.TheVariants.{Minimise}
 
 abbrev n : ℕ → ℚ
 n k = whole (pos k)
 
 -- ---- minimise x, 2x >= 3, x in 0..5
 abbrev half : Problem
-half = record { names = codes "x" ∷ []; rows = row G (n 3) ((0, n 2) ∷ []) ∷ []; objective = (0, n 1) ∷ []; spans = span (pos 0) (pos 5) ∷ [] }
+half = record { names = codes "x" ∷ []; rows = row G (n 3) ((0, n 2) ∷ []) ∷ []; objective = (0, n 1) ∷ []; sense = Minimise; spans = span (pos 0) (pos 5) ∷ [] }
 
 half_is : shown (answer half [] half.spans) ≡ best_point ((pos 3, 2) ∷ []) ((0, pos 1, 2) ∷ []) (pos 3, 2)
 unfolding gcd gcd_within frac ◌+ℚ◌ ◌*ℚ◌ neg_ℚ inv_ℚ add_fits add_checked mul_fits mul_checked compare
@@ -30,7 +31,7 @@ half_with_cut = refl
 
 -- ---- 2x + 2y = 3, x and y in 0..1, no objective
 abbrev odd : Problem
-odd = record { names = codes "x" ∷ codes "y" ∷ []; rows = row E (n 3) ((0, n 2) ∷ (1, n 2) ∷ []) ∷ []; objective = []; spans = span (pos 0) (pos 1) ∷ span (pos 0) (pos 1) ∷ [] }
+odd = record { names = codes "x" ∷ codes "y" ∷ []; rows = row E (n 3) ((0, n 2) ∷ (1, n 2) ∷ []) ∷ []; objective = []; sense = Minimise; spans = span (pos 0) (pos 1) ∷ span (pos 0) (pos 1) ∷ [] }
 
 odd_is : shown (answer odd [] odd.spans) ≡ best_point ((pos 1, 1) ∷ (pos 1, 2) ∷ []) [] (pos 0, 1)
 unfolding gcd gcd_within frac ◌+ℚ◌ ◌*ℚ◌ neg_ℚ inv_ℚ add_fits add_checked mul_fits mul_checked compare
@@ -57,6 +58,7 @@ pair = record {
   names = codes "x" ∷ codes "y" ∷ [];
   rows = row L (n 3) ((0, n 1) ∷ (1, n 2) ∷ []) ∷ row L (n 3) ((0, n 2) ∷ (1, n 1) ∷ []) ∷ [];
   objective = (0, whole (negsuc 0)) ∷ (1, whole (negsuc 0)) ∷ [];
+  sense = Minimise;
   spans = span (pos 0) (pos 4) ∷ span (pos 0) (pos 4) ∷ [];
 }
 

@@ -4,6 +4,7 @@ use Rattle.std.specs.Option.{option_map}
 use Rattle.problem_box.specs.declared.span.Span.{Span}
 use Rattle.problem.specs.Linear.{Multipliers}
 use Rattle.problem.specs.Problem.{Problem}
+use Rattle.problem.specs.Directions.{aim}
 use Rattle.derivation_book.specs.declared.cut.Cut.{Cut}
 use Rattle.derivation_book.specs.Price.{price}
 use Rattle.tableau.specs.declared.place.Place.{Place}
@@ -47,7 +48,7 @@ infeasible_answer p cuts box mult = option_map (λ v. Infeasible mult) (price p 
 
 -- at the point of a tableau that is done, with the multipliers of its costs; none where their price or a sum at the point is cramped
 abbrev pub optimal_answer : Problem → List Cut → List Span → RationalPoint → Multipliers → Option Answer
-optimal_answer p cuts box x mult = if sums_fit p cuts x then option_map (λ v. Optimal x mult v) (price p cuts box p.objective mult) else None
+optimal_answer p cuts box x mult = if sums_fit p cuts x then option_map (λ v. Optimal x mult v) (price p cuts box (aim p) mult) else None
 
 -- a sum that does not fit makes the whole run a cramped one
 abbrev pub answer_or_cramped : ℕ → Option Answer → Answer

@@ -4,6 +4,7 @@ use Rattle.problem_box.specs.declared.span.Span.{Span}
 use Rattle.problem.specs.Limited.{IsModestSpan}
 use Rattle.problem.specs.Linear.{Multipliers}
 use Rattle.problem.specs.Problem.{Problem}
+use Rattle.problem.specs.Directions.{aim}
 use Rattle.problem.specs.Rising.{AreRising, AreNonzero}
 use Rattle.derivation_book.specs.declared.cut.Cut.{Cut}
 use Rattle.derivation_book.specs.Known.{known_lines}
@@ -28,10 +29,10 @@ pub record AreMultipliers (p : Problem) (cuts : List Cut) (mult : Multipliers) :
   pub nonzero : AreNonzero mult
   pub known : All (λ m. m.0 < length (known_lines p cuts)) mult
 
--- no sum at the point of a tableau that is done is cramped, and the price of its multipliers is the objective there
+-- no sum at the point of a tableau that is done is cramped, and the price of its multipliers is the aim there
 pub record IsOptimumThere (p : Problem) (cuts : List Cut) (box : List Span) (t : Tableau) : Type 0 where
   pub sums : sums_fit p cuts (point_of t) ≡ true
-  pub priced : price p cuts box p.objective (mult_of_cost t) ≡ checked_sum p.objective (point_of t)
+  pub priced : price p cuts box (aim p) (mult_of_cost t) ≡ checked_sum (aim p) (point_of t)
 
 -- what the answer at this place asks for is there: the sums at the point and its price, or the price of a row's multipliers
 pub record IsAnswerThere (p : Problem) (cuts : List Cut) (box : List Span) (q : Place) (t : Tableau) : Type 0 where

@@ -4,6 +4,7 @@ use Rattle.fraction.specs.Rational.{ℚ, ◌≤ℚ◌}
 use Rattle.problem_box.specs.declared.span.Span.{Span}
 use Rattle.problem.specs.Linear.{Multipliers}
 use Rattle.problem.specs.Problem.{Problem}
+use Rattle.problem.specs.Directions.{aim}
 use Rattle.problem.specs.Rising.{AreRising, AreNonzero}
 use Rattle.derivation_book.specs.declared.cut.Cut.{Cut}
 use Rattle.derivation_book.specs.Price.{price}
@@ -27,16 +28,16 @@ pub record IsInfeasible (p : Problem) (cs : List Cut) (box : List Span) (mult : 
   pub refuting : IsRefuting p cs box mult
   pub empty : (x : RationalPoint) → IsInRelaxation p cs box x → ⊥
 
--- a point of the relaxation and dual multipliers whose price is the objective there; no point of the relaxation has a smaller objective
+-- a point of the relaxation and dual multipliers whose price is the aim there; no point of the relaxation has a smaller aim
 pub record IsOptimal (p : Problem) (cs : List Cut) (box : List Span) (x : RationalPoint) (mult : Multipliers) (v : ℚ) : Type 0 where
   pub point : IsInRelaxation p cs box x
   pub sums : IsTrue (sums_fit p cs x)
   pub rising : AreRising mult
   pub nonzero : AreNonzero mult
   pub multipliers : AreProofMultipliers p cs mult
-  pub priced : price p cs box p.objective mult ≡ Some v
-  pub objective : v ≡ rational_value p.objective x
-  pub least : (y : RationalPoint) → IsInRelaxation p cs box y → v ≤ℚ rational_value p.objective y
+  pub priced : price p cs box (aim p) mult ≡ Some v
+  pub objective : v ≡ rational_value (aim p) x
+  pub least : (y : RationalPoint) → IsInRelaxation p cs box y → v ≤ℚ rational_value (aim p) y
 
 -- cramped and stalled say nothing of the relaxation
 abbrev pub AnswerHolds : Problem → List Cut → List Span → Answer → Type 0

@@ -6,6 +6,7 @@ use Rattle.fraction.specs.Checked.{dot_checked}
 use Rattle.problem.specs.declared.row.Row.{Row}
 use Rattle.problem.specs.Linear.{Terms}
 use Rattle.problem.specs.Problem.{Problem}
+use Rattle.problem.specs.Directions.{aim}
 use Rattle.derivation_book.specs.declared.cut.Cut.{Cut}
 use Rattle.tableau.specs.LinearProgram.{coefficients_from}
 use Rattle.dual_simplex.specs.Relaxation.{RationalPoint}
@@ -14,8 +15,8 @@ use Rattle.dual_simplex.specs.Relaxation.{RationalPoint}
 abbrev pub checked_sum : Terms → RationalPoint → Option ℚ
 checked_sum ts x = dot_checked (coefficients_from 0 (length x) ts) x
 
--- the sums of the objective, of each row and of each of these cuts are there
+-- the sums of the aim, which is the objective that a search minimises, of each row and of each of these cuts are there
 abbrev pub sums_fit : Problem → List Cut → RationalPoint → Bool
 sums_fit p cuts x =
-    is_some (checked_sum p.objective x) && list_all (λ (r : Row). is_some (checked_sum r.terms x)) p.rows
+    is_some (checked_sum (aim p) x) && list_all (λ (r : Row). is_some (checked_sum r.terms x)) p.rows
     && list_all (λ (c : Cut). is_some (checked_sum c.row.terms x)) cuts

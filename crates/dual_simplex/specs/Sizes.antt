@@ -5,6 +5,7 @@ use Rattle.fraction.specs.Whole.{IsWhole}
 use Rattle.problem.specs.declared.row.Row.{Row}
 use Rattle.problem.specs.Linear.{Terms}
 use Rattle.problem.specs.Problem.{Problem}
+use Rattle.problem.specs.Directions.{aim}
 use Rattle.problem.specs.Rising.{AreRising}
 use Rattle.problem.specs.Limits.{most_columns, most_rows}
 use Rattle.derivation_book.specs.declared.cut.Cut.{Cut}
@@ -40,6 +41,6 @@ most_small_cuts = 1000
 pub record IsIntegerRelaxation (p : Problem) (cs : List Cut) : Type 0 where
   pub few_columns : length p.spans ≤ most_columns
   pub few_rows : length p.rows + length cs ≤ most_rows + most_small_cuts
-  pub objective : HasIntegers p.objective
+  pub objective : HasIntegers (aim p)
   pub rows : All IsIntegerRow p.rows
   pub cuts : All (λ (c : Cut). IsIntegerRow c.row) cs

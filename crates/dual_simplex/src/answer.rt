@@ -11,13 +11,13 @@ pub enum Answer {
         /// A combination of them that no point of the box satisfies.
         mult: Mult,
     },
-    /// The relaxation's least objective.
+    /// The relaxation's least aim, which is the objective that a search minimises.
     Optimal {
         /// A point of the relaxation that has it.
         point: RationalPoint,
-        /// A combination of rows and cuts that bounds the objective over the box by it.
+        /// A combination of rows and cuts that bounds the aim over the box by it.
         mult: Mult,
-        /// The least objective.
+        /// The least aim.
         value: Frac,
     },
     /// A fraction was too large.

@@ -1,6 +1,7 @@
 //! The answer at the end of a run.
 
 ghost use Rattle.std.specs.Prelude.{◌≡◌, ◌<◌, ◌≤◌, ◌^◌, [], true, IsTrue, IsSome, IfOk, All, length, take};
+ghost use Rattle.problem.specs.Directions.{aim};
 ghost use Rattle.derivation_book.specs.Known.{known_lines};
 ghost use Rattle.derivation_book.specs.Price.{price};
 ghost use Rattle.tableau.specs.Multipliers.{point_of, mult_of_cost, mult_of_row};
@@ -48,7 +49,7 @@ fn infeasible_answer(
     }
 }
 
-/// Whether the sums of the objective, of each row and of the first cuts at a point are there. Where `is_there` says so, they aren't computed.
+/// Whether the sums of the aim, of each row and of the first cuts at a point are there. Where `is_there` says so, they aren't computed.
 fn are_sums_there(
     problem: &Problem,
     book: &Book,
@@ -63,9 +64,9 @@ fn are_sums_there(
     is_there || sums_fit(problem, book, cuts, point)
 }
 
-/// The price of the objective by these multipliers; none exactly where it is cramped. Where `is_there` says that it is the objective at the point, it is
+/// The price of the aim by these multipliers; none exactly where it is cramped. Where `is_there` says that it is the aim at the point, it is
 /// computed as that. The one error is want of memory.
-fn objective_price(
+fn aim_price(
     alloc: Global,
     problem: &Problem,
     book: &Book,
@@ -76,15 +77,15 @@ fn objective_price(
 ) -> Result<Option<Frac>, AllocError>
     requires columns { length area.now ≡ length problem.now.spans }
     requires known { All (λ m. m.0 < length (known_lines problem.now book.now.cuts)) mult.now }
-    requires there { IsTrue is_there → price problem.now book.now.cuts area.now problem.now.objective mult.now ≡ checked_sum problem.now.objective point.now }
-    ensures { IfOk result (λ v. v ≡ price problem.now book.now.cuts area.now problem.now.objective mult.now) }
+    requires there { IsTrue is_there → price problem.now book.now.cuts area.now (aim problem.now) mult.now ≡ checked_sum (aim problem.now) point.now }
+    ensures { IfOk result (λ v. v ≡ price problem.now book.now.cuts area.now (aim problem.now) mult.now) }
 {
     problem.limits_hold();
-    let objective = problem.objective().as_slice();
+    let aim = problem.aim().as_slice();
     if is_there {
-        Ok(checked_sum(point, objective))
+        Ok(checked_sum(point, aim))
     } else {
-        book.price(alloc, problem, area, objective, mult)
+        book.price(alloc, problem, area, aim, mult)
     }
 }
 
@@ -111,7 +112,7 @@ fn optimal_answer(
         return Ok(None);
     }
     let mult = Mult::make(tableau.mult_of_cost(alloc)?);
-    match objective_price(alloc, problem, book, area, &point, &mult, is_there)? {
+    match aim_price(alloc, problem, book, area, &point, &mult, is_there)? {
         Some(value) => Ok(Some(Answer::Optimal { point, mult, value })),
         None => Ok(None),
     }

@@ -72,14 +72,14 @@ fn are_small_cuts(book: &Book, cuts: usize) -> bool
     true
 }
 
-/// Whether all numbers of a problem's objective and rows and of the first cuts are whole and small, and the cuts are few.
+/// Whether all numbers of a problem's aim and rows and of the first cuts are whole and small, and the cuts are few.
 pub(crate) fn is_integer_relaxation(problem: &Problem, book: &Book, cuts: usize) -> bool
     requires { cuts ≤ length book.now.cuts }
     ensures { IsTrue result → IsIntegerRelaxation problem.now (take cuts book.now.cuts) }
 {
     problem.limits_hold();
     cuts <= MOST_SMALL_CUTS
-        && are_small(problem.objective().as_slice())
+        && are_small(problem.aim().as_slice())
         && are_small_rows(problem)
         && are_small_cuts(book, cuts)
 }

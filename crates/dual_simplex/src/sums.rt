@@ -48,13 +48,13 @@ fn cut_sums_fit(book: &Book, cuts: usize, point: &RationalPoint) -> bool
     true
 }
 
-/// Whether the sums of the objective, of each row and of the first cuts at a point are there.
+/// Whether the sums of the aim, of each row and of the first cuts at a point are there.
 pub(crate) fn sums_fit(problem: &Problem, book: &Book, cuts: usize, point: &RationalPoint) -> bool
     requires { cuts ≤ length book.now.cuts }
     ensures { result ≡ sums_fit problem.now (take cuts book.now.cuts) point.now }
 {
     problem.limits_hold();
-    sum_fits(problem.objective().as_slice(), point)
+    sum_fits(problem.aim().as_slice(), point)
         && row_sums_fit(problem, point)
         && cut_sums_fit(book, cuts, point)
 }

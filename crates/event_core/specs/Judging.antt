@@ -1,7 +1,7 @@
 -- Which events are admitted: the first refusal of the others.
 use Rattle.std.specs.Prelude.{ℕ, ℤ, Bool, true, false, not, nat_lt, ◌||◌, length, Option, Some, None, slice_get}
 use Rattle.problem.specs.declared.row.Row.{Row}
-use Rattle.problem.specs.Feasible.{objective_at}
+use Rattle.problem.specs.Directions.{aim_at}
 use Rattle.node_events.specs.declared.proof.Proof.{Proof}
 use Rattle.node_events.specs.declared.reason.Reason.{Reason}
 use Rattle.node_events.specs.declared.event.Event.{Event}
@@ -42,7 +42,7 @@ judged_cut s mult = checked (nat_lt (length s.cuts) most_cuts) Full (checked (ha
 
 -- what is said of an offer: feasible, and better than the incumbent
 abbrev pub judged_offer : State → Point → Admit
-judged_offer s x = checked (is_feasible s.problem x) BadPoint (checked (is_better s.incumbent (objective_at s.problem x)) NotBetter Yes)
+judged_offer s x = checked (is_feasible s.problem x) BadPoint (checked (is_better s.incumbent (aim_at s.problem x)) NotBetter Yes)
 
 -- what is said of a split: of an open node, by who holds it, both parts non-empty, and for a reason that holds
 abbrev pub judged_split : State → Option ℕ → ℕ → ℕ → ℤ → Reason → Admit

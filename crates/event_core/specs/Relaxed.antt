@@ -37,7 +37,7 @@ satisfies_row x r = sum_stands r (checked_sum r.terms x)
 abbrev pub is_relaxed : Problem → List Cut → List Span → RationalPoint → Bool
 is_relaxed p cs box x = lies_in_box box x && list_all (λ (r : Row). satisfies_row x r) p.rows && list_all (λ (c : Cut). satisfies_row x c.row) cs
 
--- the sum of the objective is there; rounded up where the objective is whole, it is below the cutoff, if there is one
+-- the sum of the aim is there; rounded up where the objective is whole, it is below the cutoff, if there is one
 abbrev pub is_below_cutoff : Problem → Option ℚ → Option ℚ → Bool
 is_below_cutoff p cutoff None = false
 is_below_cutoff p cutoff (Some v) = not (reaches cutoff (has_whole_objective p) (Some v))

@@ -9,6 +9,7 @@ use Rattle.fraction.specs.Whole.{IsWhole}
 use Rattle.problem_box.specs.declared.span.Span.{Span}
 use Rattle.problem_box.specs.Changes.{IsFirstFree}
 use Rattle.problem.specs.Problem.{Problem}
+use Rattle.problem.specs.Directions.{aim}
 use Rattle.node_events.specs.declared.reason.Reason.{Reason}
 use Rattle.node_events.specs.declared.reason.Reason.TheVariants.{Fractional, Cramped, Stalled}
 use Rattle.derivation_book.specs.declared.cut.Cut.{Cut}
@@ -32,11 +33,11 @@ cuts_of (Cramped k pivots) = k
 cuts_of (Stalled k) = k
 
 -- ---- the meaning
--- a point of the relaxation with an objective, rounded up where the objective is whole, below the cutoff; in the column it isn't whole and has this floor
+-- a point of the relaxation with an aim, rounded up where the objective is whole, below the cutoff; in the column it isn't whole and has this floor
 pub record IsFractional (p : Problem) (cs : List Cut) (box : List Span) (cutoff : Option ℚ) (j : ℕ) (b : ℤ) (x : RationalPoint) : Type 0 where
   pub relaxed : IsInRelaxation p cs box x
   pub sums : IsTrue (sums_fit p cs x)
-  pub below : ForSome cutoff (λ z. rounded_if (has_whole_objective p) (rational_value p.objective x) <ℚ z)
+  pub below : ForSome cutoff (λ z. rounded_if (has_whole_objective p) (rational_value (aim p) x) <ℚ z)
   pub not_whole : IsWhole (rational_at x j) → ⊥
   pub bound : floor (rational_at x j) ≡ b
 
@@ -65,7 +66,7 @@ is_between x b = not (nat_eq x.den 1) && int_eq (floor x) b
 
 -- the test for a fractional reason
 abbrev pub is_fractional : Problem → List Cut → List Span → Option ℚ → ℕ → ℤ → RationalPoint → Bool
-is_fractional p cs box cutoff j b x = is_between (rational_at x j) b && is_relaxed p cs box x && is_below_cutoff p cutoff (checked_sum p.objective x)
+is_fractional p cs box cutoff j b x = is_between (rational_at x j) b && is_relaxed p cs box x && is_below_cutoff p cutoff (checked_sum (aim p) x)
 
 -- the column is the least one with more than one number
 abbrev pub is_first_free : List Span → ℕ → Bool

@@ -1,9 +1,11 @@
 -- Where a search stands.
 use Rattle.std.specs.Prelude.{ℕ, Bool, true, false, not, List, [], ◌∷◌, Option, None, slice_index_or}
 use Rattle.std.specs.List.{count_by}
+use Rattle.std.specs.Option.{option_map}
 use Rattle.fraction.specs.Rational.{ℚ}
 use Rattle.problem_box.specs.declared.span.Span.{Span}
 use Rattle.problem.specs.Problem.{Problem}
+use Rattle.problem.specs.Directions.{directed_value}
 use Rattle.node_tree.specs.declared.branch.Node.{Node}
 use Rattle.node_tree.specs.Nodes.{Tree, no_node}
 use Rattle.node_tree.specs.Paths.{box_at}
@@ -33,9 +35,13 @@ tree_of s = record { root = s.problem.spans; nodes = s.nodes; room = 0 }
 abbrev pub box_of : State → ℕ → List Span
 box_of s i = box_at (tree_of s) i
 
--- the incumbent's objective, if there is an incumbent
+-- the incumbent's aim, if there is an incumbent
 abbrev pub cutoff : State → Option ℚ
 cutoff s = cutoff_of s.incumbent
+
+-- the problem's own objective at the incumbent, if there is an incumbent
+abbrev pub best_value : State → Option ℚ
+best_value s = option_map (λ v. directed_value s.problem.sense v) (cutoff s)
 
 -- the node is there and has not ended
 abbrev pub is_open : State → ℕ → Bool

@@ -149,7 +149,7 @@ impl Parts {
         }
         if !self
             .incumbent
-            .is_bettered_by(self.problem.value(point.as_slice()))
+            .is_bettered_by(self.problem.aim_value(point.as_slice()))
         {
             return Admit::NotBetter;
         }

@@ -21,7 +21,7 @@ pub fn beginnings_are_legal(_problem: &Problem)
 {}
 
 /// What is true of each state that legal events led to: its nodes are a tree, whose open nodes are leaves; it has at most `MOST_CUTS` cuts, and each is the
-/// rounded row of its multipliers over those before it; the incumbent is a feasible point with its objective; who is held is open, no worker holds
+/// rounded row of its multipliers over those before it; the incumbent is a feasible point with its aim; who is held is open, no worker holds
 /// two nodes, and no two workers hold one.
 pub fn legal_states_are_sound(_problem: &Problem)
     ensures { LegalStatesAreSound _problem.now }

@@ -3,6 +3,7 @@ ghost use Rattle.std.specs.Prelude.{◌≡◌, ◌≤◌, IfOk, length, take};
 ghost use Rattle.std.specs.List.{list_all};
 ghost use Rattle.problem.specs.declared.row.Row.{Row as RowValue};
 ghost use Rattle.problem.specs.Rising.{AreRising};
+ghost use Rattle.problem.specs.Directions.{aim};
 ghost use Rattle.derivation_book.specs.declared.cut.Cut.{Cut};
 ghost use Rattle.derivation_book.specs.Legal.{has_whole_objective};
 ghost use Rattle.dual_simplex.specs.PointSums.{checked_sum};
@@ -133,12 +134,12 @@ fn has_whole_objective(problem: &Problem) -> bool
     problem.whole_objective()
 }
 
-/// Whether the sum of the objective is there, and, rounded up where the objective is whole, below the cutoff, if there is one.
+/// Whether the sum of the aim is there, and, rounded up where the objective is whole, below the cutoff, if there is one.
 pub fn is_below_cutoff(problem: &Problem, cutoff: Option<Frac>, point: &RationalPoint) -> bool
-    ensures { result ≡ is_below_cutoff problem.now cutoff (checked_sum problem.now.objective point.now) }
+    ensures { result ≡ is_below_cutoff problem.now cutoff (checked_sum (aim problem.now) point.now) }
 {
     problem.limits_hold();
-    match checked_sum(point, problem.objective().as_slice()) {
+    match checked_sum(point, problem.aim().as_slice()) {
         Some(value) => !reaches(cutoff, has_whole_objective(problem), Some(value)),
         None => false,
     }

@@ -124,7 +124,7 @@ fn cuts_of(reason: &Reason) -> u32
 }
 
 /// Whether the point's number in the column lies between the bound and the number after it, and the point is one of the linear program with the first
-/// cuts whose objective is below the cutoff. The one error is want of memory.
+/// cuts whose aim is below the cutoff. The one error is want of memory.
 fn is_fractional(
     alloc: Global,
     problem: &Problem,

@@ -1,7 +1,7 @@
 // The state of a search.
 ghost use Rattle.std.specs.Prelude.{◌≡◌, ◌≤◌, ◌+◌, ◌*◌, ◌++◌, ◌∷◌, [], IfOk, OnOk, length};
 ghost use Rattle.dual_simplex.specs.Prepared.{IsKept};
-ghost use Rattle.event_core.specs.States.{first_state, is_open, open_count};
+ghost use Rattle.event_core.specs.States.{best_value, first_state, is_open, open_count};
 ghost use Rattle.event_core.specs.Judging.{judged};
 ghost use Rattle.event_core.specs.After.{after};
 ghost use Rattle.event_core.specs.Histories.{IsLegal, state_of, AreLegal, entries_by, state_from, AreLegalFrom};
@@ -16,6 +16,7 @@ use crate::made::Made;
 use crate::parts::Parts;
 use derivation_book::Book;
 use dual_simplex::KeptRelaxation;
+use fraction::Frac;
 use incumbent::Incumbent;
 use node_events::Event;
 use node_tree::Tree;
@@ -84,6 +85,17 @@ impl State {
         ensures { result.now ≡ self.now.state.incumbent }
     {
         &self.parts.incumbent
+    }
+
+    /// The problem's own objective at the best point so far, if there is one.
+    pub fn best_value(&self) -> Option<Frac>
+        ensures { result ≡ best_value self.now.state }
+    {
+        let sense = self.parts.problem.sense();
+        match self.parts.incumbent.cutoff() {
+            Some(aim) => Some(sense.directed(aim)),
+            None => None,
+        }
     }
 
     /// Whether the node is there and has not ended.

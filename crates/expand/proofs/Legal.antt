@@ -14,7 +14,6 @@ use Rattle.problem_box.specs.Changes.{IsFirstEmpty, IsFixed}
 use Rattle.problem.specs.declared.row.Sense.TheVariants.{G}
 use Rattle.problem.specs.declared.row.Row.{Row}
 use Rattle.problem.specs.Problem.{Problem}
-use Rattle.problem.specs.Feasible.{objective_at}
 use Rattle.problem.specs.Limited.{IsModestSpan, IsLimited, IsLimitedRow}
 use Rattle.problem.specs.Limits.{most_columns}
 use Rattle.row_activity.specs.declared.verdict.Sign.{Sign}
@@ -39,6 +38,8 @@ use Rattle.derivation_book.specs.Lemmas.Exact.{price_exact}
 use Rattle.expand.specs.Verdicts.{multiplier, corner, verdict_proof}
 use Rattle.expand.proofs.Prices.{row_is, row_combined, row_above, bare_price}
 use Rattle.expand.proofs.Fitting.{limited_modest, bare_price_there, row_price_there}
+use Rattle.problem.specs.Directions.{aim_at, aim}
+use Rattle.problem.specs.Lemmas.Directions.{limited_aim}
 
 -- ---- fixed boxes
 pub corner_inside : (ss : List Span) → IsFixed ss → IsInBox ss (corner ss)
@@ -71,7 +72,7 @@ nonempty : (p : Problem) (box : List Span) (c : Option ℚ) → ((j : ℕ) → v
 nonempty p box c n = by_first (first_empty box) refl
   where
     by_first : (o : Option ℕ) → first_empty box ≡ o → IsNonempty box
-    by_first (Some j) e = absurd (n j (ap (λ o. first_of_all o (refuted_from 0 box p.rows) (reaches (low_of box p.objective) c) (is_fixed box)) e))
+    by_first (Some j) e = absurd (n j (ap (λ o. first_of_all o (refuted_from 0 box p.rows) (reaches (low_of box (aim p)) c) (is_fixed box)) e))
     by_first None e = first_empty_tells box None e
 
 -- ---- proofs
@@ -103,11 +104,11 @@ module _ (p : Problem) (cs : List Cut) (box : List Span) (limits : IsLimited p) 
         above = subst (λ v. whole (pos 0) <ℚ v) (sym (price_exact p cs box [] mult priced.0 columns priced.1)) (row_above p cs i h.row s box h.there n h.missed);
       })
 
-  bounded_legal : (z : ℚ) (cutoff : Option ℚ) → cutoff ≡ Some z → IsNonempty box → ((x : List ℤ) → IsInBox box x → z ≤ℚ objective_at p x) → is_legal_proof p cs box cutoff (Bound [] false) ≡ true
+  bounded_legal : (z : ℚ) (cutoff : Option ℚ) → cutoff ≡ Some z → IsNonempty box → ((x : List ℤ) → IsInBox box x → z ≤ℚ aim_at p x) → is_legal_proof p cs box cutoff (Bound [] false) ≡ true
   bounded_legal z cutoff e n least =
       let ls = known_lines p cs in
-      let priced = bare_price_there p cs box p.objective few modest (limited_modest (length p.spans) p.objective limits.objective) in
-      let at = bare_price ls p.objective box n in
+      let priced = bare_price_there p cs box (aim p) few modest (limited_modest (length p.spans) (aim p) (limited_aim p limits)) in
+      let at = bare_price ls (aim p) box n in
       (decides-legal p cs box cutoff (Bound [] false)).1 (record {
         multipliers = record {
           names = All-nil (λ (m : ℕ × ℚ). NamesRowOrCut p m.0);
@@ -118,7 +119,7 @@ module _ (p : Problem) (cs : List Cut) (box : List Span) (limits : IsLimited p) 
         limited = e;
         value = priced.0;
         priced = priced.1;
-        reached = subst (λ v. z ≤ℚ v) (sym (price_exact p cs box p.objective [] priced.0 columns priced.1 ∙ at.2)) (least at.0 at.1);
+        reached = subst (λ v. z ≤ℚ v) (sym (price_exact p cs box (aim p) [] priced.0 columns priced.1 ∙ at.2)) (least at.0 at.1);
       })
 
   -- the proof of a verdict
@@ -136,14 +137,14 @@ module _ (p : Problem) (cs : List Cut) (box : List Span) (limits : IsLimited p) 
   pub by_verdict : (cutoff : Option ℚ) (proof : Proof) → verdict_proof (verdict p box cutoff) ≡ Some proof → is_legal_proof p cs box cutoff proof ≡ true
   by_verdict cutoff proof e = subst (IsLegal cutoff) e (verdict_legal cutoff (verdict p box cutoff) refl (verdict_tells p box cutoff))
 
-  -- a box of one point is closed where the objective there is at least the cutoff
-  pub corner_closes : (x : List ℤ) (z : ℚ) → IsFixed box → corner box ≡ x → z ≤ℚ objective_at p x → is_legal_proof p cs box (Some z) (Bound [] false) ≡ true
+  -- a box of one point is closed where the aim there is at least the cutoff
+  pub corner_closes : (x : List ℤ) (z : ℚ) → IsFixed box → corner box ≡ x → z ≤ℚ aim_at p x → is_legal_proof p cs box (Some z) (Bound [] false) ≡ true
   corner_closes x z fixed e l =
-      bounded_legal z (Some z) refl (fixed_nonempty box fixed) (λ y b. subst (λ w. z ≤ℚ objective_at p w) (sym (only_corner box y fixed b ∙ e)) l)
+      bounded_legal z (Some z) refl (fixed_nonempty box fixed) (λ y b. subst (λ w. z ≤ℚ aim_at p w) (sym (only_corner box y fixed b ∙ e)) l)
 
-  -- and a box whose least objective is
-  pub low_closes : (cutoff : Option ℚ) → IsNonempty box → is_reached cutoff false (Some (low_of box p.objective)) ≡ true → is_legal_proof p cs box cutoff (Bound [] false) ≡ true
+  -- and a box whose least aim is
+  pub low_closes : (cutoff : Option ℚ) → IsNonempty box → is_reached cutoff false (Some (low_of box (aim p))) ≡ true → is_legal_proof p cs box cutoff (Bound [] false) ≡ true
   low_closes None n e = cc
   low_closes (Some z) n e =
-      let l = (decides-at_most z (low_of box p.objective)).0 e in
-      bounded_legal z (Some z) refl n (λ y b. ≤ℚ_trans _ _ _ l (low_of-≤ℚ box p.objective y b))
+      let l = (decides-at_most z (low_of box (aim p))).0 e in
+      bounded_legal z (Some z) refl n (λ y b. ≤ℚ_trans _ _ _ l (low_of-≤ℚ box (aim p) y b))

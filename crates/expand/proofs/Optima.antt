@@ -20,7 +20,7 @@ use Rattle.problem.specs.declared.row.Row.{Row}
 use Rattle.problem.specs.Linear.{Multipliers}
 use Rattle.problem.specs.Rows.{Compares, Satisfies}
 use Rattle.problem.specs.Problem.{Problem}
-use Rattle.problem.specs.Feasible.{HasWholeObjective, IsFeasible, objective_at}
+use Rattle.problem.specs.Feasible.{HasWholeObjective, IsFeasible}
 use Rattle.problem.specs.Limited.{IsModestSpan}
 use Rattle.problem.specs.Limits.{largest_bound}
 use Rattle.node_events.specs.declared.reason.Reason.{Reason}
@@ -43,6 +43,7 @@ use Rattle.expand.specs.Verdicts.{IsPart}
 use Rattle.expand.specs.Expansion.{is_rounded}
 use Rattle.expand.specs.Findings.{IsOfRun}
 use Rattle.expand.specs.Settling.{floors}
+use Rattle.problem.specs.Directions.{aim_at, aim}
 
 -- ---- whole numbers
 num_of_whole : (q : ℚ) → IsWhole q → q ≡ whole q.num
@@ -198,8 +199,8 @@ module _ (p : Problem) (cs : List Cut) (box : List Span) (k : ℕ) (x : Rational
     same : map whole (floors x) ≡ x
     same = floors_are x w
 
-    pub whole_value : v ≡ objective_at p (floors x)
-    whole_value = optimum.objective ∙ ap (rational_value p.objective) (sym same) ∙ rational_value-whole p.objective (floors x)
+    pub whole_value : v ≡ aim_at p (floors x)
+    whole_value = optimum.objective ∙ ap (rational_value (aim p)) (sym same) ∙ rational_value-whole (aim p) (floors x)
 
     pub whole_feasible : IsPart p box → IsFeasible p (floors x)
     whole_feasible part =
@@ -212,5 +213,5 @@ module _ (p : Problem) (cs : List Cut) (box : List Span) (k : ℕ) (x : Rational
         }
 
     -- whose bound closes the node where the cutoff is at most its value
-    pub whole_closes : (z : ℚ) → z ≤ℚ objective_at p (floors x) → is_legal_proof p cs box (Some z) (Bound mult (is_rounded p v)) ≡ true
+    pub whole_closes : (z : ℚ) → z ≤ℚ aim_at p (floors x) → is_legal_proof p cs box (Some z) (Bound mult (is_rounded p v)) ≡ true
     whole_closes z l = closes_at z (≤ℚ_trans z v (rounded_if (is_rounded p v) v) (subst (λ y. z ≤ℚ y) (sym whole_value) l) (at_most_rounded (is_rounded p v) v))

@@ -110,7 +110,7 @@ price_point ss target terms n =
     }
 
 -- ---- no multipliers
--- the price of the objective alone is its value at a point of the box
+-- the price of the aim alone is its value at a point of the box
 pub bare_price : (ls : List CertLine) (target : List (ℕ × ℚ)) (ss : List Span) → IsNonempty ss → (x : List ℤ) × IsInBox ss x × (exact_price ls target [] ss ≡ value target x)
 bare_price ls target ss n =
     let at = price_point ss target [] n in

@@ -9,7 +9,7 @@ use Rattle.fraction.specs.Order.{◌<ℚ◌}
 use Rattle.fraction.specs.Lemmas.Order.{same_le, either_order}
 use Rattle.problem_box.specs.declared.span.Span.{Span}
 use Rattle.problem.specs.Linear.{Point, Multipliers}
-use Rattle.problem.specs.Feasible.{IsFeasible, objective_at}
+use Rattle.problem.specs.Feasible.{IsFeasible}
 use Rattle.problem.specs.Limits.{most_cuts}
 use Rattle.row_activity.specs.Activity.{low_of}
 use Rattle.node_events.specs.declared.proof.Proof.{Proof}
@@ -34,6 +34,7 @@ use Rattle.expand.proofs.Legal.{corner_closes, low_closes}
 use Rattle.expand.proofs.Middles.{has_both_here}
 use Rattle.expand.proofs.Nodes.{IsNodeBox}
 use Rattle.expand.proofs.Optima.{both_at_floor, middle_reason, optimum_shut, fraction_reason, whole_feasible, whole_closes}
+use Rattle.problem.specs.Directions.{aim_at, aim}
 
 -- ---- the incumbent
 -- a value that isn't better reaches the cutoff
@@ -49,19 +50,19 @@ not_better (Some b) v e = (
 )
 
 module _ (s : State) (box : List Span) where
-  -- a feasible point with a proof that closes the box wherever the cutoff is at most the point's objective
-  point_settles : (x : Point) (proof : Proof) → IsFeasible s.problem x → ((z : ℚ) → z ≤ℚ objective_at s.problem x → is_legal_proof s.problem s.cuts box (Some z) proof ≡ true)
+  -- a feasible point with a proof that closes the box wherever the cutoff is at most the point's aim
+  point_settles : (x : Point) (proof : Proof) → IsFeasible s.problem x → ((z : ℚ) → z ≤ℚ aim_at s.problem x → is_legal_proof s.problem s.cuts box (Some z) proof ≡ true)
       → IsSettlement s box (improved_or_closed s x proof)
-  point_settles x proof feasible closes = step (is_better s.incumbent (objective_at s.problem x)) refl
+  point_settles x proof feasible closes = step (is_better s.incumbent (aim_at s.problem x)) refl
     where
-      step : (b : Bool) → is_better s.incumbent (objective_at s.problem x) ≡ b → IsSettlement s box (cond b (Improved x proof) (Closed proof))
+      step : (b : Bool) → is_better s.incumbent (aim_at s.problem x) ≡ b → IsSettlement s box (cond b (Improved x proof) (Closed proof))
       step true e = record {
         feasible = feasible;
-        better = (Decides-better s.incumbent (objective_at s.problem x)).0 e;
-        closes = closes (objective_at s.problem x) (same_le _ _ refl);
+        better = (Decides-better s.incumbent (aim_at s.problem x)).0 e;
+        closes = closes (aim_at s.problem x) (same_le _ _ refl);
       }
       step false e =
-          let k = not_better s.incumbent (objective_at s.problem x) e in
+          let k = not_better s.incumbent (aim_at s.problem x) e in
           subst (λ (o : Option ℚ). is_legal_proof s.problem s.cuts box o proof ≡ true) (sym k.1) (closes k.0 k.2)
 
   closed_or_branched_settles : (reached : Bool) (proof : Proof) (b : Branching) → (reached ≡ true → IsShut s box proof) → (reached ≡ false → IsBranching s box b)
@@ -91,9 +92,9 @@ module _ (s : State) (box : List Span) where
   module _ (n : IsNodeBox s.problem box) where
     loose_settles : (reason : Reason) (j : ℕ) (b : ℤ) → IsLoose s.problem s.cuts box reason j b
         → IsSettlement s box
-        (closed_or_branched (reaches (cutoff s) false (Some (low_of box s.problem.objective))) (Bound [] false) (record { place = record { column = j; bound = b }; reason = reason; value = None }))
+        (closed_or_branched (reaches (cutoff s) false (Some (low_of box (aim s.problem)))) (Bound [] false) (record { place = record { column = j; bound = b }; reason = reason; value = None }))
     loose_settles reason j b h =
-        closed_or_branched_settles (reaches (cutoff s) false (Some (low_of box s.problem.objective))) (Bound [] false) (record { place = record { column = j; bound = b }; reason = reason; value = None })
+        closed_or_branched_settles (reaches (cutoff s) false (Some (low_of box (aim s.problem)))) (Bound [] false) (record { place = record { column = j; bound = b }; reason = reason; value = None })
         (low_closes s.problem s.cuts box n.limits n.columns n.modest (cutoff s) h.nonempty)
         (λ e. record { both = has_both_here box j h.middle.free b h.middle.bound; holds = middle_reason s.problem s.cuts box (cutoff s) j b reason h.nonempty h.middle h.run })
 

@@ -27,7 +27,7 @@ use Rattle.expand.specs.Verdicts.{multiplier, corner}
 use Rattle.expand.specs.Notes.{with_note}
 use Rattle.expand.specs.Columns.{fractional_columns, IsSplitColumn}
 
--- a bound of the objective is rounded up: the objective is whole, and the bound isn't
+-- a bound of the aim, which is the objective that a search minimises, is rounded up: the objective is whole, and the bound isn't
 abbrev pub is_rounded : Problem → ℚ → Bool
 is_rounded p v = has_whole_objective p && not (nat_eq v.den 1)
 

@@ -2,7 +2,8 @@
 use Rattle.std.specs.Prelude.{◌≡◌, ◌+◌, ◌≤◌, ℕ, true, List, [], ◌∷◌, map, length, All, Some, slice_get}
 use Rattle.problem_box.specs.declared.span.Span.{Span}
 use Rattle.problem.specs.Linear.{Point, Multipliers}
-use Rattle.problem.specs.Feasible.{IsFeasible, objective_at}
+use Rattle.problem.specs.Directions.{aim_at}
+use Rattle.problem.specs.Feasible.{IsFeasible}
 use Rattle.problem.specs.Limits.{most_cuts}
 use Rattle.node_events.specs.declared.event.Event.{Event}
 use Rattle.node_events.specs.declared.event.Event.TheVariants.{Cut, Offer, Split, Close}
@@ -30,8 +31,8 @@ IsShut s box proof = is_legal_proof s.problem s.cuts box (cutoff s) proof ≡ tr
 -- the point is feasible and better than the incumbent, and once it is the incumbent the proof closes a node with this box
 pub record IsBetterPoint (s : State) (box : List Span) (x : Point) (proof : Proof) : Type 0 where
   pub feasible : IsFeasible s.problem x
-  pub better : IsBetter s.incumbent (objective_at s.problem x)
-  pub closes : is_legal_proof s.problem s.cuts box (Some (objective_at s.problem x)) proof ≡ true
+  pub better : IsBetter s.incumbent (aim_at s.problem x)
+  pub closes : is_legal_proof s.problem s.cuts box (Some (aim_at s.problem x)) proof ≡ true
 
 -- a node with this box may be split there, for this reason
 pub record IsBranching (s : State) (box : List Span) (b : Branching) : Type 0 where

@@ -3,7 +3,7 @@ use Rattle.std.specs.Prelude.{ℕ, ◌-◌, Bool, false, if◌then◌else◌, Li
 use Rattle.fraction.specs.Rational.{ℚ, floor}
 use Rattle.problem_box.specs.declared.span.Span.{Span}
 use Rattle.problem.specs.Linear.{Point, Multipliers}
-use Rattle.problem.specs.Feasible.{objective_at}
+use Rattle.problem.specs.Directions.{aim, aim_at}
 use Rattle.row_activity.specs.Activity.{low_of}
 use Rattle.expand.specs.declared.finding.Finding.{Finding}
 use Rattle.expand.specs.declared.finding.Finding.TheVariants.{Cuts, Shut, Whole, Solved, Loose}
@@ -23,13 +23,13 @@ use Rattle.expand.specs.Expansion.{is_rounded}
 abbrev pub floors : RationalPoint → Point
 floors x = map floor x
 
--- the bound of the objective by these multipliers, whose price is v
+-- the bound of the aim by these multipliers, whose price is v
 abbrev pub bound_of : State → Multipliers → ℚ → Proof
 bound_of s mult v = Bound mult (is_rounded s.problem v)
 
 -- a point that is better than the incumbent takes its place; the proof closes the node in any case
 abbrev pub improved_or_closed : State → Point → Proof → Settlement
-improved_or_closed s x proof = if is_better s.incumbent (objective_at s.problem x) then Improved x proof else Closed proof
+improved_or_closed s x proof = if is_better s.incumbent (aim_at s.problem x) then Improved x proof else Closed proof
 
 -- closed where the bound reaches the cutoff, else split
 abbrev pub closed_or_branched : Bool → Proof → Branching → Settlement
@@ -52,5 +52,5 @@ settled s box limit (Shut proof) = Closed proof
 settled s box limit (Whole x) = improved_or_closed s x (Bound [] false)
 settled s box limit (Solved k x mult v column) = settled_optimum s k x mult v column
 settled s box limit (Loose reason j b) =
-    closed_or_branched (reaches (cutoff s) false (Some (low_of box s.problem.objective))) (Bound [] false)
+    closed_or_branched (reaches (cutoff s) false (Some (low_of box (aim s.problem)))) (Bound [] false)
     (record { place = record { column = j; bound = b }; reason = reason; value = None })

@@ -36,7 +36,7 @@ pub fn refutation(alloc: Global, row: usize, sign: Sign) -> Result<Proof, AllocE
     Ok(Proof::Refute { mult })
 }
 
-/// The proof that the objective alone is nowhere in the box below the cutoff.
+/// The proof that the aim alone is nowhere in the box below the cutoff.
 pub fn objective_bound(alloc: Global) -> Proof
     ensures { result ≡ Proof.Bound [] false }
 {

@@ -30,7 +30,7 @@ pub enum Finding {
         cuts: u32,
         /// The point.
         point: RationalPoint,
-        /// A combination of rows and cuts that bounds the objective over the node's box by the optimum.
+        /// A combination of rows and cuts that bounds the aim over the node's box by the optimum.
         mult: Mult,
         /// The optimal value.
         value: Frac,

@@ -7,14 +7,14 @@ use derivation_book::reaches;
 use fraction::Frac;
 use problem::Problem;
 
-/// Whether a bound of the objective is rounded up: the objective is whole, and the bound isn't.
+/// Whether a bound of the aim is rounded up: the objective is whole, and the bound isn't.
 pub(crate) fn is_rounded(problem: &Problem, bound: Frac) -> bool
     ensures { result ≡ is_rounded problem.now bound }
 {
     problem.whole_objective() && !bound.is_whole()
 }
 
-/// Whether a bound of the objective, rounded up where that is allowed, is at least the cutoff.
+/// Whether a bound of the aim, rounded up where that is allowed, is at least the cutoff.
 pub(crate) fn is_reached(problem: &Problem, cutoff: Option<Frac>, bound: Frac) -> bool
     ensures { result ≡ reaches cutoff (is_rounded problem.now bound) (Some bound) }
 {

@@ -3,6 +3,7 @@ ghost use Rattle.std.specs.Prelude.{◌≡◌, ◌<◌, ◌≤◌, ◌-◌, true
 ghost use Rattle.problem_box.specs.Boxes.{IsInBox};
 ghost use Rattle.problem.specs.Limited.{IsModestSpan};
 ghost use Rattle.problem.specs.Limits.{most_cuts};
+ghost use Rattle.problem.specs.Directions.{aim};
 ghost use Rattle.row_activity.specs.Activity.{low_of, IsLimitedBox};
 ghost use Rattle.derivation_book.specs.Legal.{reaches};
 ghost use Rattle.dual_simplex.specs.Relaxation.{LiesInBox};
@@ -32,7 +33,7 @@ fn improved_or_closed(state: &State, point: Point, proof: Proof) -> Settlement
     requires { IsInBox state.now.state.problem.spans point }
     ensures { result ≡ improved_or_closed state.now.state point proof }
 {
-    let value = state.problem().value(point.as_slice());
+    let value = state.problem().aim_value(point.as_slice());
     if state.incumbent().is_bettered_by(value) {
         Settlement::Improved { point, proof }
     } else {
@@ -97,7 +98,7 @@ fn settled_optimum(
     }
 }
 
-/// How a run without an answer settles a node: the least objective over its box closes it where that reaches the cutoff, and else it is split.
+/// How a run without an answer settles a node: the least aim over its box closes it where that reaches the cutoff, and else it is split.
 fn settled_unanswered(
     alloc: Global,
     state: &State,
@@ -107,11 +108,11 @@ fn settled_unanswered(
 ) -> Settlement
     requires columns { length area.now ≡ length state.now.state.problem.spans }
     requires limited { IsLimitedBox area.now }
-    ensures { result ≡ closed_or_branched (reaches (cutoff state.now.state) false (Some (low_of area.now state.now.state.problem.objective))) (Proof.Bound [] false) (record { place = place; reason = reason; value = None }) }
+    ensures { result ≡ closed_or_branched (reaches (cutoff state.now.state) false (Some (low_of area.now (aim state.now.state.problem)))) (Proof.Bound [] false) (record { place = place; reason = reason; value = None }) }
 {
     let problem = state.problem();
     problem.limits_hold();
-    let least = low(problem.objective(), area);
+    let least = low(problem.aim(), area);
     if reaches(state.incumbent().cutoff(), false, Some(least)) {
         return Settlement::Closed {
             proof: objective_bound(alloc),

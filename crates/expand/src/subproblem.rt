@@ -17,6 +17,6 @@ pub struct Subproblem<'a> {
     pub relaxation: &'a Relaxation,
     /// The node's box.
     pub area: &'a IntBox,
-    /// The incumbent's objective, if there is an incumbent.
+    /// The incumbent's aim, if there is an incumbent.
     pub cutoff: Option<Frac>,
 }

@@ -15,6 +15,7 @@ use Rattle.tableau.specs.Tableau.{Tableau}
 use Rattle.tableau.specs.Multipliers.{point_of}
 use Rattle.dual_simplex.specs.Answers.{linear_program, run}
 use Rattle.gomory_cuts.specs.Separation.{separation}
+use Rattle.problem.specs.declared.objective_sense.ObjectiveSense.TheVariants.{Minimise}
 
 -- multipliers with their fractions as numerators and denominators
 abbrev parts : List (ℕ × ℚ) → List (ℕ × ℤ × ℕ)
@@ -39,7 +40,7 @@ span a b = record { lo = a; hi = b }
 
 -- ---- minimise x, 2x >= 3, x in 0..5
 abbrev half : Problem
-half = record { names = []; rows = row G (n 3) ((0, n 2) ∷ []) ∷ []; objective = (0, n 1) ∷ []; spans = span (pos 0) (pos 5) ∷ [] }
+half = record { names = []; rows = row G (n 3) ((0, n 2) ∷ []) ∷ []; objective = (0, n 1) ∷ []; sense = Minimise; spans = span (pos 0) (pos 5) ∷ [] }
 
 half_is : separated half [] half.spans ≡ Some (((0, pos 1, 2) ∷ []) ∷ [])
 unfolding gcd gcd_within frac floor ceil ◌+ℚ◌ ◌*ℚ◌ neg_ℚ inv_ℚ add_fits add_checked mul_fits mul_checked compare
@@ -47,7 +48,7 @@ half_is = refl
 
 -- ---- 2x + 2y = 3, x and y in 0..1
 abbrev odd : Problem
-odd = record { names = []; rows = row E (n 3) ((0, n 2) ∷ (1, n 2) ∷ []) ∷ []; objective = []; spans = span (pos 0) (pos 1) ∷ span (pos 0) (pos 1) ∷ [] }
+odd = record { names = []; rows = row E (n 3) ((0, n 2) ∷ (1, n 2) ∷ []) ∷ []; objective = []; sense = Minimise; spans = span (pos 0) (pos 1) ∷ span (pos 0) (pos 1) ∷ [] }
 
 odd_is : separated odd [] odd.spans ≡ Some (((0, pos 1, 2) ∷ []) ∷ ((0, negsuc 0, 2) ∷ []) ∷ [])
 unfolding gcd gcd_within frac floor ceil ◌+ℚ◌ ◌*ℚ◌ neg_ℚ inv_ℚ add_fits add_checked mul_fits mul_checked compare

@@ -8,16 +8,16 @@ use problem::{Point, Problem};
 use std::cmp::Ordering;
 use std::marker::Model;
 
-/// A point with its objective.
+/// A point with its aim.
 #[derive(Drop)]
 pub struct Best {
     /// The point.
     pub point: Point,
-    /// The problem's objective at the point. It is kept, as each verdict looks at it.
+    /// Its aim: the objective that a search minimises, at the point. It is kept, as each verdict looks at it.
     pub value: Frac,
 }
 
-/// The best point so far, if there is one, seen as the option of it with its objective.
+/// The best point so far, if there is one, seen as the option of it with its aim.
 #[derive(Drop)]
 pub struct Incumbent {
     best: Option<Best>,
@@ -40,7 +40,7 @@ impl Incumbent {
         Incumbent { best: None }
     }
 
-    /// Whether there is no incumbent, or this objective is less than the incumbent's.
+    /// Whether there is no incumbent, or this aim is less than the incumbent's.
     pub fn is_bettered_by(&self, value: Frac) -> bool
         ensures { result ≡ is_better self.now value }
     {
@@ -62,7 +62,7 @@ impl Incumbent {
         if !problem.is_feasible(point.as_slice()) {
             return false;
         }
-        let value = problem.value(point.as_slice());
+        let value = problem.aim_value(point.as_slice());
         if !self.is_bettered_by(value) {
             return false;
         }
@@ -70,7 +70,7 @@ impl Incumbent {
         true
     }
 
-    /// The incumbent's objective, if there is an incumbent.
+    /// The incumbent's aim, if there is an incumbent.
     pub fn cutoff(&self) -> Option<Frac>
         ensures { result ≡ cutoff_of self.now }
     {

@@ -17,7 +17,7 @@ pub enum Proof {
         /// The combination's rows with their factors.
         mult: Mult,
     },
-    /// A combination of rows that bounds the objective over the box from below, by the incumbent's value at least.
+    /// A combination of rows that bounds the aim, which is the objective that a search minimises, over the box from below, by the incumbent's value at least.
     Bound {
         /// The combination's rows with their factors.
         mult: Mult,

@@ -7,7 +7,7 @@ use std::alloc::{AllocError, Global};
 /// Why a node is split: what the linear program of the problem's rows and the first cuts over the node's box gave, where nothing closes the node.
 #[derive(Drop)]
 pub enum Reason {
-    /// A point of the relaxation that isn't whole in the column, with an objective below the cutoff.
+    /// A point of the relaxation that isn't whole in the column, with an aim below the cutoff.
     Fractional {
         /// How many cuts the point satisfies, in the order in which they were made.
         cuts: u32,

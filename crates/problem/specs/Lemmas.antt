@@ -3,3 +3,4 @@ pub mod Linear
 pub mod Modest
 pub mod Limited
 pub mod Rising
+pub mod Directions

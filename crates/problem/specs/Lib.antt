@@ -2,6 +2,7 @@ pub mod Limits
 pub mod Linear
 pub mod Rows
 pub mod Problem
+pub mod Directions
 pub mod Feasible
 pub mod Best
 pub mod Checked

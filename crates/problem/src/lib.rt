@@ -1,8 +1,9 @@
-//! Integer programs over a box: minimise an objective over the whole points of the box that satisfy the rows.
+//! Integer programs over a box: minimise or maximise an objective over the whole points of the box that satisfy the rows.
 #![tactic(auto)]
 
 mod limits;
 mod names;
+mod objective_sense;
 mod point;
 mod program;
 mod row;
@@ -11,6 +12,7 @@ mod terms;
 
 pub use limits::{LARGEST_BOUND, LARGEST_CUT_COEFFICIENT, MOST_COLUMNS, MOST_CUTS, MOST_ROWS};
 pub use names::Names;
+pub use objective_sense::ObjectiveSense;
 pub use point::Point;
 pub use program::Problem;
 pub use row::{Row, Sense};

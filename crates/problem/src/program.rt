@@ -4,9 +4,11 @@ ghost use Rattle.problem_box.specs.Boxes.{IsInBox};
 ghost use Rattle.problem.specs.Rows.{Satisfies};
 ghost use Rattle.problem.specs.Feasible.{IsFeasible, HasWholeObjective, objective_at};
 ghost use Rattle.problem.specs.Modest.{AreModest, IsModestPoint};
-ghost use Rattle.problem.specs.Limited.{IsLimited};
+ghost use Rattle.problem.specs.Limited.{IsLimited, AreLimited};
+ghost use Rattle.problem.specs.Directions.{aim, aim_at, negated_if};
 
 use crate::names::Names;
+use crate::objective_sense::ObjectiveSense;
 use crate::row::Row;
 use crate::terms::Terms;
 use fraction::Frac;
@@ -14,7 +16,7 @@ use problem_box::IntBox;
 use std::alloc::{AllocError, Global};
 use std::marker::Model;
 
-/// A problem within the limits, seen as its integer program: minimise the objective over the whole points of the box that satisfy the rows.
+/// A problem within the limits, seen as its integer program: minimise or maximise the objective over the whole points of the box that satisfy the rows.
 ///
 /// The limits: at most `MOST_COLUMNS` columns and `MOST_ROWS` rows; bounds of size at most `LARGEST_BOUND`; coefficients that are multiples of
 /// 10^-15 of at most that size; right sides that are such multiples of at most twice that size. Under them no sum over a point of the box is cramped.
@@ -23,6 +25,9 @@ pub struct Problem {
     names: Names,
     rows: Vec<Row>,
     objective: Terms,
+    sense: ObjectiveSense,
+    // A search minimises. What it minimises of a maximised problem is made once, as each price and each relaxation needs it.
+    negated: Option<Terms>,
     root: IntBox,
 }
 
@@ -31,25 +36,51 @@ impl Model for Problem {
 
     ghost Value = { Described };
 
+    ghost use Rattle.std.specs.Prelude.{◌≡◌};
     ghost use Rattle.problem.specs.Limited.{IsLimited};
+    ghost use Rattle.problem.specs.Directions.{negated_if};
 
-    ghost view = { λ p. record { names = p.names; rows = p.rows.items; objective = p.objective; spans = p.root } };
+    ghost view = { λ p. record { names = p.names; rows = p.rows.items; objective = p.objective; sense = p.sense; spans = p.root } };
 
-    ghost invariant = { λ p. IsLimited (record { names = p.names; rows = p.rows.items; objective = p.objective; spans = p.root }) };
+    ghost invariant = { λ p. IsLimited (record { names = p.names; rows = p.rows.items; objective = p.objective; sense = p.sense; spans = p.root }) × (p.negated ≡ negated_if p.sense p.objective) };
+}
+
+/// The negated terms, where the objective is maximised.
+fn negated_if(
+    alloc: Global,
+    sense: ObjectiveSense,
+    objective: &Terms,
+) -> Result<Option<Terms>, AllocError>
+    ensures { IfOk result (λ n. n ≡ negated_if sense objective.now) }
+{
+    match sense {
+        ObjectiveSense::Minimise => Ok(None),
+        ObjectiveSense::Maximise => Ok(Some(objective.negated(alloc)?)),
+    }
 }
 
 impl Problem {
-    /// The problem of these parts. Its condition is that they keep to the limits.
-    pub fn make(names: Names, rows: Vec<Row>, objective: Terms, root: IntBox) -> Problem
-        requires { IsLimited (record { names = names; rows = rows.items; objective = objective; spans = root }) }
-        ensures { result ≡ record { names = names; rows = rows.items; objective = objective; spans = root } }
+    /// The problem of these parts. Its condition is that they keep to the limits. The one error is want of memory.
+    pub fn make(
+        alloc: Global,
+        names: Names,
+        rows: Vec<Row>,
+        objective: Terms,
+        root: IntBox,
+        sense: ObjectiveSense,
+    ) -> Result<Problem, AllocError>
+        requires { IsLimited (record { names = names; rows = rows.items; objective = objective; sense = sense; spans = root }) }
+        ensures { IfOk result (λ p. p ≡ record { names = names; rows = rows.items; objective = objective; sense = sense; spans = root }) }
     {
-        Problem {
+        let negated = negated_if(alloc, sense, &objective)?;
+        Ok(Problem {
             names,
             rows,
             objective,
+            sense,
+            negated,
             root,
-        }
+        })
     }
 
     /// How many columns there are.
@@ -89,11 +120,29 @@ impl Problem {
         self.names.name(column)
     }
 
-    /// The objective's terms.
+    /// The terms of the problem's own objective, as it is printed and certified.
     pub fn objective(&self) -> &Terms
         ensures { result.now ≡ self.now.objective }
     {
         &self.objective
+    }
+
+    /// Whether the problem's own objective is minimised or maximised.
+    pub fn sense(&self) -> ObjectiveSense
+        ensures { result ≡ self.now.sense }
+    {
+        self.sense
+    }
+
+    /// The terms of the objective that a search minimises: those of the problem's own one, negated where the problem is maximised.
+    pub fn aim(&self) -> &Terms
+        ensures value { result.now ≡ aim self.now }
+        ensures limited { AreLimited (length self.now.spans) result.now }
+    {
+        match &self.negated {
+            Some(negated) => negated,
+            None => &self.objective,
+        }
     }
 
     /// The box of the columns' bounds.
@@ -107,7 +156,7 @@ impl Problem {
     pub fn whole_objective(&self) -> bool
         ensures { IsTrue result ↔ HasWholeObjective self.now }
     {
-        self.objective.are_whole()
+        self.aim().are_whole()
     }
 
     /// Whether the point is feasible: one number per column, each within its bounds, and each row satisfied.
@@ -120,12 +169,21 @@ impl Problem {
         are_satisfied(&self.rows, point)
     }
 
-    /// The objective at a point of the box.
+    /// The problem's own objective at a point of the box.
     pub fn value(&self, point: &[i64]) -> Frac
         requires { IsInBox self.now.spans point.now }
         ensures { result ≡ objective_at self.now point.now }
     {
         self.objective.value(point)
+    }
+
+    /// The objective that a search minimises, at a point of the box.
+    pub fn aim_value(&self, point: &[i64]) -> Frac
+        requires { IsInBox self.now.spans point.now }
+        ensures { result ≡ aim_at self.now point.now }
+    {
+        self.limits_hold();
+        self.aim().value(point)
     }
 
     /// Each problem keeps to the limits. This computes nothing: its contract is for callers' proofs.
@@ -143,12 +201,7 @@ impl Problem {
         let rows = copied(alloc, &self.rows)?;
         let objective = self.objective.copy(alloc)?;
         let root = self.root.copy(alloc)?;
-        Ok(Problem {
-            names,
-            rows,
-            objective,
-            root,
-        })
+        Problem::make(alloc, names, rows, objective, root, self.sense)
     }
 }
 

@@ -1,10 +1,12 @@
 // Columns with their coefficients.
 ghost use Rattle.std.specs.Prelude.{◌≡◌, ◌<◌, ◌↔◌, ◌++◌, ◌∷◌, [], IsTrue, IfOk, OnOk, OnErr, All, length};
+ghost use Rattle.problem.specs.Directions.{directed, negated};
 ghost use Rattle.problem.specs.Linear.{value};
 ghost use Rattle.problem.specs.Checked.{add_product, checked_value};
 ghost use Rattle.problem.specs.Modest.{AreModest, IsModestPoint};
 ghost use Rattle.fraction.specs.Whole.{IsWhole};
 
+use crate::objective_sense::ObjectiveSense;
 use crate::term::Term;
 use fraction::Frac;
 use std::alloc::{AllocError, Global};
@@ -103,6 +105,27 @@ impl Terms {
             items.push(term.copy(alloc)?)?;
         }
         Ok(Terms { items })
+    }
+
+    /// The terms with each coefficient negated. The one error is want of memory.
+    pub fn negated(&self, alloc: Global) -> Result<Terms, AllocError>
+        ensures { IfOk result (λ t. t ≡ negated self.now) }
+    {
+        let mut items = Vec::with_capacity(alloc, self.items.len())?;
+        for term in &self.items {
+            items.push(Term::make(alloc, term.column(), term.coefficient().neg())?)?;
+        }
+        Ok(Terms { items })
+    }
+
+    /// These terms, negated where the objective is maximised. The one error is want of memory.
+    pub fn directed(self, alloc: Global, sense: ObjectiveSense) -> Result<Terms, AllocError>
+        ensures { IfOk result (λ t. t ≡ directed sense self) }
+    {
+        match sense {
+            ObjectiveSense::Minimise => Ok(self),
+            ObjectiveSense::Maximise => self.negated(alloc),
+        }
     }
 
     /// Whether each coefficient is a whole number.

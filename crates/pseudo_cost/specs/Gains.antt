@@ -1,4 +1,4 @@
--- By how much the objective of a child is above its parent's.
+-- By how much the aim of a child is above its parent's.
 use Rattle.std.specs.Prelude.{ℕ, ◌^◌, ℤ, pos, negsuc, min, Option}
 use Rattle.std.specs.Option.{option_map, option_and_then}
 use Rattle.fraction.specs.Rational.{ℚ, whole, floor}

@@ -1,4 +1,4 @@
-// By how much a child's objective is above its parent's.
+// By how much a child's aim, the objective that a search minimises, is above its parent's.
 ghost use Rattle.std.specs.Prelude.{◌≡◌, ◌≤◌, IfSome};
 ghost use Rattle.pseudo_cost.specs.Gains.{gain, held, largest_gain};
 
@@ -14,7 +14,7 @@ fn held(change: i128) -> u32
     change.clamp(0, i128::from(LARGEST_GAIN)) as u32
 }
 
-/// The gain of a child over its parent: the floor of 1000 times the difference of their objectives, held within 0 and the largest gain.
+/// The gain of a child over its parent: the floor of 1000 times the difference of their aims, held within 0 and the largest gain.
 ///
 /// It is `None` exactly where the difference or its product with 1000 is cramped.
 pub fn gain(value: Frac, parent: Frac) -> Option<u32>

@@ -1,4 +1,4 @@
-//! Pseudo-costs: by how much a split of each column raised the objective so far, and the column to split by them.
+//! Pseudo-costs: by how much a split of each column raised the aim, which is the objective that a search minimises, so far, and the column to split by them.
 #![tactic(auto)]
 
 mod column_gains;

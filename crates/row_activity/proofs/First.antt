@@ -11,6 +11,7 @@ use Rattle.problem.specs.Problem.{Problem}
 use Rattle.row_activity.specs.declared.verdict.Sign.{Sign}
 use Rattle.row_activity.specs.Activity.{low_of, IsNonempty}
 use Rattle.row_activity.specs.Verdicts.{refuted_from, first_empty, reaches, is_fixed, first_of_all, verdict}
+use Rattle.problem.specs.Directions.{aim}
 
 crossed : (a b : ℤ) → a <ℤ b → int_lt a b ≡ true
 crossed a b h = step (int_lt a b) refl
@@ -52,5 +53,5 @@ none_empty ss h = none_from 0 ss h
 
 -- the verdict is the first that holds
 pub settled : (p : Problem) (ss : List Span) (c : Option ℚ) (a : Option ℕ) (b : Option (ℕ × Sign)) (d f : Bool)
-    → first_empty ss ≡ a → refuted_from 0 ss p.rows ≡ b → reaches (low_of ss p.objective) c ≡ d → is_fixed ss ≡ f → first_of_all a b d f ≡ verdict p ss c
+    → first_empty ss ≡ a → refuted_from 0 ss p.rows ≡ b → reaches (low_of ss (aim p)) c ≡ d → is_fixed ss ≡ f → first_of_all a b d f ≡ verdict p ss c
 settled p ss c a b d f u v w x = λ i. first_of_all (sym u i) (sym v i) (sym w i) (sym x i)

@@ -13,13 +13,13 @@ use Rattle.problem.specs.Lemmas.Modest.{largest_term, IsSumOf, whole_within, pro
 use Rattle.problem.specs.Limited.{IsModestSpan, AreLimited}
 use Rattle.problem.specs.Lemmas.Limited.{are_modest}
 use Rattle.problem.specs.Limits.{most_columns, largest_bound}
-use Rattle.row_activity.specs.declared.activity.Aim.{Aim}
-use Rattle.row_activity.specs.declared.activity.Aim.TheVariants.{Least, Greatest}
+use Rattle.row_activity.specs.declared.activity.Extreme.{Extreme}
+use Rattle.row_activity.specs.declared.activity.Extreme.TheVariants.{Least, Greatest}
 use Rattle.row_activity.specs.Activity.{span_at, end_for, sum_of_ends, IsLimitedBox}
 use Rattle.row_activity.specs.Fitting.{FitsWithProduct}
 
 -- an end of a modest span is modest
-modest_end : (a : Aim) (c : ℚ) (s : Span) → IsModestSpan s → nat_abs (end_for a c s) ≤ largest_bound
+modest_end : (a : Extreme) (c : ℚ) (s : Span) → IsModestSpan s → nat_abs (end_for a c s) ≤ largest_bound
 modest_end Least c s h = step (int_lt (pos 0) c.num)
   where
     step : (b : Bool) → nat_abs (cond b s.lo s.hi) ≤ largest_bound
@@ -32,19 +32,19 @@ modest_end Greatest c s h = step (int_lt (pos 0) c.num)
     step false = h.0
 
 -- the total of the first i terms, with the others, is the whole sum
-pub record IsTotal (a : Aim) (ss : List Span) (ts us : List (ℕ × ℚ)) (i : ℕ) (total : ℚ) : Type 0 where
+pub record IsTotal (a : Extreme) (ss : List Span) (ts us : List (ℕ × ℚ)) (i : ℕ) (total : ℚ) : Type 0 where
   pub size : IsSumOf i total
   pub rest : total +ℚ sum_of_ends (end_for a) ss (drop i us) ≡ sum_of_ends (end_for a) ss ts
 
 -- the total of no terms
-pub no_terms : (a : Aim) (ss : List Span) (ts us : List (ℕ × ℚ)) (total : ℚ) → us ≡ ts → total ≡ whole (pos 0) → IsTotal a ss ts us 0 total
+pub no_terms : (a : Extreme) (ss : List Span) (ts us : List (ℕ × ℚ)) (total : ℚ) → us ≡ ts → total ≡ whole (pos 0) → IsTotal a ss ts us 0 total
 no_terms a ss ts us total items e = record {
   size = subst (IsSumOf 0) (sym e) (whole_within (pos 0) (0 * largest_term) (omega arith));
   rest = (λ i. e i +ℚ sum_of_ends (end_for a) ss (items i)) ∙ zero-+ℚ _;
 }
 
 -- nothing is left to add behind the last term
-pub all_terms : {a : Aim} {ss : List Span} {ts us : List (ℕ × ℚ)} {i : ℕ} {total : ℚ} → length us ≤ i → IsTotal a ss ts us i total → total ≡ sum_of_ends (end_for a) ss ts
+pub all_terms : {a : Extreme} {ss : List Span} {ts us : List (ℕ × ℚ)} {i : ℕ} {total : ℚ} → length us ≤ i → IsTotal a ss ts us i total → total ≡ sum_of_ends (end_for a) ss ts
 all_terms {a = a} {ss = ss} {us = us} {i = i} {total = total} l h = sym (+ℚ-zero total) ∙ ap (λ r. total +ℚ r) (sym (at_drop_all (sum_of_ends (end_for a) ss) us i l)) ∙ h.rest
 
 -- the next term, and the span of its column
@@ -58,7 +58,7 @@ pub record IsNext (ss : List Span) (ts us : List (ℕ × ℚ)) (i : ℕ) (t : �
   pub item_read : read ≡ get_or us i read
   pub there : slice_get ss t.0 ≡ Some s
 
-module _ {a : Aim} {ss : List Span} {ts us : List (ℕ × ℚ)} {i : ℕ} {total : ℚ} {t : ℕ × ℚ} {s : Span} (n : IsNext ss ts us i t s) (so_far : IsTotal a ss ts us i total) where
+module _ {a : Extreme} {ss : List Span} {ts us : List (ℕ × ℚ)} {i : ℕ} {total : ℚ} {t : ℕ × ℚ} {s : Span} (n : IsNext ss ts us i t s) (so_far : IsTotal a ss ts us i total) where
   abbrev z : ℤ
   z = end_for a t.1 s
 

@@ -5,8 +5,8 @@ use Rattle.problem_box.specs.declared.span.Span.{Span}
 use Rattle.problem.specs.Limited.{IsModestSpan}
 use Rattle.problem.specs.Linear.{Terms}
 use Rattle.problem.specs.Limits.{most_columns}
-use Rattle.row_activity.specs.declared.activity.Aim.{Aim}
-use Rattle.row_activity.specs.declared.activity.Aim.TheVariants.{Least, Greatest}
+use Rattle.row_activity.specs.declared.activity.Extreme.{Extreme}
+use Rattle.row_activity.specs.declared.activity.Extreme.TheVariants.{Least, Greatest}
 
 -- the span of a column; 0 alone where the box has no such column
 abbrev pub span_at : List Span → ℕ → Span
@@ -21,7 +21,7 @@ abbrev pub high_end : ℚ → Span → ℤ
 high_end c s = if int_lt (pos 0) c.num then s.hi else s.lo
 
 -- the bound of a span at which a term has its least or its greatest value
-abbrev pub end_for : Aim → ℚ → Span → ℤ
+abbrev pub end_for : Extreme → ℚ → Span → ℤ
 end_for Least = low_end
 end_for Greatest = high_end
 

@@ -10,7 +10,7 @@ use Rattle.problem.specs.declared.row.Sense.TheVariants.{G, L}
 use Rattle.problem.specs.declared.row.Row.{Row}
 use Rattle.problem.specs.Problem.{Problem}
 use Rattle.problem.specs.Rows.{Satisfies}
-use Rattle.problem.specs.Feasible.{objective_at}
+use Rattle.problem.specs.Directions.{aim, aim_at}
 use Rattle.row_activity.specs.declared.verdict.Sign.{Sign}
 use Rattle.row_activity.specs.declared.verdict.Sign.TheVariants.{Plus, Minus}
 use Rattle.row_activity.specs.declared.verdict.Verdict.{Verdict}
@@ -33,21 +33,21 @@ pub record IsRefuted (p : Problem) (ss : List Span) (i : ℕ) (s : Sign) : Type 
   pub missed : IsMissed ss row s
   pub never : (x : List ℤ) → IsInBox ss x → Satisfies x row → ⊥
 
--- no point of the box has an objective below the cutoff
+-- no point of the box has an aim, which is the objective that a search minimises, below the cutoff
 pub record IsPriced (p : Problem) (ss : List Span) (cutoff : Option ℚ) : Type 0 where
   pub bound : ℚ
   pub given : cutoff ≡ Some bound
-  pub reached : bound ≤ℚ low_of ss p.objective
-  pub least : (x : List ℤ) → IsInBox ss x → bound ≤ℚ objective_at p x
+  pub reached : bound ≤ℚ low_of ss (aim p)
+  pub least : (x : List ℤ) → IsInBox ss x → bound ≤ℚ aim_at p x
 
--- one point, which satisfies each row and whose objective is below the cutoff, if there is one
+-- one point, which satisfies each row and whose aim is below the cutoff, if there is one
 pub record IsOnePoint (p : Problem) (ss : List Span) (cutoff : Option ℚ) : Type 0 where
   pub fixed : IsFixed ss
   pub point : List ℤ
   pub inside : IsInBox ss point
   pub only : (x : List ℤ) → IsInBox ss x → x ≡ point
   pub rows : All (Satisfies point) p.rows
-  pub below : ForSome cutoff (λ z. objective_at p point <ℚ z)
+  pub below : ForSome cutoff (λ z. aim_at p point <ℚ z)
 
 -- each column has a number, and some column has more than one
 pub record IsOpen (ss : List Span) : Type 0 where

@@ -10,6 +10,7 @@ use Rattle.problem.specs.declared.row.Sense.{Sense}
 use Rattle.problem.specs.declared.row.Sense.TheVariants.{G, L, E}
 use Rattle.problem.specs.declared.row.Row.{Row}
 use Rattle.problem.specs.Problem.{Problem}
+use Rattle.problem.specs.Directions.{aim}
 use Rattle.row_activity.specs.declared.verdict.Sign.{Sign}
 use Rattle.row_activity.specs.declared.verdict.Sign.TheVariants.{Plus, Minus}
 use Rattle.row_activity.specs.declared.verdict.Verdict.{Verdict}
@@ -57,6 +58,6 @@ first_of_all None None true fixed = Priced
 first_of_all None None false true = Point
 first_of_all None None false false = Unsettled
 
--- the verdict on a box: the first of an empty column, a row that no point satisfies, an objective that reaches the cutoff, and a single point
+-- the verdict on a box: the first of an empty column, a row that no point satisfies, an aim that reaches the cutoff, and a single point
 abbrev pub verdict : Problem → List Span → Option ℚ → Verdict
-verdict p ss cutoff = first_of_all (first_empty ss) (refuted_from 0 ss p.rows) (reaches (low_of ss p.objective) cutoff) (is_fixed ss)
+verdict p ss cutoff = first_of_all (first_empty ss) (refuted_from 0 ss p.rows) (reaches (low_of ss (aim p)) cutoff) (is_fixed ss)

@@ -12,19 +12,19 @@ use problem_box::{IntBox, Span};
 
 /// Which value over a span is looked for.
 #[derive(Clone, Copy)]
-enum Aim {
+enum Extreme {
     Least,
     Greatest,
 }
 
 /// The end of a span at which its product with a coefficient is least, or greatest.
 #[inline(always)]
-fn end_for(aim: Aim, coefficient: Frac, span: Span) -> i64
-    ensures { result ≡ end_for aim coefficient span }
+fn end_for(extreme: Extreme, coefficient: Frac, span: Span) -> i64
+    ensures { result ≡ end_for extreme coefficient span }
 {
-    match (aim, 0 < coefficient.numer()) {
-        (Aim::Least, true) | (Aim::Greatest, false) => span.lo,
-        (Aim::Least, false) | (Aim::Greatest, true) => span.hi,
+    match (extreme, 0 < coefficient.numer()) {
+        (Extreme::Least, true) | (Extreme::Greatest, false) => span.lo,
+        (Extreme::Least, false) | (Extreme::Greatest, true) => span.hi,
     }
 }
 
@@ -45,24 +45,24 @@ fn with_product(total: Frac, coefficient: Frac, number: i64) -> Frac
 
 /// The sum with a coefficient's product with an end of a span added, where neither of them is cramped.
 #[inline(always)]
-fn with_end(aim: Aim, total: Frac, coefficient: Frac, span: Span) -> Frac
-    requires { FitsWithProduct total coefficient (end_for aim coefficient span) }
-    ensures { result ≡ total +ℚ coefficient *ℚ whole (end_for aim coefficient span) }
+fn with_end(extreme: Extreme, total: Frac, coefficient: Frac, span: Span) -> Frac
+    requires { FitsWithProduct total coefficient (end_for extreme coefficient span) }
+    ensures { result ≡ total +ℚ coefficient *ℚ whole (end_for extreme coefficient span) }
 {
-    with_product(total, coefficient, end_for(aim, coefficient, span))
+    with_product(total, coefficient, end_for(extreme, coefficient, span))
 }
 
 /// The sum of each coefficient times an end of its column's span.
 #[inline(always)]
-fn sum_of_ends(aim: Aim, terms: &Terms, area: &IntBox) -> Frac
+fn sum_of_ends(extreme: Extreme, terms: &Terms, area: &IntBox) -> Frac
     requires limited { AreLimited (length area.now) terms.now }
     requires limited_box { IsLimitedBox area.now }
-    ensures { result ≡ sum_of_ends (end_for aim) area.now terms.now }
+    ensures { result ≡ sum_of_ends (end_for extreme) area.now terms.now }
 {
     let mut total = Frac::of(0);
     for term in terms.as_slice() {
         let (column, coefficient) = term.pair();
-        total = with_end(aim, total, coefficient, area.span(column as usize));
+        total = with_end(extreme, total, coefficient, area.span(column as usize));
     }
     total
 }
@@ -76,7 +76,7 @@ pub fn low(terms: &Terms, area: &IntBox) -> Frac
     ensures value { result ≡ low_of area.now terms.now }
     ensures least { IsLeast area.now terms.now result }
 {
-    sum_of_ends(Aim::Least, terms, area)
+    sum_of_ends(Extreme::Least, terms, area)
 }
 
 /// The greatest value of the terms over the points of a box that isn't empty, under the conditions of `low`. It takes no memory.
@@ -86,7 +86,7 @@ pub fn high(terms: &Terms, area: &IntBox) -> Frac
     ensures value { result ≡ high_of area.now terms.now }
     ensures greatest { IsGreatest area.now terms.now result }
 {
-    sum_of_ends(Aim::Greatest, terms, area)
+    sum_of_ends(Extreme::Greatest, terms, area)
 }
 
 /// The least and the greatest value of the terms over the points of a box that isn't empty, both in one pass.
@@ -101,8 +101,8 @@ pub(crate) fn range(terms: &Terms, area: &IntBox) -> (Frac, Frac)
     for term in terms.as_slice() {
         let (column, coefficient) = term.pair();
         let span = area.span(column as usize);
-        low = with_end(Aim::Least, low, coefficient, span);
-        high = with_end(Aim::Greatest, high, coefficient, span);
+        low = with_end(Extreme::Least, low, coefficient, span);
+        high = with_end(Extreme::Greatest, high, coefficient, span);
     }
     (low, high)
 }

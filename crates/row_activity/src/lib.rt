@@ -1,4 +1,4 @@
-//! What the rows and the objective tell of a box, by their least and greatest values over it.
+//! What the rows and the aim, which is the objective that a search minimises, tell of a box, by their least and greatest values over it.
 #![tactic(auto)]
 
 mod activity;

@@ -22,16 +22,16 @@ pub enum Sign {
     Minus,
 }
 
-/// What the rows and the objective tell of a box.
+/// What the rows and the aim, which is the objective that a search minimises, tell of a box.
 #[derive(Clone, Copy, Debug, PartialEq, Eq)]
 pub enum Verdict {
     /// The span of this column, the least such one, has no number.
     Empty { column: usize },
     /// No point of the box satisfies this row, the least such one.
     Refuted { row: usize, sign: Sign },
-    /// No point of the box has an objective below the cutoff.
+    /// No point of the box has an aim below the cutoff.
     Priced,
-    /// The box has one point. It satisfies each row, and its objective is below the cutoff, if there is one.
+    /// The box has one point. It satisfies each row, and its aim is below the cutoff, if there is one.
     Point,
     /// Nothing of these.
     Unsettled,
@@ -139,7 +139,7 @@ pub fn box_verdict(problem: &Problem, node: &IntBox, cutoff: Option<Frac>) -> Ve
     if let Some((row, sign)) = first_refuted(problem, node) {
         return Verdict::Refuted { row, sign };
     }
-    if reaches(low(problem.objective(), node), cutoff) {
+    if reaches(low(problem.aim(), node), cutoff) {
         return Verdict::Priced;
     }
     if node.is_fixed() {

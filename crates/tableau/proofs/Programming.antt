@@ -19,6 +19,7 @@ use Rattle.tableau.specs.Elimination.{Coefficients}
 use Rattle.tableau.specs.Lemmas.Started.{length-coefficients}
 use Rattle.tableau.specs.Lemmas.Programs.{program-with_row, numbers_more, next_taken}
 use Rattle.tableau.specs.LinearProgram.{coefficients_from, span_bounds, program_of, numbers_from, relaxation, with_row}
+use Rattle.problem.specs.Directions.{aim}
 
 -- ---- one row more
 pub next_program : (objective : Terms) (rows : Rows) (spans : List Span) (i : ℕ) (r : Row) → slice_get rows i ≡ Some r
@@ -53,8 +54,8 @@ row_rises n rows i r h e =
 pub no_rows : (objective : Terms) (spans : List Span) (bs : List Bounds) → bs ≡ map span_bounds spans → bs ≡ map span_bounds spans ++ []
 no_rows objective spans bs e = e ∙ sym (append-nil (map span_bounds spans))
 
-pub all_rows : (p : Problem) (spans : List Span) (i : ℕ) → length p.rows ≡ i → program_of p.objective (take i p.rows) (numbers_from 0 i) spans ≡ relaxation p [] spans
-all_rows p spans i e = λ j. program_of p.objective ((ap (λ n. take n p.rows) (sym e) ∙ take_all (length p.rows) p.rows (omega arith) ∙ sym (append-nil p.rows)) j) ((ap (numbers_from 0) (sym e) ∙ sym (append-nil (numbers_from 0 (length p.rows)))) j) spans
+pub all_rows : (p : Problem) (spans : List Span) (i : ℕ) → length p.rows ≡ i → program_of (aim p) (take i p.rows) (numbers_from 0 i) spans ≡ relaxation p [] spans
+all_rows p spans i e = λ j. program_of (aim p) ((ap (λ n. take n p.rows) (sym e) ∙ take_all (length p.rows) p.rows (omega arith) ∙ sym (append-nil p.rows)) j) ((ap (numbers_from 0) (sym e) ∙ sym (append-nil (numbers_from 0 (length p.rows)))) j) spans
 
 -- ---- the sizes of a linear program without rows
 pub first_sizes : (objective : Terms) (spans : List Span) (rows : List Coefficients) (costs : Coefficients) (bs : List Bounds) (ns : List ℕ) (k : ℕ) → length spans ≤ most_columns → k ≡ length spans

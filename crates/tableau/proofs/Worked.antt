@@ -17,6 +17,7 @@ use Rattle.tableau.specs.Run.{RunEnd, run_from}
 use Rattle.tableau.specs.LinearProgram.{relaxation}
 use Rattle.tableau.specs.Start.{started}
 use Rattle.tableau.specs.Multipliers.{point_of, mult_of_cost, mult_of_row}
+use Rattle.problem.specs.declared.objective_sense.ObjectiveSense.TheVariants.{Minimise}
 
 -- ---- how a run is shown
 -- fractions as numerators and denominators: the multipliers of a row that no column can help, or the point and the multipliers of the costs;
@@ -66,7 +67,7 @@ span a b = record { lo = a; hi = b }
 -- ---- by hand
 -- minimise x, 2x >= 3, x from 0 to 5
 abbrev half : Problem
-half = record { names = codes "x" ∷ []; rows = row G (n 3) ((0, n 2) ∷ []) ∷ []; objective = (0, n 1) ∷ []; spans = span (pos 0) (pos 5) ∷ [] }
+half = record { names = codes "x" ∷ []; rows = row G (n 3) ((0, n 2) ∷ []) ∷ []; objective = (0, n 1) ∷ []; sense = Minimise; spans = span (pos 0) (pos 5) ∷ [] }
 
 half_is : solved half [] half.spans ≡ done ((pos 3, 2) ∷ []) ((0, pos 1, 2) ∷ []) 1
 unfolding gcd gcd_within frac ◌+ℚ◌ ◌*ℚ◌ neg_ℚ inv_ℚ add_fits add_checked mul_fits mul_checked compare
@@ -79,7 +80,7 @@ half_cut = refl
 
 -- 2x + 2y = 3, x and y from 0 to 1
 abbrev odd : Problem
-odd = record { names = codes "x" ∷ codes "y" ∷ []; rows = row E (n 3) ((0, n 2) ∷ (1, n 2) ∷ []) ∷ []; objective = []; spans = span (pos 0) (pos 1) ∷ span (pos 0) (pos 1) ∷ [] }
+odd = record { names = codes "x" ∷ codes "y" ∷ []; rows = row E (n 3) ((0, n 2) ∷ (1, n 2) ∷ []) ∷ []; objective = []; sense = Minimise; spans = span (pos 0) (pos 1) ∷ span (pos 0) (pos 1) ∷ [] }
 
 odd_is : solved odd [] odd.spans ≡ done ((pos 1, 1) ∷ (pos 1, 2) ∷ []) [] 2
 unfolding gcd gcd_within frac ◌+ℚ◌ ◌*ℚ◌ neg_ℚ inv_ℚ add_fits add_checked mul_fits mul_checked compare
@@ -100,35 +101,35 @@ odd_cut = refl
 
 -- ---- by a literal reading
 abbrev one : Problem
-one = record { names = codes "x" ∷ codes "x" ∷ []; rows = row G (whole (negsuc 2)) ((0, whole (pos 1)) ∷ (1, whole (negsuc 1)) ∷ []) ∷ row E (whole (pos 0)) ((0, whole (pos 3)) ∷ (1, whole (pos 3)) ∷ []) ∷ []; objective = (1, whole (negsuc 0)) ∷ []; spans = span (pos 0) (pos 2) ∷ span (negsuc 0) (pos 3) ∷ [] }
+one = record { names = codes "x" ∷ codes "x" ∷ []; rows = row G (whole (negsuc 2)) ((0, whole (pos 1)) ∷ (1, whole (negsuc 1)) ∷ []) ∷ row E (whole (pos 0)) ((0, whole (pos 3)) ∷ (1, whole (pos 3)) ∷ []) ∷ []; objective = (1, whole (negsuc 0)) ∷ []; sense = Minimise; spans = span (pos 0) (pos 2) ∷ span (negsuc 0) (pos 3) ∷ [] }
 
 one_is : solved one (row G (whole (negsuc 0)) ((0, whole (pos 2)) ∷ (1, whole (negsuc 1)) ∷ []) ∷ row G (whole (pos 1)) ((0, whole (pos 2)) ∷ []) ∷ []) one.spans ≡ done ((pos 1, 2) ∷ (negsuc 0, 2) ∷ []) ((1, negsuc 0, 3) ∷ (7, pos 1, 2) ∷ []) 5
 unfolding gcd gcd_within frac ◌+ℚ◌ ◌*ℚ◌ neg_ℚ inv_ℚ add_fits add_checked mul_fits mul_checked compare
 one_is = refl
 
 abbrev two : Problem
-two = record { names = codes "x" ∷ codes "x" ∷ codes "x" ∷ []; rows = row G (whole (negsuc 2)) ((0, whole (pos 1)) ∷ (1, whole (pos 1)) ∷ (2, whole (negsuc 0)) ∷ []) ∷ row G (whole (pos 4)) ((1, whole (negsuc 0)) ∷ (2, whole (negsuc 1)) ∷ []) ∷ row L (whole (negsuc 1)) ((0, whole (pos 1)) ∷ (1, whole (negsuc 0)) ∷ (2, whole (negsuc 0)) ∷ []) ∷ []; objective = (1, whole (pos 2)) ∷ (2, whole (negsuc 0)) ∷ []; spans = span (negsuc 1) (pos 2) ∷ span (negsuc 2) (negsuc 1) ∷ span (negsuc 0) (pos 3) ∷ [] }
+two = record { names = codes "x" ∷ codes "x" ∷ codes "x" ∷ []; rows = row G (whole (negsuc 2)) ((0, whole (pos 1)) ∷ (1, whole (pos 1)) ∷ (2, whole (negsuc 0)) ∷ []) ∷ row G (whole (pos 4)) ((1, whole (negsuc 0)) ∷ (2, whole (negsuc 1)) ∷ []) ∷ row L (whole (negsuc 1)) ((0, whole (pos 1)) ∷ (1, whole (negsuc 0)) ∷ (2, whole (negsuc 0)) ∷ []) ∷ []; objective = (1, whole (pos 2)) ∷ (2, whole (negsuc 0)) ∷ []; sense = Minimise; spans = span (negsuc 1) (pos 2) ∷ span (negsuc 2) (negsuc 1) ∷ span (negsuc 0) (pos 3) ∷ [] }
 
 two_is : solved two (row G (whole (negsuc 0)) ((0, whole (pos 1)) ∷ (2, whole (pos 1)) ∷ []) ∷ []) two.spans ≡ no_column ((1, pos 1, 1) ∷ (2, negsuc 1, 1) ∷ []) 5
 unfolding gcd gcd_within frac ◌+ℚ◌ ◌*ℚ◌ neg_ℚ inv_ℚ add_fits add_checked mul_fits mul_checked compare
 two_is = refl
 
 abbrev three : Problem
-three = record { names = codes "x" ∷ codes "x" ∷ codes "x" ∷ []; rows = row E (whole (negsuc 2)) ((0, whole (negsuc 1)) ∷ (1, whole (negsuc 2)) ∷ []) ∷ row L (whole (pos 3)) ((0, whole (pos 3)) ∷ (1, whole (negsuc 0)) ∷ (2, whole (negsuc 2)) ∷ []) ∷ row L (whole (pos 5)) ((0, whole (negsuc 2)) ∷ (2, whole (negsuc 1)) ∷ []) ∷ []; objective = (0, whole (negsuc 1)) ∷ (1, whole (negsuc 1)) ∷ (2, whole (pos 2)) ∷ []; spans = span (negsuc 0) (pos 3) ∷ span (pos 0) (pos 2) ∷ span (negsuc 2) (pos 1) ∷ [] }
+three = record { names = codes "x" ∷ codes "x" ∷ codes "x" ∷ []; rows = row E (whole (negsuc 2)) ((0, whole (negsuc 1)) ∷ (1, whole (negsuc 2)) ∷ []) ∷ row L (whole (pos 3)) ((0, whole (pos 3)) ∷ (1, whole (negsuc 0)) ∷ (2, whole (negsuc 2)) ∷ []) ∷ row L (whole (pos 5)) ((0, whole (negsuc 2)) ∷ (2, whole (negsuc 1)) ∷ []) ∷ []; objective = (0, whole (negsuc 1)) ∷ (1, whole (negsuc 1)) ∷ (2, whole (pos 2)) ∷ []; sense = Minimise; spans = span (negsuc 0) (pos 3) ∷ span (pos 0) (pos 2) ∷ span (negsuc 2) (pos 1) ∷ [] }
 
 three_is : solved three (row G (whole (pos 0)) ((0, whole (pos 1)) ∷ (1, whole (pos 2)) ∷ (2, whole (pos 1)) ∷ []) ∷ []) three.spans ≡ done ((negsuc 2, 7) ∷ (pos 9, 7) ∷ (negsuc 12, 7) ∷ []) ((0, pos 40, 49) ∷ (1, negsuc 21, 49) ∷ (2, negsuc 15, 49) ∷ []) 5
 unfolding gcd gcd_within frac ◌+ℚ◌ ◌*ℚ◌ neg_ℚ inv_ℚ add_fits add_checked mul_fits mul_checked compare
 three_is = refl
 
 abbrev four : Problem
-four = record { names = codes "x" ∷ codes "x" ∷ codes "x" ∷ []; rows = row L (whole (negsuc 1)) ((0, whole (pos 1)) ∷ (1, whole (pos 2)) ∷ (2, whole (pos 1)) ∷ []) ∷ row L (whole (pos 2)) ((0, whole (negsuc 2)) ∷ (1, whole (negsuc 2)) ∷ (2, whole (pos 1)) ∷ []) ∷ row E (whole (negsuc 3)) ((0, whole (pos 3)) ∷ (1, whole (negsuc 0)) ∷ (2, whole (negsuc 1)) ∷ []) ∷ []; objective = (0, whole (negsuc 1)) ∷ (1, whole (negsuc 2)) ∷ (2, whole (negsuc 1)) ∷ []; spans = span (pos 0) (pos 2) ∷ span (negsuc 2) (negsuc 1) ∷ span (pos 1) (pos 5) ∷ [] }
+four = record { names = codes "x" ∷ codes "x" ∷ codes "x" ∷ []; rows = row L (whole (negsuc 1)) ((0, whole (pos 1)) ∷ (1, whole (pos 2)) ∷ (2, whole (pos 1)) ∷ []) ∷ row L (whole (pos 2)) ((0, whole (negsuc 2)) ∷ (1, whole (negsuc 2)) ∷ (2, whole (pos 1)) ∷ []) ∷ row E (whole (negsuc 3)) ((0, whole (pos 3)) ∷ (1, whole (negsuc 0)) ∷ (2, whole (negsuc 1)) ∷ []) ∷ []; objective = (0, whole (negsuc 1)) ∷ (1, whole (negsuc 2)) ∷ (2, whole (negsuc 1)) ∷ []; sense = Minimise; spans = span (pos 0) (pos 2) ∷ span (negsuc 2) (negsuc 1) ∷ span (pos 1) (pos 5) ∷ [] }
 
 four_is : solved four (row G (whole (pos 1)) ((0, whole (negsuc 1)) ∷ (1, whole (pos 2)) ∷ (2, whole (pos 2)) ∷ []) ∷ row G (whole (negsuc 1)) ((0, whole (negsuc 1)) ∷ (1, whole (negsuc 1)) ∷ []) ∷ []) four.spans ≡ no_column ((0, negsuc 2, 5) ∷ (1, negsuc 1, 5) ∷ []) 5
 unfolding gcd gcd_within frac ◌+ℚ◌ ◌*ℚ◌ neg_ℚ inv_ℚ add_fits add_checked mul_fits mul_checked compare
 four_is = refl
 
 abbrev eight : Problem
-eight = record { names = codes "x" ∷ codes "x" ∷ []; rows = row L (whole (pos 5)) ((0, whole (pos 1)) ∷ (1, whole (pos 2)) ∷ []) ∷ row L (whole (pos 6)) ((0, whole (negsuc 0)) ∷ (1, whole (pos 3)) ∷ []) ∷ []; objective = (0, whole (negsuc 0)) ∷ (1, whole (negsuc 1)) ∷ []; spans = span (negsuc 1) (negsuc 0) ∷ span (pos 1) (pos 5) ∷ [] }
+eight = record { names = codes "x" ∷ codes "x" ∷ []; rows = row L (whole (pos 5)) ((0, whole (pos 1)) ∷ (1, whole (pos 2)) ∷ []) ∷ row L (whole (pos 6)) ((0, whole (negsuc 0)) ∷ (1, whole (pos 3)) ∷ []) ∷ []; objective = (0, whole (negsuc 0)) ∷ (1, whole (negsuc 1)) ∷ []; sense = Minimise; spans = span (negsuc 1) (negsuc 0) ∷ span (pos 1) (pos 5) ∷ [] }
 
 eight_is : solved eight (row G (whole (pos 3)) ((0, whole (negsuc 1)) ∷ (1, whole (pos 2)) ∷ []) ∷ row G (whole (pos 3)) ((0, whole (negsuc 1)) ∷ []) ∷ []) eight.spans ≡ done ((negsuc 2, 2) ∷ (pos 3, 2) ∷ []) ((1, negsuc 1, 3) ∷ (7, pos 5, 6) ∷ []) 5
 unfolding gcd gcd_within frac ◌+ℚ◌ ◌*ℚ◌ neg_ℚ inv_ℚ add_fits add_checked mul_fits mul_checked compare

@@ -8,6 +8,7 @@ use Rattle.problem.specs.declared.row.Row.{Row}
 use Rattle.problem.specs.Linear.{Terms, coefficient}
 use Rattle.problem.specs.Rows.{Rows}
 use Rattle.problem.specs.Problem.{Problem}
+use Rattle.problem.specs.Directions.{aim}
 use Rattle.tableau.specs.declared.bounds.Bounds.{Bounds}
 use Rattle.tableau.specs.Elimination.{Coefficients}
 
@@ -64,9 +65,9 @@ numbers_from i (suc k) = i ∷ numbers_from (i + 1) k
 abbrev pub row_numbers : Problem → ℕ → List ℕ
 row_numbers p k = numbers_from 0 (length p.rows) ++ numbers_from (length p.rows + 2 * length p.spans) k
 
--- of a problem and the rows of its first cuts, over a box
+-- of a problem's aim, which is the objective that a search minimises, and its rows and those of its first cuts, over a box
 abbrev pub relaxation : Problem → Rows → List Span → LinearProgram
-relaxation p cuts spans = program_of p.objective (p.rows ++ cuts) (row_numbers p (length cuts)) spans
+relaxation p cuts spans = program_of (aim p) (p.rows ++ cuts) (row_numbers p (length cuts)) spans
 
 -- the same program over another box
 abbrev pub over : LinearProgram → List Span → LinearProgram

@@ -79,13 +79,13 @@ fn column_bounds(alloc: Global, area: &IntBox) -> Result<Vec<Bounds>, AllocError
 }
 
 impl LinearProgram {
-    /// The linear program of a problem's rows over a box of its columns. The one error is want of memory.
+    /// The linear program of a problem's aim and rows over a box of its columns. The one error is want of memory.
     pub fn of(alloc: Global, problem: &Problem, area: &IntBox) -> Result<LinearProgram, AllocError>
         requires { length area.now ≡ length problem.now.spans }
         ensures { IfOk result (λ p. p ≡ relaxation problem.now [] area.now) }
     {
         problem.limits_hold();
-        let mut program = LinearProgram::without_rows(alloc, problem.objective(), area)?;
+        let mut program = LinearProgram::without_rows(alloc, problem.aim(), area)?;
         for i in 0..problem.rows() {
             program.push_row(alloc, problem.row(i), i as u32)?;
         }

@@ -1,6 +1,7 @@
 -- A pool's list of entries: what it was when the list began, and what happened since.
 use Rattle.std.specs.Prelude.{ℕ, Bool, true, false, List, [], ◌∷◌, ◌++◌, map, Option, Some, None}
 use Rattle.problem.specs.Problem.{Problem}
+use Rattle.problem.specs.declared.objective_sense.ObjectiveSense.TheVariants.{Minimise}
 use Rattle.event_core.specs.declared.entry.Entry.{Entry}
 use Rattle.event_core.specs.States.{State, first_state}
 use Rattle.event_core.specs.Histories.{state_from}
@@ -22,7 +23,7 @@ happened es = map Happened es
 
 -- what stands for the opening of a list that has none
 abbrev pub no_problem : Problem
-no_problem = record { names = []; rows = []; objective = []; spans = [] }
+no_problem = record { names = []; rows = []; objective = []; sense = Minimise; spans = [] }
 
 -- stands for the state of a list without an opening
 abbrev pub no_state : Recorded

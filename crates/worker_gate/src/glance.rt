@@ -10,7 +10,7 @@ use problem_box::IntBox;
 pub struct Glance {
     /// The cuts from a number on, in the order in which they were made.
     pub cuts: Vec<Cut>,
-    /// The incumbent's objective, if there is an incumbent.
+    /// The incumbent's aim, if there is an incumbent.
     pub cutoff: Option<Frac>,
     /// The node's box.
     pub area: IntBox,

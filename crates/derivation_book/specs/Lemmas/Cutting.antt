@@ -18,7 +18,7 @@ use Rattle.problem.specs.Linear.{value, coefficient, number_at}
 use Rattle.problem.specs.Lemmas.Linear.{beyond}
 use Rattle.problem.specs.Rows.{Satisfies}
 use Rattle.problem.specs.Problem.{Problem}
-use Rattle.problem.specs.Feasible.{IsFeasible, objective_at}
+use Rattle.problem.specs.Feasible.{IsFeasible}
 use Rattle.problem.specs.Limited.{IsLimited, IsLimitedRow}
 use Rattle.problem.specs.Limits.{largest_cut_coefficient}
 use Rattle.cert_rows.specs.Lines.{CertLine, row_at, no_cert_line}
@@ -39,6 +39,7 @@ use Rattle.derivation_book.specs.Lemmas.Rounded.{IsBelow, terms_below, made_from
 use Rattle.derivation_book.specs.Lemmas.Deciding.{decides-usable}
 use Rattle.derivation_book.specs.Lemmas.Exact.{AreCoefficients, columns_exact, side_exact, nonzero_coefficient, combined_below}
 use Rattle.derivation_book.specs.Lemmas.Bounding.{price_below}
+use Rattle.problem.specs.Directions.{aim_at, aim}
 
 -- ---- a fact of all known rows
 abbrev line_with : Row → CertLine
@@ -170,7 +171,7 @@ rounded_below_value true ts x v h l =
     subst (λ w. whole (ceil v) ≤ℚ w) (sym i.1) (whole-≤ℚ (ceil v) i.0 (ceil_least v i.0 (subst (λ w. v ≤ℚ w) i.1 l)))
 
 pub legal_closes : (p : Problem) (cs : List Cut) → IsLimited p → AreCutsOf p cs → (box : List Span) (cutoff : Option ℚ) (proof : Proof) → length box ≡ length p.spans
-    → IsLegalProof p cs box cutoff proof → (x : List ℤ) → IsFeasible p x → IsInBox box x → (z : ℚ) × (cutoff ≡ Some z) × (z ≤ℚ objective_at p x)
+    → IsLegalProof p cs box cutoff proof → (x : List ℤ) → IsFeasible p x → IsInBox box x → (z : ℚ) × (cutoff ≡ Some z) × (z ≤ℚ aim_at p x)
 legal_closes p cs l a box cutoff (Empty column) e h x f b = absurd (crossed-no_point box column h.span x h.there h.crossed b)
 legal_closes p cs l a box cutoff (Refute mult) e h x f b =
     absurd (not_both h.value (whole (pos 0))
@@ -178,6 +179,6 @@ legal_closes p cs l a box cutoff (Refute mult) e h x f b =
 legal_closes p cs l a box cutoff (Bound mult rounded) e h x f b = (
   h.limit,
   h.limited,
-  ≤ℚ_trans _ _ _ h.reached (rounded_below_value rounded p.objective x h.value h.whole_objective
-      (price_below p cs box p.objective mult h.value x e h.multipliers.combined.signs h.priced b (λ k d i. known_holds p cs x f (cuts_hold p cs l a x f) (slice_index_or mult k d).0))),
+  ≤ℚ_trans _ _ _ h.reached (rounded_below_value rounded (aim p) x h.value h.whole_objective
+      (price_below p cs box (aim p) mult h.value x e h.multipliers.combined.signs h.priced b (λ k d i. known_holds p cs x f (cuts_hold p cs l a x f) (slice_index_or mult k d).0))),
 )

@@ -32,6 +32,7 @@ use Rattle.derivation_book.specs.Rounded.{has_right_sign, is_usable}
 use Rattle.derivation_book.specs.Price.{price}
 use Rattle.derivation_book.specs.Legal.{NamesRowOrCut, AreProofMultipliers, IsRefuting, rounded_if, IsBounding, IsCrossed, IsLegalProof, names_row_or_cut, is_proof_multiplier, is_above_zero, is_refuting, has_whole_objective, may_round, reaches, is_bounding, has_crossed, is_legal_proof}
 use Rattle.fraction.specs.Whole.{IsWhole}
+use Rattle.problem.specs.Directions.{aim}
 
 -- ---- numbers
 decides-int_lt : (a b : ℤ) → Decides (int_lt a b) (a <ℤ b)
@@ -96,7 +97,7 @@ decides-usable ls mult =
 
 -- ---- the objective
 pub decides-whole : (p : Problem) → Decides (has_whole_objective p) (HasWholeObjective p)
-decides-whole p = decides-all (λ (t : ℕ × ℚ). nat_eq t.1.den 1) (λ (t : ℕ × ℚ). IsWhole t.1) (λ t. Decides-eqb t.1.den 1) p.objective
+decides-whole p = decides-all (λ (t : ℕ × ℚ). nat_eq t.1.den 1) (λ (t : ℕ × ℚ). IsWhole t.1) (λ t. Decides-eqb t.1.den 1) (aim p)
 
 pub whole_answer : (p : Problem) (b : Bool) → IsTrue b ↔ HasWholeObjective p → b ≡ has_whole_objective p
 whole_answer p b h = one_answer _ _ h (decides-whole p)
@@ -163,9 +164,9 @@ decides-bounding p cs box cutoff mult rounded =
     Decides-like _
     (λ h. record { multipliers = h.0.0; whole_objective = h.0.1; limit = h.1.0; limited = h.1.1; value = h.1.2.0; priced = h.1.2.1; reached = h.1.2.2 })
     (λ h. ((h.multipliers, h.whole_objective), (h.limit, h.limited, (h.value, h.priced, h.reached))))
-    (Decides-and (list_all (is_proof_multiplier p cs) mult && may_round p rounded) (reaches cutoff rounded (price p cs box p.objective mult))
+    (Decides-and (list_all (is_proof_multiplier p cs) mult && may_round p rounded) (reaches cutoff rounded (price p cs box (aim p) mult))
     (Decides-and (list_all (is_proof_multiplier p cs) mult) (may_round p rounded) (decides-multipliers p cs mult) (decides-round p rounded))
-    (decides-reaches cutoff rounded (price p cs box p.objective mult)))
+    (decides-reaches cutoff rounded (price p cs box (aim p) mult)))
 
 decides-crossed : (box : List Span) (j : ℕ) → Decides (has_crossed (slice_get box j)) (IsCrossed box j)
 decides-crossed box j = step (slice_get box j) refl

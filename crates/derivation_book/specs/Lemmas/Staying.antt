@@ -25,6 +25,7 @@ use Rattle.derivation_book.specs.Legal.{AreProofMultipliers, IsBounding, IsLegal
 use Rattle.derivation_book.specs.Lemmas.Numbering.{in_prefix}
 use Rattle.derivation_book.specs.Lemmas.Deciding.{decides-usable}
 use Rattle.derivation_book.specs.Lemmas.Rounded.{made_from}
+use Rattle.problem.specs.Directions.{aim}
 
 -- ---- combinations of lines that are there
 same_sum : (f g : ℕ → ℚ) (s : ℚ) (mult : List (ℕ × ℚ)) → All (λ m. f m.0 ≡ g m.0) mult → sum_from f s mult ≡ sum_from g s mult
@@ -128,7 +129,7 @@ module _ (p : Problem) (cs more : List Cut) where
         limit = b.0;
         limited = b.1;
         value = h.value;
-        priced = still_priced box p.objective mult h.multipliers.combined ∙ h.priced;
+        priced = still_priced box (aim p) mult h.multipliers.combined ∙ h.priced;
         reached = ≤ℚ_trans _ _ _ b.2 h.reached;
       }
 

@@ -24,6 +24,7 @@ use Rattle.dual_simplex.specs.PointSums.{sums_fit}
 use Rattle.dual_simplex.specs.Answers.{linear_program, pivot_limit, run_of_start, run, answer_or_cramped, answer_at, answer_of_run, answer}
 use Rattle.dual_simplex.specs.Meaning.{IsTableauAt, AreReadOff}
 use Rattle.dual_simplex.specs.Lemmas.TrueAnswers.{variables_are, start_is_tableau}
+use Rattle.problem.specs.Directions.{aim}
 
 module _ (p : Problem) (cs : List Cut) (box : List Span) (x : RationalPoint) (mult : Multipliers) (v : ℚ) where
   -- an answer by multipliers of a row isn't optimal
@@ -41,7 +42,7 @@ module _ (p : Problem) (cs : List Cut) (box : List Span) (x : RationalPoint) (mu
       → IsSomeAnd o (AreReadOff p cs box x mult)
   read_at pivots None q h e f = absurd (let z : ⊥ = cc in z)
   read_at pivots (Some t) Done h e f =
-      let w = at_point pivots (point_of t) (mult_of_cost t) (sums_fit p cs (point_of t)) (price p cs box p.objective (mult_of_cost t)) f in
+      let w = at_point pivots (point_of t) (mult_of_cost t) (sums_fit p cs (point_of t)) (price p cs box (aim p) (mult_of_cost t)) f in
       record { is_tableau = h; is_done = sym e; is_point = w.0; is_mult = w.1 }
   read_at pivots (Some t) (NoColumn r) h e f = absurd (not_by_row pivots (mult_of_row t r) (price p cs box [] (mult_of_row t r)) f)
   read_at pivots (Some t) CrampedRatio h e f = absurd (let z : ⊥ = cc in z)

@@ -46,6 +46,7 @@ use Rattle.dual_simplex.specs.Lemmas.Numbers.{relaxation_rows, row_numbers_name,
 use Rattle.dual_simplex.specs.Lemmas.Prices.{mult_from, balanced_price, balanced_signs}
 use Rattle.dual_simplex.specs.Lemmas.Below.{balanced_below}
 use Rattle.dual_simplex.specs.Lemmas.Optimum.{point_lies, point_satisfies, point_cost}
+use Rattle.problem.specs.Directions.{aim}
 
 -- ---- rows and cuts as one list
 pub all_of_both : {A : Type 0} (P : A → Type 0) (xs ys : List A) → All P (xs ++ ys) → All P xs × All P ys
@@ -77,18 +78,18 @@ module _ (p : Problem) (cs : List Cut) (box : List Span) where
   from_relaxation x h = All-append (SatisfiesRow x) p.rows (map row_of_cut cs) h.rows (All-map (SatisfiesRow x) row_of_cut cs h.cuts)
 
   -- ---- the multipliers
-  module _ (target : Terms) (g u : List ℚ) (b : IsBalanced rows_and_cuts box p.objective target g u) where
+  module _ (target : Terms) (g u : List ℚ) (b : IsBalanced rows_and_cuts box (aim p) target g u) where
     balanced_multipliers : AreProofMultipliers p cs (mult_from (length box) numbers g)
     balanced_multipliers = record {
       names = all_numbered (λ (m : ℕ × ℚ). NamesRowOrCut p m.0) numbers (drop (length box) g) (λ k l. All-get_or (NamesRowOrCut p) numbers k 0 l (row_numbers_name p (length (map row_of_cut cs))));
-      combined = balanced_signs (known_lines p cs) numbers rows_and_cuts box p.objective target g u (relaxation_rows p cs) b;
+      combined = balanced_signs (known_lines p cs) numbers rows_and_cuts box (aim p) target g u (relaxation_rows p cs) b;
     }
 
     -- a price that isn't cramped is the sum of all multipliers times the bounds that they go with
     pub balanced_value : length box ≡ length p.spans → (v : ℚ) → price p cs box target (mult_from (length box) numbers g) ≡ Some v → v ≡ dot_value g u
     balanced_value columns v e =
         price_exact p cs box target (mult_from (length box) numbers g) v columns e
-        ∙ balanced_price (known_lines p cs) numbers rows_and_cuts box p.objective target g u (relaxation_rows p cs) b
+        ∙ balanced_price (known_lines p cs) numbers rows_and_cuts box (aim p) target g u (relaxation_rows p cs) b
 
   rising : (g : List ℚ) → AreRising (mult_from (length box) numbers g)
   rising g = numbered_rise 0 numbers (drop (length box) g) (row_numbers_rise p (length (map row_of_cut cs)))
@@ -98,7 +99,7 @@ module _ (p : Problem) (cs : List Cut) (box : List Span) where
 
   module _ (t : Tableau) (h : IsTableauOf size (linear_program p cs box) t) where
     columns_are : t.columns ≡ length box
-    columns_are = h.columns ∙ length-coefficients 0 (length box) p.objective
+    columns_are = h.columns ∙ length-coefficients 0 (length box) (aim p)
 
     pub cost_multipliers : mult_of_cost t ≡ mult_from (length box) numbers t.reduced_costs
     cost_multipliers = λ i. numbered (h.numbers i) (drop (columns_are i) t.reduced_costs)
@@ -106,14 +107,14 @@ module _ (p : Problem) (cs : List Cut) (box : List Span) where
     pub point_is : point_of t ≡ take (length box) t.values
     point_is = ap (λ n. take n t.values) columns_are
 
-    pub costs_balanced : IsBalanced rows_and_cuts box p.objective p.objective t.reduced_costs t.nonbasic_values
-    costs_balanced = costs_balance p.objective rows_and_cuts numbers box t h
+    pub costs_balanced : IsBalanced rows_and_cuts box (aim p) (aim p) t.reduced_costs t.nonbasic_values
+    costs_balanced = costs_balance (aim p) rows_and_cuts numbers box t h
 
     -- the multipliers of the reduced costs name rows and cuts, and have right signs
     pub cost_multipliers_usable : AreRising (mult_of_cost t) × AreNonzero (mult_of_cost t) × AreProofMultipliers p cs (mult_of_cost t)
     cost_multipliers_usable =
         subst (λ mult. AreRising mult × AreNonzero mult × AreProofMultipliers p cs mult) (sym cost_multipliers)
-        (rising t.reduced_costs, nonzero t.reduced_costs, balanced_multipliers p.objective t.reduced_costs t.nonbasic_values costs_balanced)
+        (rising t.reduced_costs, nonzero t.reduced_costs, balanced_multipliers (aim p) t.reduced_costs t.nonbasic_values costs_balanced)
 
     -- ---- infeasible
     module _ (r : ℕ) (k : IsNoColumn size t r) where
@@ -124,8 +125,8 @@ module _ (p : Problem) (cs : List Cut) (box : List Span) where
       row_multipliers_are =
           λ i. numbered (h.numbers i) (drop (columns_are i) (row_multipliers ((violated (bounds_of t r) (value_of t r) k.direction k.leaving.is_violated).is_direction i) r (row_of t r)))
 
-      pub row_balanced : IsBalanced rows_and_cuts box p.objective [] g (refuting_bounds t r k.direction)
-      row_balanced = row_balances p.objective rows_and_cuts numbers box t r h k
+      pub row_balanced : IsBalanced rows_and_cuts box (aim p) [] g (refuting_bounds t r k.direction)
+      row_balanced = row_balances (aim p) rows_and_cuts numbers box t r h k
 
       -- so do those of a row that no column can help
       pub row_multipliers_usable : AreRising (mult_of_row t r) × AreNonzero (mult_of_row t r) × AreProofMultipliers p cs (mult_of_row t r)
@@ -144,7 +145,7 @@ module _ (p : Problem) (cs : List Cut) (box : List Span) where
           above = subst (λ w. zero_ℚ <ℚ w) (sym (balanced_value [] g (refuting_bounds t r k.direction) row_balanced columns v e)) (row_above size (linear_program p cs box) t r h k);
         };
         empty = λ x q. not_both _ _
-            (balanced_below rows_and_cuts box p.objective [] g (refuting_bounds t r k.direction) x row_balanced q.in_box (from_relaxation x q))
+            (balanced_below rows_and_cuts box (aim p) [] g (refuting_bounds t r k.direction) x row_balanced q.in_box (from_relaxation x q))
             (row_above size (linear_program p cs box) t r h k);
       }
 
@@ -154,36 +155,36 @@ module _ (p : Problem) (cs : List Cut) (box : List Span) where
 
     -- ---- optimal
     module _ (columns : length box ≡ length p.spans) (done : NoneLeaves size t) (nonempty : All (λ (s : Span). s.lo ≤ℤ s.hi) box) where
-      value_is : (v : ℚ) → price p cs box p.objective (mult_from (length box) numbers t.reduced_costs) ≡ Some v → v ≡ dot_value t.reduced_costs t.nonbasic_values
-      value_is v e = balanced_value p.objective t.reduced_costs t.nonbasic_values costs_balanced columns v e
+      value_is : (v : ℚ) → price p cs box (aim p) (mult_from (length box) numbers t.reduced_costs) ≡ Some v → v ≡ dot_value t.reduced_costs t.nonbasic_values
+      value_is v e = balanced_value (aim p) t.reduced_costs t.nonbasic_values costs_balanced columns v e
 
       in_relaxation : IsInRelaxation p cs box (take (length box) t.values)
       in_relaxation =
-          let s = all_of_both (SatisfiesRow (take (length box) t.values)) p.rows (map row_of_cut cs) (point_satisfies p.objective rows_and_cuts numbers box t h done) in record {
-            in_box = point_lies p.objective rows_and_cuts numbers box t h done nonempty;
+          let s = all_of_both (SatisfiesRow (take (length box) t.values)) p.rows (map row_of_cut cs) (point_satisfies (aim p) rows_and_cuts numbers box t h done) in record {
+            in_box = point_lies (aim p) rows_and_cuts numbers box t h done nonempty;
             rows = s.0;
             cuts = all_of_map (SatisfiesRow (take (length box) t.values)) row_of_cut cs s.1;
           }
 
-      optimal_from : (v : ℚ) → price p cs box p.objective (mult_from (length box) numbers t.reduced_costs) ≡ Some v → sums_fit p cs (take (length box) t.values) ≡ true
+      optimal_from : (v : ℚ) → price p cs box (aim p) (mult_from (length box) numbers t.reduced_costs) ≡ Some v → sums_fit p cs (take (length box) t.values) ≡ true
           → IsOptimal p cs box (take (length box) t.values) (mult_from (length box) numbers t.reduced_costs) v
       optimal_from v e f = record {
         point = in_relaxation;
         sums = f;
         rising = rising t.reduced_costs;
         nonzero = nonzero t.reduced_costs;
-        multipliers = balanced_multipliers p.objective t.reduced_costs t.nonbasic_values costs_balanced;
+        multipliers = balanced_multipliers (aim p) t.reduced_costs t.nonbasic_values costs_balanced;
         priced = e;
-        objective = value_is v e ∙ sym (point_cost p.objective rows_and_cuts numbers box t h);
+        objective = value_is v e ∙ sym (point_cost (aim p) rows_and_cuts numbers box t h);
         least = λ y q. along _ _ _ _ (sym (value_is v e)) refl
-            (balanced_below rows_and_cuts box p.objective p.objective t.reduced_costs t.nonbasic_values y costs_balanced q.in_box (from_relaxation y q));
+            (balanced_below rows_and_cuts box (aim p) (aim p) t.reduced_costs t.nonbasic_values y costs_balanced q.in_box (from_relaxation y q));
       }
 
-      pub point_is_optimal : (v : ℚ) → price p cs box p.objective (mult_of_cost t) ≡ Some v → sums_fit p cs (point_of t) ≡ true → IsOptimal p cs box (point_of t) (mult_of_cost t) v
+      pub point_is_optimal : (v : ℚ) → price p cs box (aim p) (mult_of_cost t) ≡ Some v → sums_fit p cs (point_of t) ≡ true → IsOptimal p cs box (point_of t) (mult_of_cost t) v
       point_is_optimal v e f =
           subst (λ x. IsOptimal p cs box x (mult_of_cost t) v) (sym point_is)
           (subst (λ mult. IsOptimal p cs box (take (length box) t.values) mult v) (sym cost_multipliers)
-          (optimal_from v (ap (price p cs box p.objective) (sym cost_multipliers) ∙ e) (ap (sums_fit p cs) (sym point_is) ∙ f)))
+          (optimal_from v (ap (price p cs box (aim p)) (sym cost_multipliers) ∙ e) (ap (sums_fit p cs) (sym point_is) ∙ f)))
 
   -- ---- all answers
   infeasible_holds : (mult : Multipliers) (pivots : ℕ) → ((v : ℚ) → price p cs box [] mult ≡ Some v → IsInfeasible p cs box mult) → AnswerHolds p cs box (answer_or_cramped pivots (infeasible_answer p cs box mult))
@@ -193,18 +194,18 @@ module _ (p : Problem) (cs : List Cut) (box : List Span) where
       at None e = tt
       at (Some v) e = h v e
 
-  optimal_holds : (x : RationalPoint) (mult : Multipliers) (pivots : ℕ) → ((v : ℚ) → price p cs box p.objective mult ≡ Some v → sums_fit p cs x ≡ true → IsOptimal p cs box x mult v)
+  optimal_holds : (x : RationalPoint) (mult : Multipliers) (pivots : ℕ) → ((v : ℚ) → price p cs box (aim p) mult ≡ Some v → sums_fit p cs x ≡ true → IsOptimal p cs box x mult v)
       → AnswerHolds p cs box (answer_or_cramped pivots (optimal_answer p cs box x mult))
-  optimal_holds x mult pivots h = at (sums_fit p cs x) refl (price p cs box p.objective mult) refl
+  optimal_holds x mult pivots h = at (sums_fit p cs x) refl (price p cs box (aim p) mult) refl
     where
-      at : (f : Bool) → sums_fit p cs x ≡ f → (o : Option ℚ) → price p cs box p.objective mult ≡ o
+      at : (f : Bool) → sums_fit p cs x ≡ f → (o : Option ℚ) → price p cs box (aim p) mult ≡ o
           → AnswerHolds p cs box (answer_or_cramped pivots (cond f (option_map (λ v. Optimal x mult v) o) None))
       at false f o e = tt
       at true f None e = tt
       at true f (Some v) e = h v e f
 
   pub variables_are : variables (linear_program p cs box) ≡ size
-  variables_are = λ i. length-coefficients 0 (length box) p.objective i + length-map rows_and_cuts (λ (r : Row). coefficients_from 0 (length box) r.terms) i
+  variables_are = λ i. length-coefficients 0 (length box) (aim p) i + length-map rows_and_cuts (λ (r : Row). coefficients_from 0 (length box) r.terms) i
 
   pub start_is_tableau : (t : Tableau) → started (linear_program p cs box) ≡ Some t → IsTableauOf size (linear_program p cs box) t
   start_is_tableau t e = subst (λ n. IsTableauOf n (linear_program p cs box) t) variables_are (started_keeps (linear_program p cs box) t (relaxation_is_well_formed p (map row_of_cut cs) box) e)

@@ -3,7 +3,6 @@ use Rattle.std.specs.Prelude.{◌≡◌, ◌<◌, ℕ, ℤ, Bool, true, false, n
 use Rattle.std.proofs.lemmas.Bool.{ltb-true}
 use Rattle.fraction.specs.Rational.{ℚ}
 use Rattle.problem.specs.declared.row.Row.{Row}
-use Rattle.problem.specs.Feasible.{objective_at}
 use Rattle.problem.specs.Limits.{most_cuts}
 use Rattle.node_events.specs.declared.proof.Proof.{Proof}
 use Rattle.node_events.specs.declared.reason.Reason.{Reason}
@@ -17,6 +16,7 @@ use Rattle.event_core.specs.Holds.{is_held, is_busy, is_yours}
 use Rattle.event_core.specs.Feasibility.{is_feasible}
 use Rattle.event_core.specs.Splits.{has_both, is_reason}
 use Rattle.event_core.specs.Judging.{checked, has_row, judged_claim, judged_release, judged_cut, judged_offer, judged_split, judged_close}
+use Rattle.problem.specs.Directions.{aim_at}
 
 -- the test holds, and the rest passes too
 pub record Passes (b : Bool) (next : Admit) : Type 0 where
@@ -70,12 +70,12 @@ cut_passed s mult e =
 
 pub record IsPassedOffer (s : State) (x : List ℤ) : Type 0 where
   pub feasible : is_feasible s.problem x ≡ true
-  pub better : is_better s.incumbent (objective_at s.problem x) ≡ true
+  pub better : is_better s.incumbent (aim_at s.problem x) ≡ true
 
 pub offer_passed : (s : State) (x : List ℤ) → judged_offer s x ≡ Yes → IsPassedOffer s x
 offer_passed s x e =
     let a = passes (is_feasible s.problem x) BadPoint _ (λ q. cc) e in
-    let b = passes (is_better s.incumbent (objective_at s.problem x)) NotBetter Yes (λ q. cc) a.rest in
+    let b = passes (is_better s.incumbent (aim_at s.problem x)) NotBetter Yes (λ q. cc) a.rest in
     record { feasible = a.holds; better = b.holds }
 
 pub record IsPassedSplit (s : State) (w : Option ℕ) (i j : ℕ) (b : ℤ) (r : Reason) : Type 0 where

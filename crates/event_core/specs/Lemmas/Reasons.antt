@@ -39,6 +39,7 @@ use Rattle.event_core.specs.Relaxed.{lies_in, lies_in_box, sum_stands, satisfies
 use Rattle.event_core.specs.Splits.{cuts_of, IsFractional, IsMiddle, IsGiven, IsReason, is_between, is_fractional, is_first_free, is_half, is_middle, is_cramped, is_stalled, is_given, is_reason}
 use Rattle.event_core.specs.Lemmas.Points.{stands_tells}
 use Rattle.event_core.specs.Lemmas.Boxes.{first_at, free_at}
+use Rattle.problem.specs.Directions.{aim}
 
 -- ---- the box
 pub decides-nonempty : (box : List Span) → Decides (list_all (λ (s : Span). int_le s.lo s.hi) box) (All (λ (s : Span). s.lo ≤ℤ s.hi) box)
@@ -126,11 +127,11 @@ decides-below p (Some z) v =
     Decides-like _ (λ n w e. subst (λ y. b <ℚ y) (same_Some z w e) (elim (either_order z b) [ inl l ↦ absurd (n l) | inr l ↦ l ])) (λ h l. not_both z b l (h z refl))
     (Decides-not (is_le (compare z b)) (decides-at_most z b))
 
-decides-objective : (p : Problem) (cutoff : Option ℚ) (x : RationalPoint) (o : Option ℚ) → checked_sum p.objective x ≡ o
-    → Decides (is_below_cutoff p cutoff o) ((is_some o ≡ true) × ForSome cutoff (λ z. rounded_if (has_whole_objective p) (rational_value p.objective x) <ℚ z))
+decides-objective : (p : Problem) (cutoff : Option ℚ) (x : RationalPoint) (o : Option ℚ) → checked_sum (aim p) x ≡ o
+    → Decides (is_below_cutoff p cutoff o) ((is_some o ≡ true) × ForSome cutoff (λ z. rounded_if (has_whole_objective p) (rational_value (aim p) x) <ℚ z))
 decides-objective p cutoff x None e = never (λ h. absurd (false≢true h.0))
 decides-objective p cutoff x (Some v) e =
-    let exact : v ≡ rational_value p.objective x = sum_exact p.objective x v e in
+    let exact : v ≡ rational_value (aim p) x = sum_exact (aim p) x v e in
     let P : ℚ → Type 0 = λ w. ForSome cutoff (λ z. rounded_if (has_whole_objective p) w <ℚ z) in
     Decides-like _ (λ h. (refl, subst P exact h)) (λ h. subst P (sym exact) h.1) (decides-below p cutoff v)
 
@@ -140,14 +141,14 @@ decides-some o = (λ e. e, λ e. e)
 
 abbrev AreThere : Problem → List Cut → RationalPoint → Type 0
 AreThere p cs x =
-    ((is_some (checked_sum p.objective x) ≡ true) × All (λ (r : Row). is_some (checked_sum r.terms x) ≡ true) p.rows) × All (λ (c : Cut). is_some (checked_sum c.row.terms x) ≡ true) cs
+    ((is_some (checked_sum (aim p) x) ≡ true) × All (λ (r : Row). is_some (checked_sum r.terms x) ≡ true) p.rows) × All (λ (c : Cut). is_some (checked_sum c.row.terms x) ≡ true) cs
 
 decides-sums : (p : Problem) (cs : List Cut) (x : RationalPoint) → Decides (sums_fit p cs x) (AreThere p cs x)
 decides-sums p cs x =
     let rows = decides-all (λ (r : Row). is_some (checked_sum r.terms x)) (λ (r : Row). is_some (checked_sum r.terms x) ≡ true) (λ r. decides-some (checked_sum r.terms x)) p.rows in
     let cuts = decides-all (λ (c : Cut). is_some (checked_sum c.row.terms x)) (λ (c : Cut). is_some (checked_sum c.row.terms x) ≡ true) (λ c. decides-some (checked_sum c.row.terms x)) cs in
-    Decides-and (is_some (checked_sum p.objective x) && list_all (λ (r : Row). is_some (checked_sum r.terms x)) p.rows) (list_all (λ (c : Cut). is_some (checked_sum c.row.terms x)) cs)
-    (Decides-and (is_some (checked_sum p.objective x)) (list_all (λ (r : Row). is_some (checked_sum r.terms x)) p.rows) (decides-some (checked_sum p.objective x)) rows) cuts
+    Decides-and (is_some (checked_sum (aim p) x) && list_all (λ (r : Row). is_some (checked_sum r.terms x)) p.rows) (list_all (λ (c : Cut). is_some (checked_sum c.row.terms x)) cs)
+    (Decides-and (is_some (checked_sum (aim p) x)) (list_all (λ (r : Row). is_some (checked_sum r.terms x)) p.rows) (decides-some (checked_sum (aim p) x)) rows) cuts
 
 -- ---- fractional points
 decides-between : (x : ℚ) (b : ℤ) → Decides (is_between x b) ((IsWhole x → ⊥) × (floor x ≡ b))
@@ -156,15 +157,15 @@ decides-between x b = Decides-and (not (nat_eq x.den 1)) (int_eq (floor x) b) (D
 abbrev AreTests : Problem → List Cut → List Span → Option ℚ → ℕ → ℤ → RationalPoint → Type 0
 AreTests p cs box cutoff j b x =
     (((IsWhole (rational_at x j) → ⊥) × (floor (rational_at x j) ≡ b)) × AreMet p cs box x)
-    × ((is_some (checked_sum p.objective x) ≡ true) × ForSome cutoff (λ z. rounded_if (has_whole_objective p) (rational_value p.objective x) <ℚ z))
+    × ((is_some (checked_sum (aim p) x) ≡ true) × ForSome cutoff (λ z. rounded_if (has_whole_objective p) (rational_value (aim p) x) <ℚ z))
 
 pub decides-fractional : (p : Problem) (cs : List Cut) (box : List Span) (cutoff : Option ℚ) (j : ℕ) (b : ℤ) (x : RationalPoint)
     → Decides (is_fractional p cs box cutoff j b x) (IsFractional p cs box cutoff j b x)
 decides-fractional p cs box cutoff j b x =
     Decides-like _ forth back
-    (Decides-and (is_between (rational_at x j) b && is_relaxed p cs box x) (is_below_cutoff p cutoff (checked_sum p.objective x))
+    (Decides-and (is_between (rational_at x j) b && is_relaxed p cs box x) (is_below_cutoff p cutoff (checked_sum (aim p) x))
     (Decides-and (is_between (rational_at x j) b) (is_relaxed p cs box x) (decides-between (rational_at x j) b) (decides-relaxed p cs box x))
-    (decides-objective p cutoff x (checked_sum p.objective x) refl))
+    (decides-objective p cutoff x (checked_sum (aim p) x) refl))
   where
     forth : AreTests p cs box cutoff j b x → IsFractional p cs box cutoff j b x
     forth h = record {

@@ -10,7 +10,6 @@ use Rattle.fraction.specs.Rational.{ℚ}
 use Rattle.fraction.specs.Lemmas.Order.{less_at_most}
 use Rattle.problem.specs.declared.row.Row.{Row}
 use Rattle.problem.specs.Problem.{Problem}
-use Rattle.problem.specs.Feasible.{objective_at}
 use Rattle.problem.specs.Limits.{most_cuts}
 use Rattle.node_tree.specs.Nodes.{node_at}
 use Rattle.node_tree.specs.Paths.{path_at}
@@ -40,6 +39,7 @@ use Rattle.event_core.specs.Lemmas.Holds.{All-without_hold, AreApart-without_hol
 use Rattle.event_core.specs.Lemmas.Ended.{AreLeaves, leaves-length, leaf_at, leaves-ended, leaves-parted, leaves-two, left_within, left_kept, left_prefix, is_left}
 use Rattle.event_core.specs.Lemmas.Points.{Decides-feasible}
 use Rattle.event_core.specs.Lemmas.Boxes.{both_within, both_tells}
+use Rattle.problem.specs.Directions.{aim_at}
 
 -- ---- points
 pub improvement : (p : Problem) (i : Option Best) (s : State) (x : List ℤ) → s.problem ≡ p → s.incumbent ≡ i → IsImprovement p i x → IsIncumbentOf p (offered p x)
@@ -137,7 +137,7 @@ kept_cut s mult (Some r) e f k = record {
 pub is_improvement : (s : State) (w : Option ℕ) (x : List ℤ) → IsLegal s w (Offer x) → IsImprovement s.problem s.incumbent x
 is_improvement s w x l =
     let p = offer_passed s x l.admitted in
-    record { feasible = (Decides-feasible s.problem x).0 p.feasible; better = (Decides-better s.incumbent (objective_at s.problem x)).0 p.better }
+    record { feasible = (Decides-feasible s.problem x).0 p.feasible; better = (Decides-better s.incumbent (aim_at s.problem x)).0 p.better }
 
 split_tree : (s : State) (w : Option ℕ) (i j : ℕ) (b : ℤ) (r : Reason) → IsKept s → IsLegal s w (Split i j b r) → IsTree (with_split (tree_of s) i j b)
 split_tree s w i j b r k l =

@@ -9,7 +9,7 @@ use Rattle.std.proofs.lemmas.List.Elements.{All-nil, All-cons, All-head, All-tai
 use Rattle.problem_box.specs.declared.span.Span.{Span}
 use Rattle.problem.specs.declared.row.Row.{Row}
 use Rattle.problem.specs.Linear.{Point, Multipliers}
-use Rattle.problem.specs.Feasible.{IsFeasible, objective_at}
+use Rattle.problem.specs.Feasible.{IsFeasible}
 use Rattle.problem.specs.Limits.{most_cuts}
 use Rattle.node_events.specs.declared.proof.Proof.{Proof}
 use Rattle.node_events.specs.declared.reason.Reason.{Reason}
@@ -37,12 +37,13 @@ use Rattle.expand.specs.declared.settlement.Settlement.TheVariants.{Separated, C
 use Rattle.expand.specs.Findings.{HasRow}
 use Rattle.expand.specs.Settlements.{events_of, AreNewCuts, IsSettlement}
 use Rattle.expand.specs.Laws.{entries_of, FitOnePayload}
+use Rattle.problem.specs.Directions.{aim_at}
 
 -- ---- one event
-offer_legal : (s : State) (w : ℕ) (x : Point) → IsFeasible s.problem x → IsBetter s.incumbent (objective_at s.problem x) → IsLegal s (Some w) (Offer x)
+offer_legal : (s : State) (w : ℕ) (x : Point) → IsFeasible s.problem x → IsBetter s.incumbent (aim_at s.problem x) → IsLegal s (Some w) (Offer x)
 offer_legal s w x feasible better = record {
   admitted = passing (is_feasible s.problem x) BadPoint _ ((Decides-feasible s.problem x).1 feasible)
-      (passing (is_better s.incumbent (objective_at s.problem x)) NotBetter Yes ((Decides-better s.incumbent (objective_at s.problem x)).1 better) refl);
+      (passing (is_better s.incumbent (aim_at s.problem x)) NotBetter Yes ((Decides-better s.incumbent (aim_at s.problem x)).1 better) refl);
   stands = tt;
 }
 

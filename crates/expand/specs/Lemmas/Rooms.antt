@@ -19,7 +19,6 @@ use Rattle.dual_simplex.specs.declared.answer.Answer.TheVariants.{Infeasible, Op
 use Rattle.dual_simplex.specs.Relaxation.{RationalPoint}
 use Rattle.dual_simplex.specs.Answers.{linear_program, run, answer}
 use Rattle.incumbent.specs.Offers.{is_better}
-use Rattle.problem.specs.Feasible.{objective_at}
 use Rattle.event_core.specs.States.{State, cutoff}
 use Rattle.expand.specs.declared.finding.Finding.{Finding}
 use Rattle.expand.specs.declared.finding.Finding.TheVariants.{Cuts, Shut, Whole, Solved, Loose}
@@ -28,6 +27,7 @@ use Rattle.expand.specs.declared.settlement.Settlement.{Settlement}
 use Rattle.expand.specs.declared.settlement.Settlement.TheVariants.{Separated, Closed, Improved}
 use Rattle.expand.specs.Expansion.{is_rounded, is_separated, separation_by, cuts_found, IsOptimum, IsOfOptimum, IsOfAnswer, IsOfVerdict, IsExpansion}
 use Rattle.expand.specs.Settling.{improved_or_closed, closed_or_branched, bound_of, branching_at, floors, settled_optimum, settled}
+use Rattle.problem.specs.Directions.{aim_at, aim}
 
 -- ---- findings
 -- a finding is no cuts
@@ -68,7 +68,7 @@ IsNotSeparated g = (mults : List Multipliers) → g ≡ Separated mults → ⊥
 
 module _ (s : State) (box : List Span) (limit : ℕ) where
   point_not_separated : (x : Point) (proof : Proof) → IsNotSeparated (improved_or_closed s x proof)
-  point_not_separated x proof = step (is_better s.incumbent (objective_at s.problem x))
+  point_not_separated x proof = step (is_better s.incumbent (aim_at s.problem x))
     where
       step : (b : Bool) → IsNotSeparated (cond b (Improved x proof) (Closed proof))
       step true mults e = cc
@@ -88,4 +88,4 @@ module _ (s : State) (box : List Span) (limit : ℕ) where
   without_cuts (Whole x) n = point_not_separated x (Bound [] false)
   without_cuts (Solved k x mult v column) n = optimum_not_separated k x mult v column
   without_cuts (Loose reason j b) n =
-      split_not_separated (reaches (cutoff s) false (Some (low_of box s.problem.objective))) (Bound [] false) (record { place = record { column = j; bound = b }; reason = reason; value = None })
+      split_not_separated (reaches (cutoff s) false (Some (low_of box (aim s.problem)))) (Bound [] false) (record { place = record { column = j; bound = b }; reason = reason; value = None })

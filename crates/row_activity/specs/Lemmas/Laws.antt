@@ -27,13 +27,14 @@ use Rattle.problem.specs.declared.row.Row.{Row}
 use Rattle.problem.specs.Problem.{Problem}
 use Rattle.problem.specs.Linear.{value}
 use Rattle.problem.specs.Rows.{Compares, Satisfies}
-use Rattle.problem.specs.Feasible.{IsFeasible, objective_at}
+use Rattle.problem.specs.Feasible.{IsFeasible}
 use Rattle.row_activity.specs.declared.verdict.Sign.{Sign}
 use Rattle.row_activity.specs.declared.verdict.Sign.TheVariants.{Plus, Minus}
 use Rattle.row_activity.specs.Activity.{span_at, low_end, high_end, low_of, high_of, IsNonempty}
 use Rattle.row_activity.specs.Lemmas.Extremes.{low_of-≤ℚ, ≤ℚ-high_of}
 use Rattle.row_activity.specs.Verdicts.{is_less, sign_of, refuting_sign, refuted_from, first_empty, reaches, is_fixed, first_of_all, verdict}
 use Rattle.row_activity.specs.Meaning.{HasNoPoint, IsMissed, IsRefuted, IsPriced, IsOnePoint, IsOpen, Tells}
+use Rattle.problem.specs.Directions.{aim_at, aim}
 
 -- ---- comparisons
 
@@ -141,15 +142,15 @@ refuted_tells p ss q e =
     record { row = h.2.0; there = ap (slice_get p.rows) (let k : q.0 ≡ h.0 = omega (arith, h.1) in k) ∙ h.2.1; missed = m; never = never_satisfied ss h.2.0 q.1 m }
 
 -- ---- the objective
-priced_tells : (p : Problem) (ss : List Span) (c : Option ℚ) → reaches (low_of ss p.objective) c ≡ true → IsPriced p ss c
+priced_tells : (p : Problem) (ss : List Span) (c : Option ℚ) → reaches (low_of ss (aim p)) c ≡ true → IsPriced p ss c
 priced_tells p ss None e = absurd (false≢true e)
-priced_tells p ss (Some z) e = step (is_less (low_of ss p.objective) z) refl e
+priced_tells p ss (Some z) e = step (is_less (low_of ss (aim p)) z) refl e
   where
-    step : (b : Bool) → is_less (low_of ss p.objective) z ≡ b → not b ≡ true → IsPriced p ss (Some z)
+    step : (b : Bool) → is_less (low_of ss (aim p)) z ≡ b → not b ≡ true → IsPriced p ss (Some z)
     step true f g = absurd (false≢true g)
     step false f g =
-        let l = not_less_tells (low_of ss p.objective) z f in
-        record { bound = z; given = refl; reached = l; least = λ x b. ≤ℚ_trans z (low_of ss p.objective) (objective_at p x) l (low_of-≤ℚ ss p.objective x b) }
+        let l = not_less_tells (low_of ss (aim p)) z f in
+        record { bound = z; given = refl; reached = l; least = λ x b. ≤ℚ_trans z (low_of ss (aim p)) (aim_at p x) l (low_of-≤ℚ ss (aim p) x b) }
 
 below_cutoff : (v : ℚ) (c : Option ℚ) → reaches v c ≡ false → ForSome c (λ z. v <ℚ z)
 below_cutoff v None e = λ z g. cc
@@ -220,7 +221,7 @@ satisfied ss r x h b e =
     (λ n. subst (λ v. r.rhs ≤ℚ v) high (not_less_tells _ _ (t.0 n)))
     (λ n. subst (λ v. v ≤ℚ r.rhs) low (not_less_tells _ _ (t.1 n)))
 
-point_tells : (p : Problem) (ss : List Span) (c : Option ℚ) → refuted_from 0 ss p.rows ≡ None → reaches (low_of ss p.objective) c ≡ false → is_fixed ss ≡ true → IsOnePoint p ss c
+point_tells : (p : Problem) (ss : List Span) (c : Option ℚ) → refuted_from 0 ss p.rows ≡ None → reaches (low_of ss (aim p)) c ≡ false → is_fixed ss ≡ true → IsOnePoint p ss c
 point_tells p ss c e f g =
     let h : IsFixed ss = (Decides-is_fixed ss).0 g in
     let b = lows_inside ss h in
@@ -231,7 +232,7 @@ point_tells p ss c e f g =
       inside = b;
       only = lows_only ss h;
       rows = λ i d l. satisfied ss _ (lows ss) h b (clear i d l);
-      below = subst (λ v. ForSome c (λ z. v <ℚ z)) (sym (value-fixed ss p.objective (lows ss) h b)) (below_cutoff (low_of ss p.objective) c f);
+      below = subst (λ v. ForSome c (λ z. v <ℚ z)) (sym (value-fixed ss (aim p) (lows ss) h b)) (below_cutoff (low_of ss (aim p)) c f);
     }
 
 open_tells : (ss : List Span) → first_empty ss ≡ None → is_fixed ss ≡ false → IsOpen ss
@@ -239,9 +240,9 @@ open_tells ss e f = record { nonempty = first_empty_tells ss None e; free = λ h
 
 -- ---- the verdict
 pub verdict_tells : (p : Problem) (ss : List Span) (c : Option ℚ) → Tells p ss c (verdict p ss c)
-verdict_tells p ss c = step (first_empty ss) refl (refuted_from 0 ss p.rows) refl (reaches (low_of ss p.objective) c) refl (is_fixed ss) refl
+verdict_tells p ss c = step (first_empty ss) refl (refuted_from 0 ss p.rows) refl (reaches (low_of ss (aim p)) c) refl (is_fixed ss) refl
   where
-    step : (a : Option ℕ) → first_empty ss ≡ a → (b : Option (ℕ × Sign)) → refuted_from 0 ss p.rows ≡ b → (d : Bool) → reaches (low_of ss p.objective) c ≡ d → (f : Bool) → is_fixed ss ≡ f
+    step : (a : Option ℕ) → first_empty ss ≡ a → (b : Option (ℕ × Sign)) → refuted_from 0 ss p.rows ≡ b → (d : Bool) → reaches (low_of ss (aim p)) c ≡ d → (f : Bool) → is_fixed ss ≡ f
         → Tells p ss c (first_of_all a b d f)
     step (Some j) u b v d w f x =
         let h = first_empty_tells ss (Some j) u in

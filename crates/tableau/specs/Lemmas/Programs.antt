@@ -18,6 +18,7 @@ use Rattle.problem.specs.Problem.{Problem}
 use Rattle.tableau.specs.Lemmas.Started.{length-coefficients}
 use Rattle.tableau.specs.LinearProgram.{coefficients_from, span_bounds, row_bounds, program_of, numbers_from, row_numbers, relaxation, over, with_row, with_cut}
 use Rattle.tableau.specs.Multipliers.{numbered}
+use Rattle.problem.specs.Directions.{aim}
 
 -- ---- one element more
 pub next_taken : {A : Type 0} (xs : List A) (i : ℕ) (x : A) → slice_get xs i ≡ Some x → take (i + 1) xs ≡ take i xs ++ (x ∷ [])
@@ -43,7 +44,7 @@ program-over objective rows numbers spans area e = λ i. record {
         ∙ drop-append_seam (map span_bounds spans) (map row_bounds rows)
 
 pub relaxation-over : (p : Problem) (cuts : Rows) (spans area : List Span) → length area ≡ length spans → over (relaxation p cuts spans) area ≡ relaxation p cuts area
-relaxation-over p cuts spans area e = program-over p.objective (p.rows ++ cuts) (row_numbers p (length cuts)) spans area e
+relaxation-over p cuts spans area e = program-over (aim p) (p.rows ++ cuts) (row_numbers p (length cuts)) spans area e
 
 -- ---- one row more
 pub program-with_row : (objective : Terms) (rows : Rows) (numbers : List ℕ) (spans : List Span) (r : Row) (k : ℕ)
@@ -68,10 +69,10 @@ pub relaxation-with_cut : (p : Problem) (cuts : Rows) (spans : List Span) (r : R
     → with_cut (relaxation p cuts spans) r ≡ relaxation p (cuts ++ (r ∷ [])) spans
 relaxation-with_cut p cuts spans r e =
     let size : length (relaxation p cuts spans).rows + 2 * length (relaxation p cuts spans).costs ≡ length p.rows + 2 * length p.spans + length cuts =
-    omega (arith, length-map (p.rows ++ cuts) (λ (r : Row). coefficients_from 0 (length spans) r.terms), length-append p.rows cuts, length-coefficients 0 (length spans) p.objective, e) in
+    omega (arith, length-map (p.rows ++ cuts) (λ (r : Row). coefficients_from 0 (length spans) r.terms), length-append p.rows cuts, length-coefficients 0 (length spans) (aim p), e) in
     ap (with_row (relaxation p cuts spans) r) size
-    ∙ program-with_row p.objective (p.rows ++ cuts) (row_numbers p (length cuts)) spans r (length p.rows + 2 * length p.spans + length cuts)
-    ∙ (λ i. program_of p.objective (append_assoc p.rows cuts (r ∷ []) i) ((append_assoc (numbers_from 0 (length p.rows)) (numbers_from (length p.rows + 2 * length p.spans) (length cuts)) ((length p.rows + 2 * length p.spans + length cuts) ∷ [])
+    ∙ program-with_row (aim p) (p.rows ++ cuts) (row_numbers p (length cuts)) spans r (length p.rows + 2 * length p.spans + length cuts)
+    ∙ (λ i. program_of (aim p) (append_assoc p.rows cuts (r ∷ []) i) ((append_assoc (numbers_from 0 (length p.rows)) (numbers_from (length p.rows + 2 * length p.spans) (length cuts)) ((length p.rows + 2 * length p.spans + length cuts) ∷ [])
     ∙ ap (λ ns. numbers_from 0 (length p.rows) ++ ns) (sym (numbers_more (length p.rows + 2 * length p.spans) (length cuts)) ∙ ap (numbers_from (length p.rows + 2 * length p.spans)) (sym (length-append cuts (r ∷ []))))) i) spans)
 
 -- ---- the numbers of rows rise

@@ -33,6 +33,7 @@ use Rattle.tableau.specs.Start.{padded, slack_basis, start_status, start_value, 
 use Rattle.tableau.specs.declared.bounds.Bounds.{Bounds}
 use Rattle.tableau.specs.declared.status.BasisStatus.{BasisStatus}
 use Rattle.tableau.specs.declared.status.BasisStatus.TheVariants.{AtLower, AtUpper, Basic}
+use Rattle.problem.specs.Directions.{aim}
 
 -- ---- sums that fit
 -- a whole number of size at most b
@@ -204,6 +205,6 @@ cut_small r h = record {
 pub relaxation_starts : (p : Problem) (cuts : Rows) (spans : List Span) → IsLimited p → All IsCutRow cuts → length cuts ≤ most_cuts → length spans ≡ length p.spans → All IsModestSpan spans
     → IsThere (started (relaxation p cuts spans))
 relaxation_starts p cuts spans h c l e m =
-    start_is_there p.objective (p.rows ++ cuts) (row_numbers p (length cuts)) spans (omega (arith, h.few_columns)) (omega (arith, length-append p.rows cuts, h.few_rows)) m
+    start_is_there (aim p) (p.rows ++ cuts) (row_numbers p (length cuts)) spans (omega (arith, h.few_columns)) (omega (arith, length-append p.rows cuts, h.few_rows)) m
     (All-append HasSmallNumbers p.rows cuts (All-weaker (IsLimitedRow (length p.spans)) HasSmallNumbers (λ r q. limited_small (length p.spans) r q) p.rows h.rows)
     (All-weaker IsCutRow HasSmallNumbers cut_small cuts c))

@@ -27,6 +27,7 @@ use Rattle.tableau.specs.Tableau.{HasSize, Tableau, bounds_of, nonbasic_value_of
 use Rattle.tableau.specs.declared.bounds.Bounds.{Bounds}
 use Rattle.tableau.specs.declared.status.BasisStatus.{BasisStatus}
 use Rattle.tableau.specs.declared.status.BasisStatus.TheVariants.{AtLower, AtUpper, Basic}
+use Rattle.problem.specs.Directions.{aim}
 
 -- ---- lists with a second part
 pub left_read : {A : Type 0} (xs ys : List A) (n i : ℕ) (d : A) → length xs ≡ n → i < n → get_or (xs ++ ys) i d ≡ get_or xs i d
@@ -251,4 +252,4 @@ pub length-row_numbers : (p : Problem) (k : ℕ) → length (row_numbers p k) �
 length-row_numbers p k = length_both (numbers_from 0 (length p.rows)) _ _ _ (length-numbers 0 (length p.rows)) (length-numbers _ k)
 
 pub relaxation_is_well_formed : (p : Problem) (cuts : Rows) (spans : List Span) → IsWellFormed (relaxation p cuts spans)
-relaxation_is_well_formed p cuts spans = program_is_well_formed p.objective (p.rows ++ cuts) (row_numbers p (length cuts)) spans (length-row_numbers p (length cuts) ∙ sym (length-append p.rows cuts))
+relaxation_is_well_formed p cuts spans = program_is_well_formed (aim p) (p.rows ++ cuts) (row_numbers p (length cuts)) spans (length-row_numbers p (length cuts) ∙ sym (length-append p.rows cuts))

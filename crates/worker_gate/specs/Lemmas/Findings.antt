@@ -8,7 +8,6 @@ use Rattle.problem_box.specs.declared.span.Span.{Span}
 use Rattle.problem.specs.declared.row.Row.{Row}
 use Rattle.problem.specs.Linear.{Multipliers, Point}
 use Rattle.problem.specs.Problem.{Problem}
-use Rattle.problem.specs.Feasible.{objective_at}
 use Rattle.node_tree.specs.Lemmas.Splitting.{splits_share}
 use Rattle.node_events.specs.declared.event.Event.{Event}
 use Rattle.node_events.specs.declared.event.Event.TheVariants.{Claim, Release, Cut as CutEvent, Offer, Split, Close}
@@ -31,6 +30,7 @@ use Rattle.event_core.specs.Lemmas.Sounding.{IsKept, is_improvement, better_cuto
 use Rattle.expand.specs.declared.finding.Finding.{Finding}
 use Rattle.expand.specs.declared.finding.Finding.TheVariants.{Cuts, Shut, Whole, Solved, Loose}
 use Rattle.expand.specs.Findings.{HasRow, IsOfRun, IsTrueFinding}
+use Rattle.problem.specs.Directions.{aim_at}
 
 -- ---- more cuts, and a smaller cutoff
 module _ (p : Problem) (cs more : List Cut) (box : List Span) (old lower : Option ℚ) (at_most : IsAtMost lower old) where
@@ -71,9 +71,9 @@ found_cut node f s mult (Some r) h = still_found s.problem s.cuts (record { row 
 
 found_offer : (node : ℕ) (f : Finding) (s : State) (o : Option ℕ) (x : Point) → IsLegal s o (Offer x) → HoldsAt node f s → HoldsAt node f (after s o (Offer x))
 found_offer node f s o x l h =
-    let lower = better_cutoff s.incumbent (objective_at s.problem x) (is_improvement s o x l).better in
-    subst (λ (cs : List Cut). IsTrueFinding s.problem cs (box_of s node) (Some (objective_at s.problem x)) f) (append-nil s.cuts)
-    (still_found s.problem s.cuts [] (box_of s node) (cutoff s) (Some (objective_at s.problem x)) lower f h)
+    let lower = better_cutoff s.incumbent (aim_at s.problem x) (is_improvement s o x l).better in
+    subst (λ (cs : List Cut). IsTrueFinding s.problem cs (box_of s node) (Some (aim_at s.problem x)) f) (append-nil s.cuts)
+    (still_found s.problem s.cuts [] (box_of s node) (cutoff s) (Some (aim_at s.problem x)) lower f h)
 
 -- what was found of a node that is there holds after each legal event
 pub found_after : (node : ℕ) (f : Finding) (s : State) (o : Option ℕ) (e : Event) → IsKept s → node < length s.nodes → IsLegal s o e → HoldsAt node f s → HoldsAt node f (after s o e)

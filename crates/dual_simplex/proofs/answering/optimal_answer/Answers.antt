@@ -8,6 +8,7 @@ use Rattle.dual_simplex.specs.declared.answer.Answer.TheVariants.{Optimal}
 use Rattle.dual_simplex.specs.PointSums.{checked_sum, sums_fit}
 use Rattle.dual_simplex.proofs.Ending.{cost_multipliers, cost_price_same, optimal_there, optimal_not_priced}
 use Rattle.dual_simplex.proofs.answering.optimal_answer.Goals as goal
+use Rattle.problem.specs.Directions.{aim}
 
 pub make-mult-requires-clause-rising : goal.make-mult-requires-clause-rising
 make-mult-requires-clause-rising c =
@@ -17,16 +18,16 @@ pub make-mult-requires-clause-nonzero : goal.make-mult-requires-clause-nonzero
 make-mult-requires-clause-nonzero c =
     subst AreNonzero (sym c.in_ok-mult_of_cost.ensures) (cost_multipliers c.args.problem.now c.args.book.now.cuts c.args.cuts c.args.area.now c.args.tableau.now c.requires.tableau).nonzero
 
-pub objective_price-requires-clause-known : goal.objective_price-requires-clause-known
-objective_price-requires-clause-known c =
+pub aim_price-requires-clause-known : goal.aim_price-requires-clause-known
+aim_price-requires-clause-known c =
     subst (All (λ (m : ℕ × ℚ). m.0 < length (known_lines c.args.problem.now c.args.book.now.cuts))) (sym (c.make-mult.ensures ∙ c.in_ok-mult_of_cost.ensures))
     (cost_multipliers c.args.problem.now c.args.book.now.cuts c.args.cuts c.args.area.now c.args.tableau.now c.requires.tableau).known
 
-pub objective_price-requires-clause-there : goal.objective_price-requires-clause-there
-objective_price-requires-clause-there c = λ q.
-    ap (price c.args.problem.now c.args.book.now.cuts c.args.area.now c.args.problem.now.objective) (c.make-mult.ensures ∙ c.in_ok-mult_of_cost.ensures)
-    ∙ cost_price_same c.args.problem.now c.args.book.now.cuts c.args.cuts c.args.area.now c.args.tableau.now c.args.problem.now.objective c.requires.tableau
-    ∙ (c.requires.there q).priced ∙ ap (checked_sum c.args.problem.now.objective) (sym (c.in_ok-point.ensures ∙ c.in_ok-numbers.ensures))
+pub aim_price-requires-clause-there : goal.aim_price-requires-clause-there
+aim_price-requires-clause-there c = λ q.
+    ap (price c.args.problem.now c.args.book.now.cuts c.args.area.now (aim c.args.problem.now)) (c.make-mult.ensures ∙ c.in_ok-mult_of_cost.ensures)
+    ∙ cost_price_same c.args.problem.now c.args.book.now.cuts c.args.cuts c.args.area.now c.args.tableau.now (aim c.args.problem.now) c.requires.tableau
+    ∙ (c.requires.there q).priced ∙ ap (checked_sum (aim c.args.problem.now)) (sym (c.in_ok-point.ensures ∙ c.in_ok-numbers.ensures))
 
 pub are_sums_there-requires-clause-there : goal.are_sums_there-requires-clause-there
 are_sums_there-requires-clause-there c = λ q.
@@ -39,9 +40,9 @@ returns-in-Some c =
     (λ i. Some (Optimal (point i) (mult i) c.in-Some.value))
     ∙ optimal_there c.args.problem.now c.args.book.now.cuts c.args.cuts c.args.area.now c.args.tableau.now c.in-Some.value c.requires.tableau
     (ap (sums_fit c.args.problem.now (take c.args.cuts c.args.book.now.cuts)) (sym point) ∙ sym c.are_sums_there.ensures ∙ c.if-not-are_sums_there.false)
-    (ap (price c.args.problem.now c.args.book.now.cuts c.args.area.now c.args.problem.now.objective) (sym mult) ∙ sym c.in_ok-value.ensures ∙ c.in-Some.is)
+    (ap (price c.args.problem.now c.args.book.now.cuts c.args.area.now (aim c.args.problem.now)) (sym mult) ∙ sym c.in_ok-value.ensures ∙ c.in-Some.is)
 
 pub returns-in-None : goal.returns-in-None
 returns-in-None c =
     optimal_not_priced c.args.problem.now c.args.book.now.cuts c.args.cuts c.args.area.now c.args.tableau.now c.requires.tableau
-    (ap (price c.args.problem.now c.args.book.now.cuts c.args.area.now c.args.problem.now.objective) (sym (c.make-mult.ensures ∙ c.in_ok-mult_of_cost.ensures)) ∙ sym c.in_ok-value.ensures ∙ c.in-None.is)
+    (ap (price c.args.problem.now c.args.book.now.cuts c.args.area.now (aim c.args.problem.now)) (sym (c.make-mult.ensures ∙ c.in_ok-mult_of_cost.ensures)) ∙ sym c.in_ok-value.ensures ∙ c.in-None.is)

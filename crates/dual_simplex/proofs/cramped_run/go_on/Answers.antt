@@ -8,11 +8,12 @@ use Rattle.tableau.specs.Start.{started}
 use Rattle.tableau.specs.Lemmas.Programs.{relaxation-over}
 use Rattle.dual_simplex.proofs.Stopping.{stopped_run}
 use Rattle.dual_simplex.proofs.cramped_run.go_on.Goals as goal
+use Rattle.problem.specs.Directions.{aim}
 
 pub start-requires : goal.start-requires
 start-requires c =
     c.requires.columns
-    ∙ sym (ap (λ (l : LinearProgram). length l.costs) c.requires.program.is_program ∙ length-coefficients 0 (length c.args.problem.now.spans) c.args.problem.now.objective)
+    ∙ sym (ap (λ (l : LinearProgram). length l.costs) c.requires.program.is_program ∙ length-coefficients 0 (length c.args.problem.now.spans) (aim c.args.problem.now))
 
 pub is_cramped_behind-requires-clause-start : goal.is_cramped_behind-requires-clause-start
 is_cramped_behind-requires-clause-start c =

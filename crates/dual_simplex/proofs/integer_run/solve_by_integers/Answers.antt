@@ -7,11 +7,12 @@ use Rattle.tableau.specs.Tableau.{Tableau}
 use Rattle.tableau.specs.Start.{started}
 use Rattle.tableau.specs.Lemmas.Programs.{relaxation-over}
 use Rattle.dual_simplex.proofs.integer_run.solve_by_integers.Goals as goal
+use Rattle.problem.specs.Directions.{aim}
 
 pub start-requires : goal.start-requires
 start-requires c =
     c.requires.columns
-    ∙ sym (ap (λ (l : LinearProgram). length l.costs) c.requires.program.is_program ∙ length-coefficients 0 (length c.args.problem.now.spans) c.args.problem.now.objective)
+    ∙ sym (ap (λ (l : LinearProgram). length l.costs) c.requires.program.is_program ∙ length-coefficients 0 (length c.args.problem.now.spans) (aim c.args.problem.now))
 
 pub run-requires-clause-start : goal.run-requires-clause-start
 run-requires-clause-start c =

@@ -1,5 +1,5 @@
 use Rattle.std.proofs.Common.{arith}
-use Rattle.row_activity.specs.declared.activity.Aim.TheVariants.{Least, Greatest}
+use Rattle.row_activity.specs.declared.activity.Extreme.TheVariants.{Least, Greatest}
 use Rattle.row_activity.proofs.Steps.{no_terms, all_terms, room, one_more}
 use Rattle.row_activity.proofs.activity.range.Goals as goal
 

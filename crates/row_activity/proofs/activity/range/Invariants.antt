@@ -1,4 +1,4 @@
-use Rattle.row_activity.specs.declared.activity.Aim.TheVariants.{Least, Greatest}
+use Rattle.row_activity.specs.declared.activity.Extreme.TheVariants.{Least, Greatest}
 use Rattle.row_activity.proofs.Steps.{IsTotal}
 use Rattle.row_activity.proofs.activity.range.Given as goal
 

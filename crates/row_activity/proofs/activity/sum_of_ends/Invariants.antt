@@ -2,4 +2,4 @@ use Rattle.row_activity.proofs.Steps.{IsTotal}
 use Rattle.row_activity.proofs.activity.sum_of_ends.Given as goal
 
 abbrev pub invariant-loop-term : goal.invariant-loop-term
-invariant-loop-term l = IsTotal l.aim l.area l.terms l.term-items l.term-index l.total
+invariant-loop-term l = IsTotal l.extreme l.area l.terms l.term-items l.term-index l.total

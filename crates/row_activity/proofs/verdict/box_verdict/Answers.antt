@@ -26,7 +26,7 @@ returns-in-Some-first_refuted-clause-meaning c =
 
 pub returns-then-reaches-clause-first : goal.returns-then-reaches-clause-first
 returns-then-reaches-clause-first c =
-    let reached = sym (c.reaches.ensures ∙ ap (λ v. reaches v c.args.cutoff) (c.low.ensures.value ∙ ap (low_of c.args.node.now) c.objective.ensures)) ∙ c.if-reaches.true in
+    let reached = sym (c.reaches.ensures ∙ ap (λ v. reaches v c.args.cutoff) (c.low.ensures.value ∙ ap (low_of c.args.node.now) c.aim.ensures.value)) ∙ c.if-reaches.true in
     settled c.args.problem.now c.args.node.now c.args.cutoff None None true _ (none_empty c.args.node.now c.in_default.ensures.none) (sym c.first_refuted.ensures ∙ c.in_default-first_refuted.is) reached refl
 
 pub returns-then-reaches-clause-meaning : goal.returns-then-reaches-clause-meaning
@@ -35,7 +35,7 @@ returns-then-reaches-clause-meaning c =
 
 pub returns-then-is_fixed-clause-first : goal.returns-then-is_fixed-clause-first
 returns-then-is_fixed-clause-first c =
-    let reached = sym (c.reaches.ensures ∙ ap (λ v. reaches v c.args.cutoff) (c.low.ensures.value ∙ ap (low_of c.args.node.now) c.objective.ensures)) ∙ c.if-reaches.false in
+    let reached = sym (c.reaches.ensures ∙ ap (λ v. reaches v c.args.cutoff) (c.low.ensures.value ∙ ap (low_of c.args.node.now) c.aim.ensures.value)) ∙ c.if-reaches.false in
     let fixed = sym (same_from_decides c.is_fixed.result (is_fixed c.args.node.now) c.is_fixed.ensures (Decides-is_fixed c.args.node.now)) ∙ c.if-is_fixed.true in
     settled c.args.problem.now c.args.node.now c.args.cutoff None None false true (none_empty c.args.node.now c.in_default.ensures.none) (sym c.first_refuted.ensures ∙ c.in_default-first_refuted.is) reached fixed
 
@@ -45,6 +45,6 @@ returns-then-is_fixed-clause-meaning c =
 
 pub returns-else-is_fixed-clause-first : goal.returns-else-is_fixed-clause-first
 returns-else-is_fixed-clause-first c =
-    let reached = sym (c.reaches.ensures ∙ ap (λ v. reaches v c.args.cutoff) (c.low.ensures.value ∙ ap (low_of c.args.node.now) c.objective.ensures)) ∙ c.if-reaches.false in
+    let reached = sym (c.reaches.ensures ∙ ap (λ v. reaches v c.args.cutoff) (c.low.ensures.value ∙ ap (low_of c.args.node.now) c.aim.ensures.value)) ∙ c.if-reaches.false in
     let fixed = sym (same_from_decides c.is_fixed.result (is_fixed c.args.node.now) c.is_fixed.ensures (Decides-is_fixed c.args.node.now)) ∙ c.if-is_fixed.false in
     settled c.args.problem.now c.args.node.now c.args.cutoff None None false false (none_empty c.args.node.now c.in_default.ensures.none) (sym c.first_refuted.ensures ∙ c.in_default-first_refuted.is) reached fixed

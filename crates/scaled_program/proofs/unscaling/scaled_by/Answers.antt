@@ -1,4 +1,4 @@
-use Rattle.std.proofs.Common.{◌≡◌, ◌*◌, ◌<◌, ◌^◌, nat_abs, sym, ◌∙◌, ap, arith, ℤ, pos, ◌*ℤ◌, to_z, of_z}
+use Rattle.std.proofs.Common.{◌≡◌, ◌*◌, ◌<◌, ◌^◌, nat_abs, sym, ◌∙◌, ap, arith, pos, ◌*ℤ◌, to_z, of_z}
 use Rattle.std.specs.Int.{w128}
 use mir.Val.{SFits}
 use Rattle.std.proofs.lemmas.Int.{to_z-of_z, to_z_pos, unsigned_abs-mul}
