@@ -18,6 +18,7 @@ use Rattle.event_core.specs.States.{State, tree_of, box_of, cutoff}
 use Rattle.cert_merge.specs.Endings.{proof_of, proof_at, AreClosings}
 use Rattle.cert_merge.specs.Merged.{closed_line, line_by, for_node, node_of}
 use Rattle.cert_merge.specs.Lemmas.Finished.{IsDone}
+use Rattle.problem.specs.Directions.{aim}
 
 -- ---- legal proofs
 abbrev IsLegalAt : State → ℕ → Proof → Type 0
@@ -36,7 +37,7 @@ refuted_price s i proof mult e h =
     let k = subst (IsLegalAt s i) e h in
     record { box = box_of s i; columns = columns_of s i; value = k.value; priced = k.priced }
 
-pub bounded_price : (s : State) (i : ℕ) (proof : Proof) (mult : List (ℕ × ℚ)) (rounded : Bool) → proof ≡ Bound mult rounded → IsLegalAt s i proof → HasPrice s.problem s.cuts s.problem.objective mult
+pub bounded_price : (s : State) (i : ℕ) (proof : Proof) (mult : List (ℕ × ℚ)) (rounded : Bool) → proof ≡ Bound mult rounded → IsLegalAt s i proof → HasPrice s.problem s.cuts (aim s.problem) mult
 bounded_price s i proof mult rounded e h =
     let k = subst (IsLegalAt s i) e h in
     record { box = box_of s i; columns = columns_of s i; value = k.value; priced = k.priced }

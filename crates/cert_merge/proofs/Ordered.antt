@@ -36,12 +36,14 @@ use Rattle.cert_merge.specs.Numbers.{line_of_bound, sources_of}
 use Rattle.cert_merge.specs.Merged.{cut_lines, assumption_of, assumption_lines, node_multipliers, crossing, closed_line, line_by, node_lines}
 use Rattle.cert_merge.specs.Laws.{AreOrdered, ReasonIsOrdered, ProofIsOrdered, EventIsOrdered, MergedIsOrdered, CutIsOrdered, ClosingIsOrdered}
 use Rattle.cert_merge.specs.Lemmas.Filling.{All-placed, All-all_placed}
+use Rattle.cert_merge.specs.Lemmas.Negated.{ordered_directed}
 use Rattle.cert_merge.specs.Lemmas.Placing.{all_placed_rises}
 use Rattle.cert_merge.specs.Lemmas.BoundLines.{IsBoundLine, is_bound_line, apart, bounds_nonzero, bounds_fresh}
 use Rattle.cert_merge.specs.Lemmas.Finished.{IsDone, done_from}
 use Rattle.event_core.specs.Frames.{closed_by, cut_by, cut_of_row, cuts_of}
 use Rattle.event_core.specs.Lemmas.Frames.{keeps_frame}
 use Rattle.problem.specs.Linear.{Multipliers}
+use Rattle.problem.specs.Directions.{aim}
 
 abbrev IsNonzero : ℕ × ℚ → Type 0
 IsNonzero m = m.1 ≡ whole (pos 0) → ⊥
@@ -77,8 +79,8 @@ module _ (s : State) (tree : IsTree (tree_of s)) (i : ℕ) where
   closed_ordered : (proof : Proof) → IsLegalProof s.problem s.cuts (box_of s i) (cutoff s) proof → ProofIsOrdered proof → ReasonIsOrdered (closed_line s i proof).1
   closed_ordered (Empty j) h o = crossing_ordered j (omega (arith, slice_get_within (box_of s i) j h.span h.there, length-box (path_at (tree_of s) i) 0 s.problem.spans))
   closed_ordered (Refute mult) h o = multipliers_ordered [] mult h.multipliers o
-  closed_ordered (Bound mult true) h o = multipliers_ordered s.problem.objective mult h.multipliers o
-  closed_ordered (Bound mult false) h o = multipliers_ordered s.problem.objective mult h.multipliers o
+  closed_ordered (Bound mult true) h o = ordered_directed s.problem.sense (node_multipliers s i (aim s.problem) mult) (multipliers_ordered (aim s.problem) mult h.multipliers o)
+  closed_ordered (Bound mult false) h o = ordered_directed s.problem.sense (node_multipliers s i (aim s.problem) mult) (multipliers_ordered (aim s.problem) mult h.multipliers o)
 
 -- ---- the proof of a node
 closing_ordered : (e : Event) (i : ℕ) (proof : Proof) → EventIsOrdered e → closing e i ≡ Some proof → ProofIsOrdered proof

@@ -22,6 +22,7 @@ use Rattle.derivation_book.specs.declared.cut.Cut.{Cut}
 use Rattle.event_core.specs.declared.entry.Entry.{Entry}
 use Rattle.event_core.specs.Histories.{state_of}
 use Rattle.cert_merge.specs.Merged.{certificate_of, merged}
+use Rattle.problem.specs.declared.objective_sense.ObjectiveSense.TheVariants.{Minimise, Maximise}
 
 abbrev n : ℕ → ℚ
 n k = whole (pos k)
@@ -47,7 +48,10 @@ y = (1, n 1) ∷ []
 
 -- one column, and a row for each multiple of it that is given
 abbrev one : List (ℕ × ℚ) → List Row → ℤ → ℤ → Problem
-one objective rows lo hi = record { names = codes "x" ∷ []; rows = rows; objective = objective; spans = span lo hi ∷ [] }
+one objective rows lo hi = record { names = codes "x" ∷ []; rows = rows; objective = objective; sense = Minimise; spans = span lo hi ∷ [] }
+
+abbrev maximised : Problem → Problem
+maximised p = record p { sense = Maximise }
 
 -- events without a worker
 abbrev events : List Event → List Entry
@@ -67,6 +71,7 @@ table1 : merged (one ((0, n 3) ∷ []) (bare G (n 1) x ∷ []) (pos 2) (pos 2)) 
   part = record {
     names = codes "x" ∷ [];
     objective = (0, n 3) ∷ [];
+    sense = Minimise;
     rows = row (codes "R0") G (n 1) x ∷ row (codes "L0") G (n 2) x ∷ row (codes "U0") L (n 2) x ∷ [];
   };
   claim = Range (n 6) (n 6);
@@ -75,6 +80,12 @@ table1 : merged (one ((0, n 3) ∷ []) (bare G (n 1) x ∷ []) (pos 2) (pos 2)) 
 }
 unfolding frac gcd gcd_within ◌+ℚ◌ ◌*ℚ◌ neg_ℚ digits
 table1 = refl
+
+-- the same, maximised: the upper bound's line, and the other sense
+table1_maximised : shown (merged (maximised (one ((0, n 3) ∷ []) (bare G (n 1) x ∷ []) (pos 2) (pos 2))) (events (Offer (pos 2 ∷ []) ∷ Close 0 (Bound [] false) ∷ [])))
+    ≡ (Range (n 6) (n 6), (pos 2 ∷ []) ∷ [], (row (codes "N0") L (n 6) ((0, n 3) ∷ []), Lin ((2, n 3) ∷ [])) ∷ [])
+unfolding frac gcd gcd_within ◌+ℚ◌ ◌*ℚ◌ neg_ℚ digits
+table1_maximised = refl
 
 -- minimise x, 2x >= 11, x in 0..5
 table2 : shown (merged (one x (bare G (n 11) ((0, n 2) ∷ []) ∷ []) (pos 0) (pos 5)) (events (Close 0 (Refute ((0, n 1) ∷ [])) ∷ [])))
@@ -90,6 +101,15 @@ table3 : shown (merged_with (one x (bare G (n 3) ((0, n 2) ∷ []) ∷ []) (pos 
     ≡ (Range (n 2) (n 2), (pos 2 ∷ []) ∷ [], (row (codes "K0") G (n 2) x, Rnd ((0, frac (pos 1) 2) ∷ [])) ∷ (row (codes "N0") G (n 2) x, Lin ((3, n 1) ∷ [])) ∷ [])
 unfolding frac gcd gcd_within ◌+ℚ◌ ◌*ℚ◌ neg_ℚ digits
 table3 = refl
+
+-- maximise x, 2x <= 5, x in 0..5, with one cut, which the node's line takes with the negated multiplier
+abbrev cut3_maximised : Cut
+cut3_maximised = record { row = bare G (m 1) ((0, m 0) ∷ []); mult = (0, frac (negsuc 0) 2) ∷ [] }
+
+table3_maximised : shown (merged_with (maximised (one x (bare L (n 5) ((0, n 2) ∷ []) ∷ []) (pos 0) (pos 5))) (cut3_maximised ∷ []) (events (Offer (pos 2 ∷ []) ∷ Close 0 (Bound ((3, n 1) ∷ []) false) ∷ [])))
+    ≡ (Range (n 2) (n 2), (pos 2 ∷ []) ∷ [], (row (codes "K0") G (m 1) ((0, m 0) ∷ []), Rnd ((0, frac (negsuc 0) 2) ∷ [])) ∷ (row (codes "N0") L (n 2) x, Lin ((3, m 0) ∷ [])) ∷ [])
+unfolding frac gcd gcd_within ◌+ℚ◌ ◌*ℚ◌ neg_ℚ digits
+table3_maximised = refl
 
 -- minimise x, x in 3..2
 table4 : shown (merged (one x [] (pos 3) (pos 2)) (events (Close 0 (Empty 0) ∷ []))) ≡ (Infeas, [], (row (codes "N0") G (n 1) [], Lin ((0, n 1) ∷ (1, m 0) ∷ [])) ∷ [])
@@ -109,7 +129,7 @@ table20 = refl
 
 -- 2x + 2y = 3, x and y in 0..1
 abbrev even : Problem
-even = record { names = codes "x" ∷ codes "y" ∷ []; rows = bare E (n 3) ((0, n 2) ∷ (1, n 2) ∷ []) ∷ []; objective = []; spans = span (pos 0) (pos 1) ∷ span (pos 0) (pos 1) ∷ [] }
+even = record { names = codes "x" ∷ codes "y" ∷ []; rows = bare E (n 3) ((0, n 2) ∷ (1, n 2) ∷ []) ∷ []; objective = []; sense = Minimise; spans = span (pos 0) (pos 1) ∷ span (pos 0) (pos 1) ∷ [] }
 
 -- row 0 as it stands, and with its signs turned
 abbrev by_row : ℕ → Event

@@ -6,7 +6,7 @@ use Rattle.problem.specs.Best.{IsVoid}
 use Rattle.cert_rows.specs.declared.certificate.Goal.TheVariants.{Infeas, Range}
 use Rattle.cert_rows.specs.declared.certificate.Cert.{Cert}
 use Rattle.cert_rows.specs.Validity.{IsValid, IsCombination, AllFollow, with_derived}
-use Rattle.cert_rows.specs.Soundness.{IsBetween}
+use Rattle.cert_rows.specs.Soundness.{IsInRange}
 use Rattle.problem_box.specs.declared.span.Span.{Span}
 use Rattle.problem.specs.declared.row.Sense.TheVariants.{G}
 use Rattle.problem.specs.declared.row.Row.{Row}
@@ -33,9 +33,10 @@ use Rattle.event_core.specs.Frames.{closed_by, cut_by}
 abbrev pub InfeasibilityHolds : Problem → Cert → Type 0
 InfeasibilityHolds p c = IsValid p c → c.claim ≡ Infeas → IsVoid p
 
--- where it claims a range, no feasible point is below it and a listed one isn't above
+-- where it claims a range, no feasible point is below it and a listed one isn't above; where the objective is maximised, none is above it and a listed
+-- one isn't below
 abbrev pub RangeHolds : Problem → Cert → Type 0
-RangeHolds p c = (lb ub : ℚ) → IsValid p c → c.claim ≡ Range lb ub → IsBetween p c lb ub
+RangeHolds p c = (lb ub : ℚ) → IsValid p c → c.claim ≡ Range lb ub → IsInRange p.sense p c lb ub
 
 -- the multipliers combine to the target, with the price as right side
 pub record Closes (ls : List CertLine) (target : Terms) (p : ℚ) (ms : Multipliers) : Type 0 where

@@ -1,5 +1,6 @@
 -- Lemmas that other crates, or the definitions themselves, stand on. Contracts cite none of them.
 pub mod LongerLines
+pub mod Negated
 pub mod Closings
 pub mod Filling
 pub mod TreeLemmas

@@ -18,6 +18,7 @@ use Rattle.cert_rows.specs.declared.certificate.Goal.TheVariants.{Infeas, Range}
 use Rattle.cert_rows.specs.declared.certificate.Part.{Part}
 use Rattle.cert_rows.specs.declared.certificate.Cert.{Cert}
 use Rattle.cert_rows.specs.Validity.{lower_row, upper_row, objective_row}
+use Rattle.problem.specs.Directions.{aim, directed}
 use Rattle.node_events.specs.declared.proof.Proof.{Proof}
 use Rattle.node_events.specs.declared.proof.Proof.TheVariants.{Empty, Refute, Bound}
 use Rattle.node_tree.specs.declared.branch.Side.{Side}
@@ -29,7 +30,7 @@ use Rattle.derivation_book.specs.declared.cut.Cut.{Cut}
 use Rattle.derivation_book.specs.Known.{known_lines}
 use Rattle.incumbent.specs.Offers.{point_of}
 use Rattle.event_core.specs.declared.entry.Entry.{Entry}
-use Rattle.event_core.specs.States.{State, tree_of, cutoff}
+use Rattle.event_core.specs.States.{State, tree_of, best_value}
 use Rattle.event_core.specs.Histories.{state_of}
 use Rattle.cert_merge.specs.Closing.{closing_multipliers, placed}
 use Rattle.cert_merge.specs.Endings.{proof_of}
@@ -55,12 +56,12 @@ abbrev pub bound_lines : ℕ → List Span → List CertRow
 bound_lines j [] = []
 bound_lines j (s ∷ ss) = labelled (label_of (codes "L") j) (lower_row j s) ∷ labelled (label_of (codes "U") j) (upper_row j s) ∷ bound_lines (j + 1) ss
 
--- the problem as certificates list it: its names, its objective, its rows, and behind them the bounds as rows
+-- the problem as certificates list it: its names, its own objective with its sense, its rows, and behind them the bounds as rows
 abbrev pub part_of : Problem → Part
-part_of p = record { names = p.names; objective = p.objective; rows = row_lines 0 p.rows ++ bound_lines 0 p.spans }
+part_of p = record { names = p.names; objective = p.objective; sense = p.sense; rows = row_lines 0 p.rows ++ bound_lines 0 p.spans }
 
 -- ---- the claim
--- the incumbent's value is the least one, or no point is feasible
+-- the incumbent's value is the best one, or no point is feasible
 abbrev pub claim_of : Option ℚ → Goal
 claim_of (Some v) = Range v v
 claim_of None = Infeas
@@ -74,7 +75,7 @@ points_of None = []
 abbrev pub absurd_row : Row
 absurd_row = record { sense = G; rhs = whole (pos 1); terms = [] }
 
--- what node 0 has to show: `objective >= value`, or `0 >= 1`
+-- what node 0 has to show: `objective >= value`, or where it is maximised `objective <= value`; or `0 >= 1`
 abbrev pub goal_row : Problem → Option ℚ → Row
 goal_row p (Some v) = objective_row p v
 goal_row p None = absurd_row
@@ -123,21 +124,22 @@ abbrev pub bound_reason : Bool → Multipliers → Why
 bound_reason true mult = Rnd mult
 bound_reason false mult = Lin mult
 
--- a node that was closed with this proof
+-- a node that was closed with this proof. A bound is one of the aim from below, and so of a maximised objective from above, by the negated multipliers
 abbrev pub closed_line : State → ℕ → Proof → Row × Why
 closed_line s i (Empty j) = (absurd_row, Lin (crossing s i j))
 closed_line s i (Refute mult) = (absurd_row, Lin (node_multipliers s i [] mult))
-closed_line s i (Bound mult rounded) = (goal_row s.problem (cutoff s), bound_reason rounded (node_multipliers s i s.problem.objective mult))
+closed_line s i (Bound mult rounded) =
+    (goal_row s.problem (best_value s), bound_reason rounded (directed s.problem.sense (node_multipliers s i (aim s.problem) mult)))
 
 -- a node that was split into these two
 abbrev pub split_line : State → ℕ × ℕ → Row × Why
-split_line s c = (goal_row s.problem (cutoff s), Uns (node_line s c.0) (assumption_line s c.0) (node_line s c.1) (assumption_line s c.1))
+split_line s c = (goal_row s.problem (best_value s), Uns (node_line s c.0) (assumption_line s c.0) (node_line s c.1) (assumption_line s c.1))
 
 -- node i by its children and its proof; what an open node has to show would be assumed
 abbrev pub line_by : State → ℕ → Option (ℕ × ℕ) → Option Proof → Row × Why
 line_by s i (Some c) proof = split_line s c
 line_by s i None (Some proof) = closed_line s i proof
-line_by s i None None = (goal_row s.problem (cutoff s), Asm)
+line_by s i None None = (goal_row s.problem (best_value s), Asm)
 
 -- a row with its reason, as the line of node i
 abbrev pub for_node : ℕ → Row × Why → CertRow × Why
@@ -157,7 +159,7 @@ node_lines s es (suc i) = node_of s es i ∷ node_lines s es i
 abbrev pub certificate_of : State → List Entry → Cert
 certificate_of s es = record {
   part = part_of s.problem;
-  claim = claim_of (cutoff s);
+  claim = claim_of (best_value s);
   points = points_of (point_of s.incumbent);
   lines = cut_lines 0 s.cuts ++ assumption_lines 0 s.nodes ++ node_lines s es (length s.nodes);
 }

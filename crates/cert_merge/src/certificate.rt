@@ -15,7 +15,7 @@ use fraction::Frac;
 use incumbent::Incumbent;
 use std::alloc::{AllocError, Global};
 
-/// That the incumbent's value is the least one, or that no point is feasible.
+/// That the incumbent's value is the best one, or that no point is feasible.
 fn claim(value: Option<Frac>) -> Goal
     ensures { result ≡ claim_of value }
 {
@@ -50,7 +50,7 @@ fn head(alloc: Global, state: &State, layout: Layout) -> Result<CertHead, AllocE
     let points = points(alloc, state.incumbent())?;
     Ok(CertHead {
         part,
-        claim: claim(state.incumbent().cutoff()),
+        claim: claim(state.best_value()),
         points,
         lines: layout.lines - layout.cuts,
     })

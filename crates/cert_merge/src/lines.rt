@@ -1,5 +1,7 @@
 // The derived lines of a certificate.
 ghost use Rattle.std.specs.Prelude.{◌≡◌, ◌<◌, [], IfOk, length, option_map, slice_get, codes};
+ghost use Rattle.problem.specs.Directions.{aim};
+ghost use Rattle.cert_rows.specs.Validity.{bound_sense};
 ghost use Rattle.node_tree.specs.Nodes.{children_at};
 ghost use Rattle.derivation_book.specs.Legal.{AreProofMultipliers, IsLegalProof};
 ghost use Rattle.derivation_book.specs.Price.{HasPrice};
@@ -24,7 +26,7 @@ use event_core::State;
 use fraction::Frac;
 use node_events::{Mult, Proof};
 use node_tree::{Branch, Side};
-use problem::{Problem, Sense, Terms};
+use problem::{ObjectiveSense, Problem, Sense, Terms};
 use std::alloc::{AllocError, Global};
 
 /// The line of a cut that is there.
@@ -73,7 +75,17 @@ fn absurd_row(alloc: Global, node: u32) -> CertRow
     }
 }
 
-/// The row of a node that shows what node 0 has to: the objective is at least the incumbent's value, or `0 >= 1`.
+/// The sense of a row that bounds the objective by the best value that it can have.
+fn bound_sense(sense: ObjectiveSense) -> Sense
+    ensures { result ≡ bound_sense sense }
+{
+    match sense {
+        ObjectiveSense::Minimise => Sense::G,
+        ObjectiveSense::Maximise => Sense::L,
+    }
+}
+
+/// The row of a node that shows what node 0 has to: the objective is at least the incumbent's value, where it is maximised at most; or `0 >= 1`.
 fn goal_row(
     alloc: Global,
     problem: &Problem,
@@ -88,7 +100,7 @@ fn goal_row(
             let terms = problem.objective().copy(alloc)?;
             Ok(CertRow {
                 label: Label::make(b'N', node as usize),
-                sense: Sense::G,
+                sense: bound_sense(problem.sense()),
                 rhs,
                 terms,
             })
@@ -162,14 +174,15 @@ fn bounded_line(
     requires laid { layout ≡ layout_of state.now.state }
     requires setters { AreSettersOf state.now.state node setters.now }
     requires multipliers { AreProofMultipliers state.now.state.problem state.now.state.cuts mult.now }
-    requires priced { HasPrice state.now.state.problem state.now.state.cuts state.now.state.problem.objective mult.now }
+    requires priced { HasPrice state.now.state.problem state.now.state.cuts (aim state.now.state.problem) mult.now }
     ensures { IfOk result (λ l. l ≡ for_node node (closed_line state.now.state node (Bound mult.now rounded))) }
 {
     let problem = state.problem();
     problem.limits_hold();
-    let row = goal_row(alloc, problem, state.incumbent().cutoff(), node)?;
-    let target = problem.objective().as_slice();
+    let row = goal_row(alloc, problem, state.best_value(), node)?;
+    let target = problem.aim().as_slice();
     let mult = node_multipliers(alloc, state, layout, setters, node, target, mult)?;
+    let mult = mult.directed(alloc, problem.sense())?;
     Ok((row, bound_reason(rounded, mult)))
 }
 
@@ -212,7 +225,7 @@ fn split_line(
     requires right { right < length state.now.state.nodes }
     ensures { IfOk result (λ l. l ≡ for_node node (split_line state.now.state (left, right))) }
 {
-    let row = goal_row(alloc, state.problem(), state.incumbent().cutoff(), node)?;
+    let row = goal_row(alloc, state.problem(), state.best_value(), node)?;
     let why = Why::Uns {
         i1: node_number(state, layout, left),
         l1: assumption_number(state, layout, left),

@@ -97,6 +97,7 @@ pub fn problem_part(alloc: Global, problem: &Problem) -> Result<Part, AllocError
     Ok(Part {
         names,
         objective,
+        sense: problem.sense(),
         rows: CertRows::make(lines),
     })
 }

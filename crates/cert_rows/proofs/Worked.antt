@@ -16,6 +16,8 @@ use Rattle.cert_rows.specs.declared.certificate.Goal.TheVariants.{Infeas, Range}
 use Rattle.cert_rows.specs.declared.certificate.Cert.{Cert}
 use Rattle.cert_rows.specs.Validity.{IsValid}
 use Rattle.cert_rows.specs.Lemmas.Decider.{is_valid, IsValid-decided}
+use Rattle.problem.specs.declared.objective_sense.ObjectiveSense.{ObjectiveSense}
+use Rattle.problem.specs.declared.objective_sense.ObjectiveSense.TheVariants.{Minimise, Maximise}
 
 abbrev n : ℕ → ℚ
 n k = whole (pos k)
@@ -40,13 +42,14 @@ y = (1, n 1) ∷ []
 
 -- one column with bounds and one row
 abbrev one : ℚ → ℚ → ℚ → ℤ → ℤ → Problem
-one cost a rhs lo hi = record { names = codes "x" ∷ []; rows = bare G rhs ((0, a) ∷ []) ∷ []; objective = (0, cost) ∷ []; spans = span lo hi ∷ [] }
+one cost a rhs lo hi = record { names = codes "x" ∷ []; rows = bare G rhs ((0, a) ∷ []) ∷ []; objective = (0, cost) ∷ []; sense = Minimise; spans = span lo hi ∷ [] }
 
 abbrev one_cert : ℚ → ℚ → ℚ → ℤ → ℤ → Goal → List (List ℤ) → List (CertRow × Why) → Cert
 one_cert cost a rhs lo hi claim points lines = record {
   part = record {
     names = codes "x" ∷ [];
     objective = (0, cost) ∷ [];
+    sense = Minimise;
     rows = row (codes "R0") G rhs ((0, a) ∷ []) ∷ row (codes "L0") G (whole lo) x ∷ row (codes "U0") L (whole hi) x ∷ [];
   };
   claim = claim;
@@ -112,18 +115,53 @@ test3_fraction : is_valid p3 (c3 (frac (pos 2) 3)) ≡ false
 unfolding frac gcd gcd_within ◌+ℚ◌ ◌*ℚ◌ neg_ℚ floor ceil
 test3_fraction = refl
 
+-- maximise x, 2x <= 5, x in 0..5
+abbrev p4 : Problem
+p4 = record { names = codes "x" ∷ []; rows = bare L (n 5) ((0, n 2) ∷ []) ∷ []; objective = x; sense = Maximise; spans = span (pos 0) (pos 5) ∷ [] }
+
+abbrev c4 : ObjectiveSense → ℕ → ℚ → Cert
+c4 sense point last = record {
+  part = record {
+    names = codes "x" ∷ [];
+    objective = x;
+    sense = sense;
+    rows = row (codes "R0") L (n 5) ((0, n 2) ∷ []) ∷ row (codes "L0") G (n 0) x ∷ row (codes "U0") L (n 5) x ∷ [];
+  };
+  claim = Range (n 2) (n 2);
+  points = (pos point ∷ []) ∷ [];
+  lines = (row (codes "K0") G (m 1) ((0, m 0) ∷ []), Rnd ((0, frac (negsuc 0) 2) ∷ [])) ∷ (row (codes "N0") L (n 2) x, Lin ((3, last) ∷ [])) ∷ [];
+}
+
+test4 : is_valid p4 (c4 Maximise 2 (m 0)) ≡ true
+unfolding frac gcd gcd_within ◌+ℚ◌ ◌*ℚ◌ neg_ℚ floor ceil
+test4 = refl
+
+-- the other direction, a point below the claimed value, and the multiplier of the cut not negated
+test4_sense : is_valid p4 (c4 Minimise 2 (m 0)) ≡ false
+unfolding frac gcd gcd_within ◌+ℚ◌ ◌*ℚ◌ neg_ℚ floor ceil
+test4_sense = refl
+
+test4_point : is_valid p4 (c4 Maximise 1 (m 0)) ≡ false
+unfolding frac gcd gcd_within ◌+ℚ◌ ◌*ℚ◌ neg_ℚ floor ceil
+test4_point = refl
+
+test4_sign : is_valid p4 (c4 Maximise 2 (n 1)) ≡ false
+unfolding frac gcd gcd_within ◌+ℚ◌ ◌*ℚ◌ neg_ℚ floor ceil
+test4_sign = refl
+
 -- 2x + 2y = 3, x and y in 0..1
 abbrev two : List (ℕ × ℚ)
 two = (0, n 2) ∷ (1, n 2) ∷ []
 
 abbrev pb : Problem
-pb = record { names = codes "x" ∷ codes "y" ∷ []; rows = bare E (n 3) two ∷ []; objective = []; spans = span (pos 0) (pos 1) ∷ span (pos 0) (pos 1) ∷ [] }
+pb = record { names = codes "x" ∷ codes "y" ∷ []; rows = bare E (n 3) two ∷ []; objective = []; sense = Minimise; spans = span (pos 0) (pos 1) ∷ span (pos 0) (pos 1) ∷ [] }
 
 abbrev cb : List (CertRow × Why) → Cert
 cb lines = record {
   part = record {
     names = codes "x" ∷ codes "y" ∷ [];
     objective = [];
+    sense = Minimise;
     rows = row (codes "R0") E (n 3) two ∷ row (codes "L0") G (n 0) x ∷ row (codes "U0") L (n 1) x ∷ row (codes "L1") G (n 0) y ∷ row (codes "U1") L (n 1) y ∷ [];
   };
   claim = Infeas;

@@ -5,6 +5,8 @@ use Rattle.problem_box.specs.declared.span.Span.{Span}
 use Rattle.problem.specs.declared.row.Sense.{Sense}
 use Rattle.problem.specs.declared.row.Sense.TheVariants.{G, L, E}
 use Rattle.problem.specs.declared.row.Row.{Row}
+use Rattle.problem.specs.declared.objective_sense.ObjectiveSense.{ObjectiveSense}
+use Rattle.problem.specs.declared.objective_sense.ObjectiveSense.TheVariants.{Minimise, Maximise}
 use Rattle.problem.specs.Linear.{Multipliers, SameCoefficients, coefficient}
 use Rattle.problem.specs.Problem.{Problem}
 use Rattle.problem.specs.Feasible.{IsFeasible, objective_at}
@@ -136,19 +138,30 @@ last_row c = row_at (all_lines c) (length (all_lines c) - 1)
 abbrev pub last_assumed : Cert → List ℕ
 last_assumed c = assumed_by (all_lines c) (length (all_lines c) - 1)
 
--- `objective >= lb`
+-- the sense of a row that bounds the objective by the best value that it can have
+abbrev pub bound_sense : ObjectiveSense → Sense
+bound_sense Minimise = G
+bound_sense Maximise = L
+
+-- `objective >= bound`, or where it is maximised `objective <= bound`
 abbrev pub objective_row : Problem → ℚ → Row
-objective_row p lb = record { sense = G; rhs = lb; terms = p.objective }
+objective_row p bound = record { sense = bound_sense p.sense; rhs = bound; terms = p.objective }
+
+-- the last line shows the one end of the range, and a listed solution the other
+abbrev pub ShowsRange : ObjectiveSense → Problem → Cert → ℚ → ℚ → Type 0
+ShowsRange Minimise p c lb ub = Dominates (last_row c) (objective_row p lb) × Any (λ x. objective_at p x ≤ℚ ub) c.points
+ShowsRange Maximise p c lb ub = Dominates (last_row c) (objective_row p ub) × Any (λ x. lb ≤ℚ objective_at p x) c.points
 
 -- the last line and a listed solution show the claim
 abbrev pub ShowsClaim : Problem → Cert → Goal → Type 0
 ShowsClaim p c Infeas = IsAbsurd (last_row c)
-ShowsClaim p c (Range lb ub) = Dominates (last_row c) (objective_row p lb) × Any (λ x. objective_at p x ≤ℚ ub) c.points
+ShowsClaim p c (Range lb ub) = ShowsRange p.sense p c lb ub
 
 -- the certificate is of this problem, each derived line follows from those before it, and its claim stands at the end (VIPR 1.0)
 pub record IsValid (p : Problem) (c : Cert) : Type 0 where
   pub names : c.part.names ≡ p.names
   pub objective : c.part.objective ≡ p.objective
+  pub sense : c.part.sense ≡ p.sense
   pub rows : map row_of c.part.rows ≡ p.rows ++ bound_rows 0 p.spans
   pub solutions : All (IsFeasible p) c.points
   pub lines : AllFollow (given_lines c.part.rows) c.lines

@@ -3,7 +3,7 @@ ghost use Rattle.std.specs.Prelude.{◌≡◌, IfOk};
 
 use crate::line::{CertRows, Derived};
 use fraction::Frac;
-use problem::{Names, Point, Terms};
+use problem::{Names, ObjectiveSense, Point, Terms};
 use std::alloc::{AllocError, Global};
 use std::marker::Model;
 
@@ -12,7 +12,8 @@ use std::marker::Model;
 pub enum Goal {
     /// No point is feasible.
     Infeas,
-    /// No feasible point has an objective below `lb`, and some feasible one has an objective of at most `ub`.
+    /// Where the objective is minimised, no feasible point has an objective below `lb`, and some feasible one has an objective of at most `ub`. Where it
+    /// is maximised, none has an objective above `ub`, and some has one of at least `lb`.
     Range { lb: Frac, ub: Frac },
 }
 
@@ -46,11 +47,12 @@ impl Points {
     }
 }
 
-/// The problem part: the columns' names, the objective, and the rows with the bounds of the columns behind them.
+/// The problem part: the columns' names, the objective, whether it is minimised or maximised, and the rows with the bounds of the columns behind them.
 #[derive(Drop)]
 pub struct Part {
     pub names: Names,
     pub objective: Terms,
+    pub sense: ObjectiveSense,
     pub rows: CertRows,
 }
 

@@ -13,15 +13,17 @@ use Rattle.fraction.specs.Lemmas.Order.{either_order, whole-≤ℚ, ≤ℚ-whole
 use Rattle.fraction.specs.Lemmas.Bounds.{whole_parts}
 use Rattle.problem.specs.declared.row.Sense.TheVariants.{G}
 use Rattle.problem.specs.declared.row.Row.{Row}
+use Rattle.problem.specs.declared.objective_sense.ObjectiveSense.{ObjectiveSense}
+use Rattle.problem.specs.declared.objective_sense.ObjectiveSense.TheVariants.{Minimise, Maximise}
 use Rattle.problem.specs.Linear.{coefficient, at_column, scaled}
 use Rattle.fraction.specs.Lemmas.Ring.{+ℚ-zero}
 use Rattle.problem.specs.Problem.{Problem}
 use Rattle.problem.specs.Limited.{IsLimited}
 use Rattle.cert_rows.specs.Lines.{CertLine, row_at, assumed_by}
 use Rattle.cert_rows.specs.Combination.{HasRightSign, combination, combined_terms, combined_rhs}
-use Rattle.cert_rows.specs.Domination.{Dominates}
+use Rattle.cert_rows.specs.Domination.{IsAsTight, Dominates}
 use Rattle.cert_rows.specs.Assumptions.{assumed_by_all}
-use Rattle.cert_rows.specs.Validity.{IsCombination, IsLinear}
+use Rattle.cert_rows.specs.Validity.{IsCombination, IsLinear, bound_sense}
 use Rattle.node_tree.specs.declared.branch.Side.TheVariants.{Low, High}
 use Rattle.node_tree.specs.Paths.{path_at}
 use Rattle.node_tree.specs.Trees.{IsTree}
@@ -87,8 +89,12 @@ whole_coefficients (t ∷ ts) h j =
 pub absurd_dominates : (r : Row) → Dominates absurd_row r
 absurd_dominates r = inl (record { no_terms = λ j. refl; excludes = positive (pos 1) (omega (arith, ints)) })
 
+tight_itself : (s : ObjectiveSense) (v : ℚ) → IsAsTight (bound_sense s) v v
+tight_itself Minimise v = ≤ℚ_refl v
+tight_itself Maximise v = ≤ℚ_refl v
+
 pub goal_itself : (p : Problem) (o : Option ℚ) → Dominates (goal_row p o) (goal_row p o)
-goal_itself p (Some x) = inr (record { sense = refl; terms = λ j. refl; rhs = ≤ℚ_refl _ })
+goal_itself p (Some x) = inr (record { sense = refl; terms = λ j. refl; rhs = tight_itself p.sense x })
 goal_itself p None = absurd_dominates absurd_row
 
 -- ---- bounds that cross

@@ -1,5 +1,6 @@
 -- The nodes of a finished search are the lines of a finished tree.
-use Rattle.std.specs.Prelude.{◌≡◌, ◌⊎◌, ◌<◌, ◌≤◌, ◌+◌, ◌-◌, ℕ, zero, suc, ℤ, pos, ◌+ℤ◌, true, false, List, [], ◌∷◌, ◌++◌, length, map, slice_index_or, Option, Some, None, option_map, refl}
+use Rattle.std.specs.Prelude.{◌≡◌, ◌⊎◌, ◌<◌, ◌≤◌, ◌+◌, ◌-◌, ℕ, zero, suc, ℤ, pos, ◌+ℤ◌, Bool, true, false, List, [], ◌∷◌, ◌++◌, length, map, slice_index_or, All, Option, Some, None, option_map, refl}
+use Rattle.std.specs.List.{Contains}
 use Rattle.std.proofs.Common.{sym, ap, ◌∙◌, subst, inl, inr, arith, length-append}
 use Rattle.std.proofs.Math.Seq.{get_or-append_seam}
 use Rattle.std.proofs.lemmas.Int.{ints}
@@ -11,10 +12,12 @@ use Rattle.fraction.specs.Order.{◌<ℚ◌}
 use Rattle.fraction.specs.Whole.{IsWhole}
 use Rattle.fraction.specs.Lemmas.Bounds.{whole_parts}
 use Rattle.fraction.specs.Lemmas.Whole.{whole-+}
+use Rattle.problem.specs.declared.row.Sense.TheVariants.{G}
 use Rattle.problem.specs.declared.row.Row.{Row}
 use Rattle.problem.specs.Limited.{IsLimited}
 use Rattle.cert_rows.specs.Lines.{CertLine, row_at}
-use Rattle.cert_rows.specs.Validity.{IsLinear, IsRounded, IsSplit, lower_row, upper_row}
+use Rattle.cert_rows.specs.Assumptions.{assumed_by_all}
+use Rattle.cert_rows.specs.Validity.{IsCombination, Follows, IsSplit, lower_row, upper_row, objective_row}
 use Rattle.node_events.specs.declared.proof.Proof.{Proof}
 use Rattle.node_events.specs.declared.proof.Proof.TheVariants.{Empty, Refute, Bound}
 use Rattle.node_tree.specs.declared.branch.Side.TheVariants.{Low, High}
@@ -31,10 +34,12 @@ use Rattle.derivation_book.specs.Legal.{IsLegalProof, rounded_if}
 use Rattle.derivation_book.specs.Lemmas.Numbering.{known_length}
 use Rattle.derivation_book.specs.Lemmas.Exact.{price_exact}
 use Rattle.event_core.specs.declared.entry.Entry.{Entry}
-use Rattle.event_core.specs.States.{State, tree_of, box_of, cutoff}
+use Rattle.event_core.specs.States.{State, tree_of, box_of, cutoff, best_value}
 use Rattle.cert_merge.specs.Endings.{proof_of}
 use Rattle.cert_merge.specs.Numbers.{assumption_line, node_line, line_of_bound}
 use Rattle.cert_merge.specs.Merged.{node_multipliers, goal_row, branch_row, closed_line, split_line, line_by, node_of, node_lines}
+use Rattle.cert_merge.specs.Laws.{Closes}
+use Rattle.cert_merge.specs.Lemmas.Negated.{assumed_directed}
 use Rattle.cert_merge.specs.Tree.{NodeLine, derived_of, IsChild, IsNodeLine, AreNodeLines, paths_with}
 use Rattle.cert_merge.specs.Lemmas.Closings.{follows-bound, follows-rounded, follows-refute}
 use Rattle.cert_merge.specs.Lemmas.Finished.{IsDone}
@@ -42,6 +47,8 @@ use Rattle.cert_tree.proofs.Assumed.{AreLines}
 use Rattle.cert_tree.proofs.Paths.{path_lines}
 use Rattle.cert_tree.proofs.Sources.{assumption_there, assumption_is, column_stated}
 use Rattle.cert_tree.proofs.Closed.{whole_coefficients, absurd_dominates, goal_itself, crossed_linear, crossed_within, node_closes, node_within}
+use Rattle.problem.specs.Directions.{aim, directed, directed_value}
+use Rattle.problem.specs.Lemmas.Directions.{limited_aim}
 
 -- ---- a split
 split_rows : (j : ℕ) (b : ℤ) → IsSplit (upper_row j (record { lo = b; hi = b })) (lower_row j (record { lo = b +ℤ pos 1; hi = b +ℤ pos 1 }))
@@ -105,7 +112,7 @@ root_path s es h =
 -- ---- each node
 module _ (s : State) (es : List Entry) (f : IsDone s es) (limited : IsLimited s.problem) (ls : List CertLine) (lines : AreLines s ls) where
   abbrev goal : Row
-  goal = goal_row s.problem (cutoff s)
+  goal = goal_row s.problem (best_value s)
 
   -- a node that was reached from node i is a child of node i
   is_child : (i k : ℕ) (b : Branch) (paths : List (List ℕ)) → ArePaths s (suc i) paths → branch_at (tree_of s) k ≡ Some b → b.parent ≡ i → IsChild ls paths (path_lines s i) (node_line s k) (assumption_line s k)
@@ -141,6 +148,34 @@ module _ (s : State) (es : List Entry) (f : IsDone s es) (limited : IsLimited s.
   exact : (i : ℕ) (target mult : List (ℕ × ℚ)) (v : ℚ) → price s.problem s.cuts (box_of s i) target mult ≡ Some v → v ≡ exact_price (known_lines s.problem s.cuts) target mult (box_of s i)
   exact i target mult v e = price_exact s.problem s.cuts (box_of s i) target mult v (length-box (path_at (tree_of s) i) 0 s.problem.spans) e
 
+  aim_closes : (i : ℕ) (mult : List (ℕ × ℚ)) → IsCombination (known_lines s.problem s.cuts) G mult
+      → Closes ls (aim s.problem) (exact_price (known_lines s.problem s.cuts) (aim s.problem) mult (box_of s i)) (node_multipliers s i (aim s.problem) mult)
+  aim_closes i mult c = node_closes s f.sound.tree ls lines limited f.sound.cuts i (aim s.problem) mult c (limited_aim s.problem limited).below
+
+  -- negated multipliers assume no more
+  aim_within : (i : ℕ) (mult : List (ℕ × ℚ)) → IsCombination (known_lines s.problem s.cuts) G mult
+      → All (Contains (path_lines s i)) (assumed_by_all ls (directed s.problem.sense (node_multipliers s i (aim s.problem) mult)))
+  aim_within i mult c =
+      subst (All (Contains (path_lines s i))) (sym (assumed_directed s.problem.sense ls (node_multipliers s i (aim s.problem) mult)))
+      (node_within s f.sound.tree ls lines limited f.sound.cuts i (aim s.problem) mult c)
+
+  -- a bound of what is minimised that the price reaches, as it is or rounded up: the line bounds the own objective
+  bounded : (i : ℕ) (mult : List (ℕ × ℚ)) (rounded : Bool) (x : IsLegalProof s.problem s.cuts (box_of s i) (cutoff s) (Bound mult rounded))
+      → Follows ls (objective_row s.problem (directed_value s.problem.sense x.limit)) (closed_line s i (Bound mult rounded)).1
+  bounded i mult false x =
+      let p = s.problem in
+      follows-bound p.sense ls p.objective (exact_price (known_lines p s.cuts) (aim p) mult (box_of s i)) x.limit (node_multipliers s i (aim p) mult)
+      (aim_closes i mult x.multipliers.combined) (subst (λ v. x.limit ≤ℚ v) (exact i (aim p) mult x.value x.priced) x.reached)
+  bounded i mult true x =
+      let p = s.problem in
+      follows-rounded p.sense ls p.objective (exact_price (known_lines p s.cuts) (aim p) mult (box_of s i)) x.limit (node_multipliers s i (aim p) mult)
+      (aim_closes i mult x.multipliers.combined) (whole_coefficients (aim p) (x.whole_objective refl))
+      (subst (λ v. x.limit ≤ℚ rounded_if true v) (exact i (aim p) mult x.value x.priced) x.reached)
+
+  -- the limit is the aim at the incumbent
+  limited_by : (i : ℕ) (proof : Proof) (z : ℚ) → cutoff s ≡ Some z → Follows ls (objective_row s.problem (directed_value s.problem.sense z)) (closed_line s i proof).1 → Follows ls goal (closed_line s i proof).1
+  limited_by i proof z e h = subst (λ o. Follows ls (goal_row s.problem (option_map (λ v. directed_value s.problem.sense v) o)) (closed_line s i proof).1) (sym e) h
+
   closed : (i : ℕ) (proof : Proof) (paths : List (List ℕ)) → IsLegalProof s.problem s.cuts (box_of s i) (cutoff s) proof → IsNodeLine ls goal paths (closed_line s i proof).0 (path_lines s i) (closed_line s i proof).1
   closed i (Empty j) paths x =
       let c = column_stated s f.sound.tree ls lines i j x.span x.there in
@@ -157,23 +192,9 @@ module _ (s : State) (es : List Entry) (f : IsDone s es) (limited : IsLimited s.
         within = node_within s f.sound.tree ls lines limited f.sound.cuts i [] mult x.multipliers.combined;
       }
   closed i (Bound mult false) paths x =
-      let c = node_closes s f.sound.tree ls lines limited f.sound.cuts i s.problem.objective mult x.multipliers.combined limited.objective.below in
-      record {
-        follows = subst (λ o. IsLinear ls (goal_row s.problem o) (node_multipliers s i s.problem.objective mult)) (sym x.limited)
-            (follows-bound ls s.problem.objective (exact_price (known_lines s.problem s.cuts) s.problem.objective mult (box_of s i)) x.limit (node_multipliers s i s.problem.objective mult) c
-            (subst (λ v. x.limit ≤ℚ v) (exact i s.problem.objective mult x.value x.priced) x.reached));
-        dominates = goal_itself s.problem (cutoff s);
-        within = node_within s f.sound.tree ls lines limited f.sound.cuts i s.problem.objective mult x.multipliers.combined;
-      }
+      record { follows = limited_by i (Bound mult false) x.limit x.limited (bounded i mult false x); dominates = goal_itself s.problem (best_value s); within = aim_within i mult x.multipliers.combined }
   closed i (Bound mult true) paths x =
-      let c = node_closes s f.sound.tree ls lines limited f.sound.cuts i s.problem.objective mult x.multipliers.combined limited.objective.below in
-      record {
-        follows = subst (λ o. IsRounded ls (goal_row s.problem o) (node_multipliers s i s.problem.objective mult)) (sym x.limited)
-            (follows-rounded ls s.problem.objective (exact_price (known_lines s.problem s.cuts) s.problem.objective mult (box_of s i)) x.limit (node_multipliers s i s.problem.objective mult) c
-            (whole_coefficients s.problem.objective (x.whole_objective refl)) (subst (λ v. x.limit ≤ℚ rounded_if true v) (exact i s.problem.objective mult x.value x.priced) x.reached));
-        dominates = goal_itself s.problem (cutoff s);
-        within = node_within s f.sound.tree ls lines limited f.sound.cuts i s.problem.objective mult x.multipliers.combined;
-      }
+      record { follows = limited_by i (Bound mult true) x.limit x.limited (bounded i mult true x); dominates = goal_itself s.problem (best_value s); within = aim_within i mult x.multipliers.combined }
 
   -- whether it has children or not
   ended : (i : ℕ) (paths : List (List ℕ)) → i < length s.nodes → ArePaths s (suc i) paths

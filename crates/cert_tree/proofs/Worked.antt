@@ -11,9 +11,10 @@ use Rattle.event_core.specs.declared.entry.Entry.{Entry}
 use Rattle.cert_merge.specs.Endings.{IsFinished}
 use Rattle.cert_merge.specs.Merged.{merged}
 use Rattle.cert_tree.proofs.Finishing.{merged_valid, merged_true}
+use Rattle.problem.specs.declared.objective_sense.ObjectiveSense.TheVariants.{Minimise}
 
 abbrev crossed : Problem
-crossed = record { names = codes "x" ∷ []; rows = []; objective = (0, whole (pos 1)) ∷ []; spans = record { lo = pos 3; hi = pos 2 } ∷ [] }
+crossed = record { names = codes "x" ∷ []; rows = []; objective = (0, whole (pos 1)) ∷ []; sense = Minimise; spans = record { lo = pos 3; hi = pos 2 } ∷ [] }
 
 abbrev closed_at_once : List Entry
 closed_at_once = record { worker = None; event = Close 0 (Empty 0) } ∷ []

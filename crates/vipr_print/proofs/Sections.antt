@@ -4,13 +4,15 @@ use Rattle.std.proofs.Common.{sym, ap, ◌∙◌, subst, append_assoc, append-ni
 use Rattle.std.proofs.lemmas.List.{append_cancel_left}
 use Rattle.std.specs.Fmt.{decimal}
 use Rattle.std.specs.List.{flat_map}
+use Rattle.problem.specs.declared.objective_sense.ObjectiveSense.{ObjectiveSense}
+use Rattle.problem.specs.declared.objective_sense.ObjectiveSense.TheVariants.{Minimise, Maximise}
 use Rattle.cert_rows.specs.declared.line.CertRow.{CertRow}
 use Rattle.cert_rows.specs.declared.line.Why.{Why}
 use Rattle.cert_rows.specs.declared.certificate.Goal.{Goal}
 use Rattle.cert_rows.specs.declared.certificate.Goal.TheVariants.{Infeas, Range}
 use Rattle.cert_rows.specs.declared.certificate.Part.{Part}
 use Rattle.cert_rows.specs.declared.certificate.Cert.{Cert}
-use Rattle.vipr_print.specs.Spelling.{spelled_number, spelled_terms, row_line, derived_line, claim_line, point_lines, name_line, constraint_line, names_text, integers_text, rows_text, problem_text, claim_text, derived_text, text_of}
+use Rattle.vipr_print.specs.Spelling.{spelled_number, spelled_terms, row_line, derived_line, claim_line, point_lines, name_line, sense_line, objective_line, constraint_line, names_text, integers_text, rows_text, problem_text, claim_text, derived_text, text_of}
 use Rattle.vipr_print.specs.Unique.{IsWord, IsShort, IsShortClaim, IsSpellable, TextsSpellOneCertificate, TextsBeginNoOther}
 use Rattle.vipr_print.proofs.Words.{SplitsOff, word_splits, decimal_splits, fraction_splits}
 use Rattle.vipr_print.proofs.Splitting.{pieces3, pieces4, pieces5, AnyText, IsSpellableRow, IsSpellableLine, list_splits, terms_split, row_line_splits, line_splits}
@@ -56,28 +58,39 @@ rows_split m n xs ys r s w h i p q e =
     let l = behind (decimal (2 * m)) (decimal (2 * n)) _ _ (ap (λ x. decimal (2 * x)) w) (ap (drop 1) k.1) in
     list_splits IsSpellableRow AnyText row_line row_line_splits (λ x r q. tt) xs ys r s k.0 p q tt tt (ap (drop 1) l)
 
-same_part : (a b : Part) → a.names ≡ b.names → a.objective ≡ b.objective → a.rows ≡ b.rows → a ≡ b
-same_part a b n o r =
-    ap (λ n. record { names = n; objective = a.objective; rows = a.rows }) n
-    ∙ ap (λ o. record { names = b.names; objective = o; rows = a.rows }) o
-    ∙ ap (λ r. record { names = b.names; objective = b.objective; rows = r }) r
+-- the two lines have one length, and differ in a byte
+sense_splits : (a b : ObjectiveSense) (r s : List ℕ) → sense_line a ++ r ≡ sense_line b ++ s → (a ≡ b) × (r ≡ s)
+sense_splits Minimise Minimise r s e = (refl, ap (drop 8) e)
+sense_splits Minimise Maximise r s e = absurd (omega (arith, ap (λ t. get_or t 5 0) e))
+sense_splits Maximise Minimise r s e = absurd (omega (arith, ap (λ t. get_or t 5 0) e))
+sense_splits Maximise Maximise r s e = (refl, ap (drop 8) e)
+
+same_part : (a b : Part) → a.names ≡ b.names → a.objective ≡ b.objective → a.sense ≡ b.sense → a.rows ≡ b.rows → a ≡ b
+same_part a b n o s r =
+    ap (λ n. record { names = n; objective = a.objective; sense = a.sense; rows = a.rows }) n
+    ∙ ap (λ o. record { names = b.names; objective = o; sense = a.sense; rows = a.rows }) o
+    ∙ ap (λ s. record { names = b.names; objective = b.objective; sense = s; rows = a.rows }) s
+    ∙ ap (λ r. record { names = b.names; objective = b.objective; sense = b.sense; rows = r }) r
 
 problem_pieces : (p : Part) (r : List ℕ) → problem_text p ++ r ≡ names_text p.names ++ (integers_text (length p.names) ++ (rows_text p ++ r))
 problem_pieces p r =
     append_assoc (names_text p.names) (integers_text (length p.names) ++ rows_text p) r
     ∙ ap (λ t. names_text p.names ++ t) (append_assoc (integers_text (length p.names)) (rows_text p) r)
 
-objective_pieces : (p : Part) (r : List ℕ) → rows_text p ++ r ≡ codes "OBJ min\n" ++ (spelled_terms p.objective ++ (codes "\n" ++ ((constraint_line (length p.rows) (length p.names) ++ flat_map row_line p.rows) ++ r)))
-objective_pieces p r = ap (λ t. codes "OBJ min\n" ++ t) (pieces3 (spelled_terms p.objective) (codes "\n") (constraint_line (length p.rows) (length p.names) ++ flat_map row_line p.rows) r)
+objective_pieces : (p : Part) (r : List ℕ) → rows_text p ++ r ≡ sense_line p.sense ++ (spelled_terms p.objective ++ (codes "\n" ++ ((constraint_line (length p.rows) (length p.names) ++ flat_map row_line p.rows) ++ r)))
+objective_pieces p r =
+    append_assoc (sense_line p.sense) (objective_line p.objective ++ (constraint_line (length p.rows) (length p.names) ++ flat_map row_line p.rows)) r
+    ∙ ap (λ t. sense_line p.sense ++ t) (pieces3 (spelled_terms p.objective) (codes "\n") (constraint_line (length p.rows) (length p.names) ++ flat_map row_line p.rows) r)
 
 problem_split : (c d : Cert) (r s : List ℕ) → IsSpellable c → IsSpellable d → problem_text c.part ++ r ≡ problem_text d.part ++ s → (c.part ≡ d.part) × (r ≡ s)
 problem_split c d r s p q e =
     let k = names_split c.part.names d.part.names _ _ p.numbers.columns q.numbers.columns p.names q.names (sym (problem_pieces c.part r) ∙ e ∙ problem_pieces d.part s) in
     let w = ap length k.0 in
     let l = behind (integers_text (length c.part.names)) (integers_text (length d.part.names)) _ _ (ap integers_text w) k.1 in
-    let m = terms_split c.part.objective d.part.objective _ _ p.numbers.objective q.numbers.objective (omega arith) (omega arith) (ap (drop 8) (sym (objective_pieces c.part r) ∙ l ∙ objective_pieces d.part s)) in
+    let a = sense_splits c.part.sense d.part.sense _ _ (sym (objective_pieces c.part r) ∙ l ∙ objective_pieces d.part s) in
+    let m = terms_split c.part.objective d.part.objective _ _ p.numbers.objective q.numbers.objective (omega arith) (omega arith) a.1 in
     let n = rows_split (length c.part.names) (length d.part.names) c.part.rows d.part.rows r s w p.numbers.row_count q.numbers.row_count (spellable_rows c p) (spellable_rows d q) (ap (drop 1) m.1) in
-    (same_part c.part d.part k.0 m.0 n.0, n.1)
+    (same_part c.part d.part k.0 m.0 a.0 n.0, n.1)
 
 -- ---- the claim and the points
 claim_line_splits : SplitsOff IsShortClaim AnyText claim_line

@@ -8,6 +8,7 @@ use Rattle.fraction.specs.Rational.{ℚ, whole, frac}
 use Rattle.fraction.specs.Lemmas.Bounds.{whole_parts}
 use Rattle.problem.specs.declared.row.Sense.{Sense}
 use Rattle.problem.specs.declared.row.Sense.TheVariants.{G, L}
+use Rattle.problem.specs.declared.objective_sense.ObjectiveSense.TheVariants.{Minimise, Maximise}
 use Rattle.cert_rows.specs.declared.line.CertRow.{CertRow}
 use Rattle.cert_rows.specs.declared.line.Why.{Why}
 use Rattle.cert_rows.specs.declared.line.Why.TheVariants.{Lin}
@@ -28,6 +29,7 @@ certificate = record {
   part = record {
     names = codes "x" ∷ [];
     objective = (0, n 3) ∷ [];
+    sense = Minimise;
     rows = row (codes "R0") G (n 1) ((0, n 1) ∷ []) ∷ row (codes "L0") G (n 2) ((0, n 1) ∷ []) ∷ row (codes "U0") L (n 2) ((0, n 1) ∷ []) ∷ [];
   };
   claim = Range (n 6) (n 6);
@@ -43,7 +45,7 @@ text = refl
 -- no column, and a point that is 0
 abbrev nothing : Cert
 nothing = record {
-  part = record { names = []; objective = []; rows = [] };
+  part = record { names = []; objective = []; sense = Minimise; rows = [] };
   claim = Range (n 0) (n 0);
   points = (pos 0 ∷ []) ∷ [];
   lines = [];
@@ -53,6 +55,11 @@ text_of_nothing : text_of nothing ≡ codes "VER 1.0\nVAR 0\nINT 0\nOBJ min\n0\n
 unfolding frac gcd gcd_within digits
 text_of_nothing = refl
 
+-- the same one, maximised
+text_of_maximised : text_of (record nothing { part = record nothing.part { sense = Maximise } }) ≡ codes "VER 1.0\nVAR 0\nINT 0\nOBJ max\n0\nCON 0 0\nRTP range 0 0\nSOL 1\nS0 0\nDER 0\n"
+unfolding frac gcd gcd_within digits
+text_of_maximised = refl
+
 -- the text doesn't show how many numbers a point has, if those behind are 0
 text_of_no_number : text_of (record nothing { points = [] ∷ [] }) ≡ text_of nothing
 unfolding frac gcd gcd_within digits
@@ -60,7 +67,7 @@ text_of_no_number = refl
 
 -- nor where a name ends that has a line feed
 abbrev named : List (List ℕ) → Cert
-named names = record nothing { part = record { names = names; objective = []; rows = [] } }
+named names = record nothing { part = record { names = names; objective = []; sense = Minimise; rows = [] } }
 
 text_of_broken_names : text_of (named (codes "x\ny" ∷ codes "z" ∷ [])) ≡ text_of (named (codes "x" ∷ codes "y\nz" ∷ []))
 unfolding frac gcd gcd_within digits

@@ -7,6 +7,8 @@ use Rattle.fraction.specs.Spelling.{fraction_text}
 use Rattle.fraction.specs.Rational.{ℚ}
 use Rattle.problem.specs.declared.row.Sense.{Sense}
 use Rattle.problem.specs.declared.row.Sense.TheVariants.{G, L, E}
+use Rattle.problem.specs.declared.objective_sense.ObjectiveSense.{ObjectiveSense}
+use Rattle.problem.specs.declared.objective_sense.ObjectiveSense.TheVariants.{Minimise, Maximise}
 use Rattle.cert_rows.specs.declared.line.CertRow.{CertRow}
 use Rattle.cert_rows.specs.declared.line.Why.{Why}
 use Rattle.cert_rows.specs.declared.line.Why.TheVariants.{Asm, Lin, Rnd, Uns}
@@ -108,6 +110,11 @@ count_line word k = word ++ decimal k ++ codes "\n"
 abbrev pub name_line : List ℕ → List ℕ
 name_line name = name ++ codes "\n"
 
+-- whether the objective is minimised or maximised (VIPR 1.0, OBJ)
+abbrev pub sense_line : ObjectiveSense → List ℕ
+sense_line Minimise = codes "OBJ min\n"
+sense_line Maximise = codes "OBJ max\n"
+
 -- the objective's terms
 abbrev pub objective_line : Terms → List ℕ
 objective_line ts = spelled_terms ts ++ codes "\n"
@@ -127,7 +134,7 @@ integers_text n = count_line (codes "INT ") n ++ integer_line n
 
 -- the objective and the rows (VIPR 1.0, OBJ and CON)
 abbrev pub rows_text : Part → List ℕ
-rows_text p = codes "OBJ min\n" ++ (objective_line p.objective ++ (constraint_line (length p.rows) (length p.names) ++ flat_map row_line p.rows))
+rows_text p = sense_line p.sense ++ (objective_line p.objective ++ (constraint_line (length p.rows) (length p.names) ++ flat_map row_line p.rows))
 
 -- the problem: its names, which columns are whole, its objective and rows
 abbrev pub problem_text : Part → List ℕ

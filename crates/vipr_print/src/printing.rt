@@ -3,7 +3,7 @@ ghost use Rattle.std.specs.Prelude.{◌≡◌, ◌++◌, List, ℕ, OnOk, OnErr,
 ghost use Rattle.std.specs.List.{flat_map};
 ghost use Rattle.outside.specs.Faults.{Counts};
 ghost use Rattle.outside.specs.Stream.{AppendsPrefix};
-ghost use Rattle.vipr_print.specs.Spelling.{name_line, row_line, point_lines, derived_line, names_text, integers_text, rows_text, problem_text, claim_text, derived_text, text_of};
+ghost use Rattle.vipr_print.specs.Spelling.{name_line, row_line, point_lines, derived_line, names_text, integers_text, sense_line, rows_text, problem_text, claim_text, derived_text, text_of};
 ghost use Rattle.vipr_print.specs.Printed.{IsPrinted, is_sink_fault};
 
 use crate::fault::PrintFault;
@@ -13,7 +13,7 @@ use crate::lines::{
 };
 use cert_rows::{Cert, CertRow, CertRows, Derived, Goal, Part, Points, Why};
 use outside::Sink;
-use problem::{Names, Point};
+use problem::{Names, ObjectiveSense, Point};
 use std::alloc::Global;
 
 fn print_each_name<C: Sink>(
@@ -57,10 +57,25 @@ fn print_each_row<C: Sink>(
     Ok(())
 }
 
+fn sense_line(sense: ObjectiveSense) -> &'static [u8]
+    ensures { result.now ≡ sense_line sense }
+{
+    match sense {
+        ObjectiveSense::Minimise => b"OBJ min\n",
+        ObjectiveSense::Maximise => b"OBJ max\n",
+    }
+}
+
+fn print_sense<C: Sink>(sink: &mut C, sense: ObjectiveSense) -> Result<(), PrintFault>
+    ensures { IsPrinted C.tells (C.taken sink.old) (C.taken sink.new) (C.faults sink.old) (C.faults sink.new) (sense_line sense) result }
+{
+    write_line(sink, sense_line(sense))
+}
+
 fn print_rows<C: Sink>(sink: &mut C, line: &mut Vec<u8>, part: &Part) -> Result<(), PrintFault>
     ensures { IsPrinted C.tells (C.taken sink.old) (C.taken sink.new) (C.faults sink.old) (C.faults sink.new) (rows_text part.now) result }
 {
-    write_line(sink, b"OBJ min\n")?;
+    print_sense(sink, part.sense)?;
     print_objective(sink, line, &part.objective)?;
     let rows = part.rows.as_slice();
     print_constraints(sink, line, rows.len(), part.names.len())?;

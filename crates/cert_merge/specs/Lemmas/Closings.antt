@@ -1,40 +1,61 @@
 -- Lemmas: the lines of closed nodes follow from the lines before them.
 use Rattle.std.specs.Prelude.{◌≡◌, ℕ, pos, Bool, true, false, cond, nat_lt, eqb, List, [], ◌∷◌, All, refl}
-use Rattle.std.proofs.Common.{sym, subst, inl, inr}
+use Rattle.std.proofs.Common.{sym, ap, ◌∙◌, subst, inl, inr}
 use Rattle.std.proofs.lemmas.List.Elements.{All-nil, All-cons, All-head, All-tail}
-use Rattle.fraction.specs.Rational.{ℚ, whole, ceil, ◌≤ℚ◌}
+use Rattle.fraction.specs.Rational.{ℚ, whole, floor, ceil, neg_ℚ, ◌≤ℚ◌}
+use Rattle.fraction.specs.Lemmas.Rational.{≤ℚ_trans}
 use Rattle.fraction.specs.Order.{◌<ℚ◌}
-use Rattle.problem.specs.declared.row.Sense.TheVariants.{G}
+use Rattle.problem.specs.declared.objective_sense.ObjectiveSense.{ObjectiveSense}
+use Rattle.problem.specs.declared.objective_sense.ObjectiveSense.TheVariants.{Minimise, Maximise}
 use Rattle.problem.specs.declared.row.Row.{Row}
 use Rattle.problem.specs.Linear.{coefficient}
+use Rattle.problem.specs.Directions.{negated, directed, directed_value}
+use Rattle.problem.specs.Lemmas.Directions.{neg-≤ℚ}
 use Rattle.cert_rows.specs.declared.line.Why.TheVariants.{Lin, Rnd}
 use Rattle.cert_rows.specs.Lines.{CertLine, assumed_by}
 use Rattle.cert_rows.specs.Assumptions.{inserted, union, without, assumed_by_all}
-use Rattle.cert_rows.specs.Validity.{Follows}
+use Rattle.cert_rows.specs.Validity.{Follows, bound_sense}
+use Rattle.cert_merge.specs.Merged.{absurd_row}
 use Rattle.cert_merge.specs.Laws.{Closes}
+use Rattle.cert_merge.specs.Lemmas.Negated.{whole_negated, floor-neg, terms_negated, rhs_negated, combination_negated, own_terms}
 use Rattle.fraction.specs.Whole.{IsWhole}
 
-abbrev g_row : ℚ → List (ℕ × ℚ) → Row
-g_row rhs terms = record { sense = G; rhs = rhs; terms = terms }
+-- the row that bounds the own objective, by a bound of what is minimised
+abbrev bound_row : ObjectiveSense → ℚ → List (ℕ × ℚ) → Row
+bound_row s z terms = record { sense = bound_sense s; rhs = directed_value s z; terms = terms }
 
 -- a bound that the price reaches
-pub follows-bound : (ls : List CertLine) (target : List (ℕ × ℚ)) (p z : ℚ) (ms : List (ℕ × ℚ)) → Closes ls target p ms → z ≤ℚ p → Follows ls (g_row z target) (Lin ms)
-follows-bound ls target p z ms c h = record {
+pub follows-bound : (s : ObjectiveSense) (ls : List CertLine) (terms : List (ℕ × ℚ)) (p z : ℚ) (ms : List (ℕ × ℚ)) → Closes ls (directed s terms) p ms → z ≤ℚ p
+    → Follows ls (bound_row s z terms) (Lin (directed s ms))
+follows-bound Minimise ls terms p z ms c h = record {
   combined = c.combined;
   dominates = inr (record { sense = refl; terms = c.terms; rhs = subst (λ v. z ≤ℚ v) (sym c.rhs) h });
 }
+follows-bound Maximise ls terms p z ms c h = record {
+  combined = combination_negated ls ms c.combined;
+  dominates = inr (record { sense = refl; terms = own_terms ls terms p ms c; rhs = subst (λ v. v ≤ℚ neg_ℚ z) (sym (rhs_negated ls ms ∙ ap neg_ℚ c.rhs)) (neg-≤ℚ z p h) });
+}
 
 -- a bound that the price reaches once it is rounded up
-pub follows-rounded : (ls : List CertLine) (target : List (ℕ × ℚ)) (p z : ℚ) (ms : List (ℕ × ℚ)) → Closes ls target p ms → ((j : ℕ) → IsWhole (coefficient target j))
-    → z ≤ℚ whole (ceil p) → Follows ls (g_row z target) (Rnd ms)
-follows-rounded ls target p z ms c w h = record {
+pub follows-rounded : (s : ObjectiveSense) (ls : List CertLine) (terms : List (ℕ × ℚ)) (p z : ℚ) (ms : List (ℕ × ℚ)) → Closes ls (directed s terms) p ms
+    → ((j : ℕ) → IsWhole (coefficient (directed s terms) j)) → z ≤ℚ whole (ceil p) → Follows ls (bound_row s z terms) (Rnd (directed s ms))
+follows-rounded Minimise ls terms p z ms c w h = record {
   combined = c.combined;
   whole_terms = λ j. subst IsWhole (sym (c.terms j)) (w j);
   dominates = inr (record { sense = refl; terms = c.terms; rhs = subst (λ v. z ≤ℚ whole (ceil v)) (sym c.rhs) h });
 }
+follows-rounded Maximise ls terms p z ms c w h = record {
+  combined = combination_negated ls ms c.combined;
+  whole_terms = λ j. subst IsWhole (sym (terms_negated ls ms j ∙ ap neg_ℚ (c.terms j))) (whole_negated (coefficient (negated terms) j) (w j));
+  dominates = inr (record {
+    sense = refl;
+    terms = own_terms ls terms p ms c;
+    rhs = subst (λ v. whole (floor v) ≤ℚ neg_ℚ z) (sym (rhs_negated ls ms ∙ ap neg_ℚ c.rhs)) (≤ℚ_trans _ _ _ (floor-neg p) (neg-≤ℚ z (whole (ceil p)) h));
+  });
+}
 
 -- a price above 0 of the zero target
-pub follows-refute : (ls : List CertLine) (p : ℚ) (ms : List (ℕ × ℚ)) → Closes ls [] p ms → whole (pos 0) <ℚ p → Follows ls (g_row (whole (pos 1)) []) (Lin ms)
+pub follows-refute : (ls : List CertLine) (p : ℚ) (ms : List (ℕ × ℚ)) → Closes ls [] p ms → whole (pos 0) <ℚ p → Follows ls absurd_row (Lin ms)
 follows-refute ls p ms c h = record {
   combined = c.combined;
   dominates = inl (record { no_terms = c.terms; excludes = subst (λ v. whole (pos 0) <ℚ v) (sym c.rhs) h });

@@ -8,7 +8,6 @@ use Rattle.fraction.specs.Rational.{ℚ}
 use Rattle.problem_box.specs.declared.span.Span.{Span}
 use Rattle.problem.specs.declared.row.Row.{Row}
 use Rattle.problem.specs.Problem.{Problem}
-use Rattle.problem.specs.Feasible.{objective_at}
 use Rattle.problem.specs.Limited.{IsLimited}
 use Rattle.node_tree.specs.declared.branch.Node.{Node}
 use Rattle.node_tree.specs.Nodes.{children_at}
@@ -36,6 +35,7 @@ use Rattle.event_core.specs.Lemmas.Ended.{left_within, leaves-length, count-ende
 use Rattle.event_core.specs.Lemmas.Sounding.{IsKept, first_kept, kept_after, kept_sound, legal_kept, is_improvement, better_cutoff}
 use Rattle.cert_merge.specs.Endings.{closing, proof_of}
 use Rattle.cert_merge.specs.Numbers.{IsNumbered}
+use Rattle.problem.specs.Directions.{aim_at}
 
 -- ---- the proof of a node, one event more
 or_none : (o : Option Proof) → option_or o None ≡ o
@@ -176,7 +176,7 @@ proved_after s es w (Release i) k l h =
     unchanged s (after s w (Release i)) es (record { worker = w; event = Release i }) refl refl refl [] (sym (append-nil s.cuts)) (same_cutoff (cutoff s)) (λ n. refl) h
 proved_after s es w (CutEvent mult) k l h = kept_by_cut s es (record { worker = w; event = CutEvent mult }) mult (rounded_row s.problem s.cuts mult) (λ n. refl) h
 proved_after s es w (Offer x) k l h =
-    unchanged s (after s w (Offer x)) es (record { worker = w; event = Offer x }) refl refl refl [] (sym (append-nil s.cuts)) (better_cutoff s.incumbent (objective_at s.problem x) (is_improvement s w x l).better) (λ n. refl) h
+    unchanged s (after s w (Offer x)) es (record { worker = w; event = Offer x }) refl refl refl [] (sym (append-nil s.cuts)) (better_cutoff s.incumbent (aim_at s.problem x) (is_improvement s w x l).better) (λ n. refl) h
 proved_after s es w (Split i j b reason) k l h = split_proved s es w i j b reason k l h
 proved_after s es w (Close i proof) k l h = close_proved s es w i proof l h
 

@@ -17,6 +17,8 @@ use Rattle.problem_box.specs.Lemmas.Boxes.{Decides-int_le, Decides-in_box}
 use Rattle.problem.specs.declared.row.Sense.{Sense}
 use Rattle.problem.specs.declared.row.Sense.TheVariants.{G, L, E}
 use Rattle.problem.specs.declared.row.Row.{Row}
+use Rattle.problem.specs.declared.objective_sense.ObjectiveSense.{ObjectiveSense}
+use Rattle.problem.specs.declared.objective_sense.ObjectiveSense.TheVariants.{Minimise, Maximise}
 use Rattle.problem.specs.Linear.{value, coefficient, SameCoefficients}
 use Rattle.problem.specs.Rows.{Compares, Satisfies}
 use Rattle.problem.specs.Problem.{Problem}
@@ -30,7 +32,7 @@ use Rattle.cert_rows.specs.declared.certificate.Cert.{Cert}
 use Rattle.cert_rows.specs.Lines.{CertLine, row_of, row_at, assumed_by}
 use Rattle.cert_rows.specs.Combination.{HasRightSign, combination}
 use Rattle.cert_rows.specs.Domination.{ExcludesZero, IsAbsurd, IsAsTight, IsStronger, Dominates}
-use Rattle.cert_rows.specs.Validity.{IsCombination, HasWholeCoefficients, rounded, IsAssumption, IsSplit, IsLinear, IsRounded, IsInequality, IsUnsplit, Follows, derived_line_of, AllFollow, bound_rows, given_lines, last_row, last_assumed, objective_row, ShowsClaim, IsValid}
+use Rattle.cert_rows.specs.Validity.{IsCombination, HasWholeCoefficients, rounded, IsAssumption, IsSplit, IsLinear, IsRounded, IsInequality, IsUnsplit, Follows, derived_line_of, AllFollow, bound_rows, given_lines, last_row, last_assumed, objective_row, ShowsRange, ShowsClaim, IsValid}
 use Rattle.fraction.specs.Whole.{IsWhole}
 
 pub never : {P : Type 0} → (P → ⊥) → Decides false P
@@ -346,29 +348,52 @@ decides-feasible p x = Decides-like _ (λ h. record { in_box = h.0; rows = h.1 }
     (Decides-and (is_in_box p.spans x) (list_all (λ r. compares r.sense r.rhs (value r.terms x)) p.rows) (Decides-in_box p.spans x)
     (decides-all (λ r. compares r.sense r.rhs (value r.terms x)) (Satisfies x) (λ r. decides-compares r.sense r.rhs (value r.terms x)) p.rows))
 
+abbrev directions_eq : ObjectiveSense → ObjectiveSense → Bool
+directions_eq Minimise Minimise = true
+directions_eq Maximise Maximise = true
+directions_eq s t = false
+
+decides-direction : (s t : ObjectiveSense) → Decides (directions_eq s t) (s ≡ t)
+decides-direction Minimise Minimise = always refl
+decides-direction Minimise Maximise = never (λ e. cc)
+decides-direction Maximise Minimise = never (λ e. cc)
+decides-direction Maximise Maximise = always refl
+
+abbrev shows_range : ObjectiveSense → Problem → Cert → ℚ → ℚ → Bool
+shows_range Minimise p c lb ub = dominates (last_row c) (objective_row p lb) && list_any (λ x. q_le (objective_at p x) ub) c.points
+shows_range Maximise p c lb ub = dominates (last_row c) (objective_row p ub) && list_any (λ x. q_le lb (objective_at p x)) c.points
+
+decides-range : (s : ObjectiveSense) (p : Problem) (c : Cert) (lb ub : ℚ) → Decides (shows_range s p c lb ub) (ShowsRange s p c lb ub)
+decides-range Minimise p c lb ub =
+    Decides-and (dominates (last_row c) (objective_row p lb)) (list_any (λ x. q_le (objective_at p x) ub) c.points) (decides-dominates (last_row c) (objective_row p lb))
+    (decides-any (λ x. q_le (objective_at p x) ub) (λ x. objective_at p x ≤ℚ ub) (λ x. decides-q_le (objective_at p x) ub) c.points)
+decides-range Maximise p c lb ub =
+    Decides-and (dominates (last_row c) (objective_row p ub)) (list_any (λ x. q_le lb (objective_at p x)) c.points) (decides-dominates (last_row c) (objective_row p ub))
+    (decides-any (λ x. q_le lb (objective_at p x)) (λ x. lb ≤ℚ objective_at p x) (λ x. decides-q_le lb (objective_at p x)) c.points)
+
 abbrev shows_claim : Problem → Cert → Goal → Bool
 shows_claim p c Infeas = is_absurd (last_row c)
-shows_claim p c (Range lb ub) = dominates (last_row c) (objective_row p lb) && list_any (λ x. q_le (objective_at p x) ub) c.points
+shows_claim p c (Range lb ub) = shows_range p.sense p c lb ub
 
 decides-claim : (p : Problem) (c : Cert) (g : Goal) → Decides (shows_claim p c g) (ShowsClaim p c g)
 decides-claim p c Infeas = decides-absurd (last_row c)
-decides-claim p c (Range lb ub) =
-    Decides-and (dominates (last_row c) (objective_row p lb)) (list_any (λ x. q_le (objective_at p x) ub) c.points) (decides-dominates (last_row c) (objective_row p lb))
-    (decides-any (λ x. q_le (objective_at p x) ub) (λ x. objective_at p x ≤ℚ ub) (λ x. decides-q_le (objective_at p x) ub) c.points)
+decides-claim p c (Range lb ub) = decides-range p.sense p c lb ub
 
 abbrev pub is_valid : Problem → Cert → Bool
 is_valid p c =
-    lists_eq (lists_eq eqb) c.part.names p.names && (terms_eq c.part.objective p.objective && (lists_eq row_eq (map row_of c.part.rows) (p.rows ++ bound_rows 0 p.spans)
-    && (list_all (is_feasible p) c.points && (all_follow (given_lines c.part.rows) c.lines && (lists_eq eqb (last_assumed c) [] && shows_claim p c c.claim)))))
+    lists_eq (lists_eq eqb) c.part.names p.names && (terms_eq c.part.objective p.objective && (directions_eq c.part.sense p.sense
+    && (lists_eq row_eq (map row_of c.part.rows) (p.rows ++ bound_rows 0 p.spans) && (list_all (is_feasible p) c.points
+    && (all_follow (given_lines c.part.rows) c.lines && (lists_eq eqb (last_assumed c) [] && shows_claim p c c.claim))))))
 
 -- the test is true exactly where the certificate is valid
 pub IsValid-decided : (p : Problem) (c : Cert) → Decides (is_valid p c) (IsValid p c)
 IsValid-decided p c = Decides-like _
-    (λ h. record { names = h.0; objective = h.1.0; rows = h.1.1.0; solutions = h.1.1.1.0; lines = h.1.1.1.1.0; unconditional = h.1.1.1.1.1.0; claim = h.1.1.1.1.1.1 })
-    (λ v. (v.names, (v.objective, (v.rows, (v.solutions, (v.lines, (v.unconditional, v.claim)))))))
+    (λ h. record { names = h.0; objective = h.1.0; sense = h.1.1.0; rows = h.1.1.1.0; solutions = h.1.1.1.1.0; lines = h.1.1.1.1.1.0; unconditional = h.1.1.1.1.1.1.0; claim = h.1.1.1.1.1.1.1 })
+    (λ v. (v.names, (v.objective, (v.sense, (v.rows, (v.solutions, (v.lines, (v.unconditional, v.claim))))))))
     (Decides-and _ _ (decides-lists (lists_eq eqb) (decides-lists eqb Decides-eqb) c.part.names p.names)
     (Decides-and _ _ (decides-lists term_eq decides-term c.part.objective p.objective)
+    (Decides-and _ _ (decides-direction c.part.sense p.sense)
     (Decides-and _ _ (decides-lists row_eq decides-row (map row_of c.part.rows) (p.rows ++ bound_rows 0 p.spans))
     (Decides-and _ _ (decides-all (is_feasible p) (IsFeasible p) (decides-feasible p) c.points)
     (Decides-and _ _ (decides-all_follow (given_lines c.part.rows) c.lines)
-    (Decides-and _ _ (decides-lists eqb Decides-eqb (last_assumed c) []) (decides-claim p c c.claim)))))))
+    (Decides-and _ _ (decides-lists eqb Decides-eqb (last_assumed c) []) (decides-claim p c c.claim))))))))

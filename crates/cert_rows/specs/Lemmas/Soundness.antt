@@ -9,11 +9,13 @@ use Rattle.fraction.specs.Lemmas.Order.{whole-≤ℚ}
 use Rattle.problem_box.specs.declared.span.Span.{Span}
 use Rattle.problem_box.specs.Boxes.{IsInBox}
 use Rattle.problem.specs.declared.row.Row.{Row}
+use Rattle.problem.specs.declared.objective_sense.ObjectiveSense.{ObjectiveSense}
+use Rattle.problem.specs.declared.objective_sense.ObjectiveSense.TheVariants.{Minimise, Maximise}
 use Rattle.problem.specs.Linear.{value, number_at}
 use Rattle.fraction.specs.Lemmas.Ring.{+ℚ-zero}
-use Rattle.problem.specs.Rows.{Satisfies}
+use Rattle.problem.specs.Rows.{Compares, Satisfies}
 use Rattle.problem.specs.Problem.{Problem}
-use Rattle.problem.specs.Feasible.{IsFeasible}
+use Rattle.problem.specs.Feasible.{IsFeasible, objective_at}
 use Rattle.problem.specs.Best.{IsVoid}
 use Rattle.cert_rows.specs.declared.line.CertRow.{CertRow}
 use Rattle.cert_rows.specs.declared.line.Why.{Why}
@@ -23,11 +25,12 @@ use Rattle.cert_rows.specs.declared.certificate.Goal.TheVariants.{Infeas, Range}
 use Rattle.cert_rows.specs.declared.certificate.Cert.{Cert}
 use Rattle.cert_rows.specs.Lines.{CertLine, row_of, row_at, assumed_by, no_cert_line}
 use Rattle.cert_rows.specs.Combination.{combination}
+use Rattle.cert_rows.specs.Domination.{Dominates}
 use Rattle.cert_rows.specs.Assumptions.{assumes, assumed_by_all, without}
-use Rattle.cert_rows.specs.Validity.{Follows, IsLinear, IsRounded, IsUnsplit, rounded, derived_line_of, with_derived, AllFollow, lower_row, upper_row, bound_rows, given_lines, all_lines, last_row, objective_row, ShowsClaim, IsValid}
+use Rattle.cert_rows.specs.Validity.{Follows, IsLinear, IsRounded, IsUnsplit, rounded, derived_line_of, with_derived, AllFollow, lower_row, upper_row, bound_rows, given_lines, all_lines, last_row, bound_sense, objective_row, ShowsRange, ShowsClaim, IsValid}
 use Rattle.cert_rows.specs.Lemmas.Signs.{Satisfies-combination, Satisfies-dominated, Satisfies-rounded, Satisfies-split, none-absurd}
 use Rattle.cert_rows.specs.Lemmas.Held.{All-union, All-without, All-assumed}
-use Rattle.cert_rows.specs.Soundness.{IsBetween}
+use Rattle.cert_rows.specs.Soundness.{IsInRange}
 
 -- the point satisfies the line, if it satisfies its assumptions
 abbrev pub HoldsUnderAssumptions : List ℤ → List CertLine → CertLine → Type 0
@@ -135,14 +138,27 @@ last_holds p c v x f =
 
 abbrev pub ClaimHolds : Problem → Cert → Goal → Type 0
 ClaimHolds p c Infeas = IsVoid p
-ClaimHolds p c (Range lb ub) = IsBetween p c lb ub
+ClaimHolds p c (Range lb ub) = IsInRange p.sense p c lb ub
+
+-- each feasible point is on the good side of the bound that the last line shows
+bounded : (p : Problem) (c : Cert) (bound : ℚ) → IsValid p c → Dominates (last_row c) (objective_row p bound) → (x : List ℤ) → IsFeasible p x
+    → (s : ObjectiveSense) → p.sense ≡ s → Compares (bound_sense s) bound (objective_at p x)
+bounded p c bound v d x f s e =
+    subst (λ (t : ObjectiveSense). Compares (bound_sense t) bound (objective_at p x)) e (Satisfies-dominated x (last_row c) (objective_row p bound) d (last_holds p c v x f))
+
+in_range : (s : ObjectiveSense) (p : Problem) (c : Cert) (lb ub : ℚ) → p.sense ≡ s → IsValid p c → ShowsRange s p c lb ub → IsInRange s p c lb ub
+in_range Minimise p c lb ub e v h = record {
+  below = λ x f. bounded p c lb v h.0 x f Minimise e;
+  listed = let a = h.1 in (a.0, a.1, a.2, a.3, (subst (IsFeasible p) a.3 (v.solutions a.0 a.1 a.2), a.4));
+}
+in_range Maximise p c lb ub e v h = record {
+  above = λ x f. bounded p c ub v h.0 x f Maximise e;
+  listed = let a = h.1 in (a.0, a.1, a.2, a.3, (subst (IsFeasible p) a.3 (v.solutions a.0 a.1 a.2), a.4));
+}
 
 claimed : (p : Problem) (c : Cert) (g : Goal) → IsValid p c → ShowsClaim p c g → ClaimHolds p c g
 claimed p c Infeas v s = λ x f. none-absurd x (last_row c) s (last_holds p c v x f)
-claimed p c (Range lb ub) v s = record {
-  below = λ x f. Satisfies-dominated x (last_row c) (objective_row p lb) s.0 (last_holds p c v x f);
-  listed = let a = s.1 in (a.0, a.1, a.2, a.3, (subst (IsFeasible p) a.3 (v.solutions a.0 a.1 a.2), a.4));
-}
+claimed p c (Range lb ub) v s = in_range p.sense p c lb ub refl v s
 
 pub claim_holds : (p : Problem) (c : Cert) → IsValid p c → ClaimHolds p c c.claim
 claim_holds p c v = claimed p c c.claim v v.claim
