@@ -1,8 +1,8 @@
 //! The program `bnc`, which solves integer programs and proves its answers. Its commands:
 //!
-//! - `bnc solve MODEL JOURNAL CERT [--nodes N] [--cuts C] [--workers W] [--upper U]` reads an integer program in free MPS from MODEL, minimises its
-//!   objective, writes a VIPR 1.0 certificate of the answer to CERT, and prints a few lines. It keeps each event of its search in JOURNAL, and goes on
-//!   from there where JOURNAL has some.
+//! - `bnc solve MODEL JOURNAL CERT [--nodes N] [--cuts C] [--workers W] [--upper U]` reads an integer program in free MPS from MODEL, minimises or
+//!   maximises its objective, writes a VIPR 1.0 certificate of the answer to CERT, and prints a few lines. It keeps each event of its search in
+//!   JOURNAL, and goes on from there where JOURNAL has some.
 //! - `bnc resume JOURNAL CERT [--nodes N] [--cuts C] [--workers W]` does the same, the model and U being those of JOURNAL.
 //! - `bnc show JOURNAL` prints how far the search of JOURNAL has come, and changes nothing.
 //! - `bnc drill SEED CERT [--nodes N] [--cuts C] [--workers W]` solves a model that is made from SEED, 0 to 1,000,000,000, with its journal in memory.

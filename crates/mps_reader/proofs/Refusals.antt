@@ -113,7 +113,7 @@ module _ {B H : Type 0} (st : Tables B H) (s : Sections) (h : HasData st s) (upp
     module _ (ss : List Span) (k : spans_or_fault upper (table st.bounds.limits.entries) (table st.columns.columns.entries) ≡ Ok ss) (names : List (List ℕ)) (n : names ≡ map (λ c. c.0) (table st.columns.columns.entries))
         (rows : List Row) (r : rows ≡ made_rows st.rhs.numbers st.ranges.numbers 0 (table st.rows.entries) st.columns.rows) (spans : List Span) (z : spans ≡ ss) where
       abbrev pub Made : Problem
-      Made = record { names = names; rows = rows; objective = objective; spans = spans }
+      Made = record { names = names; rows = rows; objective = objective; sense = st.order.sense; spans = spans }
 
       pub made_is : Made ≡ problem_of upper s
       made_is =
@@ -122,6 +122,7 @@ module _ {B H : Type 0} (st : Tables B H) (s : Sections) (h : HasData st s) (upp
             names = (n ∙ ap (λ cs. map (λ c. c.0) cs) h.entries.columns) i;
             rows = (r ∙ rows_same) i;
             objective = named_by.1 i;
+            sense = h.sense i;
             spans = (z ∙ q.1) i;
           }
 

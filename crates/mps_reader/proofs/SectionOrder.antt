@@ -1,5 +1,5 @@
 -- Lemmas: the order of the sections, by the last word and what has come.
-use Rattle.std.specs.Prelude.{◌≡◌, Bool, true, false, ◌==◌, ◌&&◌, not, List, ◌∷◌, Some, length, drop, []}
+use Rattle.std.specs.Prelude.{◌≡◌, Bool, true, false, ◌==◌, ◌&&◌, not, List, ◌∷◌, Some, drop, []}
 use Rattle.std.specs.List.{list_any}
 use Rattle.std.proofs.Common.{refl, ap, ◌∙◌}
 use Rattle.mps_lines.specs.Lines.{Line}
@@ -24,12 +24,12 @@ end_follows words = ap (λ b. (stage words == 4) && not b) (no_end_yet words) �
     and_not_false false = refl
 
 module _ (o : Order) (s : Sections) (h : HasOrder o s) where
-  pub order_held : (line : Line) (word : Section) → HasOrder (order_after word (not (length (drop 1 line.fields) == 0)) o) (with_word (Some word) s line)
-  order_held line section.Name = record { last = refl; rhs = h.rhs; ranges = h.ranges; bounds = h.bounds; sense = h.sense }
-  order_held line section.ObjSense = record { last = refl; rhs = h.rhs; ranges = h.ranges; bounds = h.bounds; sense = refl }
-  order_held line section.Rows = record { last = refl; rhs = h.rhs; ranges = h.ranges; bounds = h.bounds; sense = h.sense }
-  order_held line section.Columns = record { last = refl; rhs = h.rhs; ranges = h.ranges; bounds = h.bounds; sense = h.sense }
-  order_held line section.Rhs = record { last = refl; rhs = refl; ranges = h.ranges; bounds = h.bounds; sense = h.sense }
-  order_held line section.Ranges = record { last = refl; rhs = h.rhs; ranges = refl; bounds = h.bounds; sense = h.sense }
-  order_held line section.Bounds = record { last = refl; rhs = h.rhs; ranges = h.ranges; bounds = refl; sense = h.sense }
-  order_held line section.EndData = record { last = refl; rhs = h.rhs; ranges = h.ranges; bounds = h.bounds; sense = h.sense }
+  pub order_held : (line : Line) (word : Section) → HasOrder (order_after word (drop 1 line.fields) o) (with_word (Some word) s line)
+  order_held line section.Name = record { last = refl; rhs = h.rhs; ranges = h.ranges; bounds = h.bounds; sense = h.sense; asked_for = h.asked_for }
+  order_held line section.ObjSense = record { last = refl; rhs = h.rhs; ranges = h.ranges; bounds = h.bounds; sense = refl; asked_for = refl }
+  order_held line section.Rows = record { last = refl; rhs = h.rhs; ranges = h.ranges; bounds = h.bounds; sense = h.sense; asked_for = h.asked_for }
+  order_held line section.Columns = record { last = refl; rhs = h.rhs; ranges = h.ranges; bounds = h.bounds; sense = h.sense; asked_for = h.asked_for }
+  order_held line section.Rhs = record { last = refl; rhs = refl; ranges = h.ranges; bounds = h.bounds; sense = h.sense; asked_for = h.asked_for }
+  order_held line section.Ranges = record { last = refl; rhs = h.rhs; ranges = refl; bounds = h.bounds; sense = h.sense; asked_for = h.asked_for }
+  order_held line section.Bounds = record { last = refl; rhs = h.rhs; ranges = h.ranges; bounds = refl; sense = h.sense; asked_for = h.asked_for }
+  order_held line section.EndData = record { last = refl; rhs = h.rhs; ranges = h.ranges; bounds = h.bounds; sense = h.sense; asked_for = h.asked_for }

@@ -21,7 +21,7 @@ use Rattle.mps_reader.specs.declared.kinds.Section.TheVariants as section
 use Rattle.mps_reader.specs.declared.kinds.RowType.{RowType}
 use Rattle.mps_reader.specs.declared.sides.Sides.{Sides}
 use Rattle.mps_reader.specs.declared.tables.Tables.{Tables}
-use Rattle.mps_reader.specs.SectionTables.{HoldsSections, with_section, more_of}
+use Rattle.mps_reader.specs.SectionTables.{HoldsSections, with_section, rest_of}
 
 -- ---- a data line
 module _ (s : Sections) (line : Line) (d : line.is_data ≡ true) (o : Option Section) (l : o ≡ last_word s.words) where
@@ -71,7 +71,7 @@ module _ {B H : Type 0} (st : Tables B H) (s : Sections) (h : HoldsSections st s
   pub rows_hold : (new : Tables B H) (line : Line) → new ≡ record st { rows = new.rows; count = new.count; columns = record st.columns { rows = new.columns.rows } }
       → table new.rows.entries ≡ rows_of (line ∷ s.rows) → new.columns.rows ≡ new_rows (table new.rows.entries) → HoldsSections new (with_data_in (Some section.Rows) s line)
   rows_hold new line e r k = subst (λ (n : Tables B H). HoldsSections n (record s { rows = line ∷ s.rows })) (sym e) (record {
-    order = record { last = h.order.last; rhs = h.order.rhs; ranges = h.order.ranges; bounds = h.order.bounds; sense = h.order.sense };
+    order = record { last = h.order.last; rhs = h.order.rhs; ranges = h.order.ranges; bounds = h.order.bounds; sense = h.order.sense; asked_for = h.order.asked_for };
     rows_at = h.rows_at;
     rows = r;
     entries = record {
@@ -93,7 +93,7 @@ module _ {B H : Type 0} (st : Tables B H) (s : Sections) (h : HoldsSections st s
 pub bounds_hold : {B H : Type 0} (st new : Tables B H) (s : Sections) (line : Line) → HoldsSections st s → new ≡ record st { bounds = new.bounds }
     → HasBounds new.bounds (with_bound (bound_at line.fields) (bounds_of s.bounds)) → HoldsSections new (record s { bounds = line ∷ s.bounds })
 bounds_hold {B} {H} st new s line h e c = subst (λ (n : Tables B H). HoldsSections n (record s { bounds = line ∷ s.bounds })) (sym e) (record {
-  order = record { last = h.order.last; rhs = h.order.rhs; ranges = h.order.ranges; bounds = h.order.bounds; sense = h.order.sense };
+  order = record { last = h.order.last; rhs = h.order.rhs; ranges = h.order.ranges; bounds = h.order.bounds; sense = h.order.sense; asked_for = h.order.asked_for };
   rows_at = h.rows_at;
   rows = h.rows;
   entries = h.entries;
@@ -118,10 +118,10 @@ early words section.Bounds m l = cc
 early words section.EndData m l = cc
 
 module _ {B H : Type 0} (st : Tables B H) (s : Sections) (line : Line) (h : HoldsSections st s) where
-  held_order : (word : Section) → HasOrder (order_after word (more_of line) st.order) (with_word (Some word) s line)
+  held_order : (word : Section) → HasOrder (order_after word (rest_of line) st.order) (with_word (Some word) s line)
   held_order word = order_held st.order s h.order line word
 
-  pub word_holds : (word : Section) → may_follow s.words word ≡ true → HoldsSections (with_section word (more_of line) line.number st) (with_word (Some word) s line)
+  pub word_holds : (word : Section) → may_follow s.words word ≡ true → HoldsSections (with_section word (rest_of line) line.number st) (with_word (Some word) s line)
   word_holds section.Name m = record { order = held_order section.Name; rows_at = h.rows_at; rows = h.rows; entries = h.entries; no_columns = λ l. h.no_columns (early s.words section.Name m l); marked_is = h.marked_is; rhs = h.rhs; ranges = h.ranges; no_rhs = λ l. h.no_rhs (early s.words section.Name m l); no_ranges = λ l. h.no_ranges (early s.words section.Name m l); bounds = h.bounds }
   word_holds section.ObjSense m = record { order = held_order section.ObjSense; rows_at = h.rows_at; rows = h.rows; entries = h.entries; no_columns = λ l. h.no_columns (early s.words section.ObjSense m l); marked_is = h.marked_is; rhs = h.rhs; ranges = h.ranges; no_rhs = λ l. h.no_rhs (early s.words section.ObjSense m l); no_ranges = λ l. h.no_ranges (early s.words section.ObjSense m l); bounds = h.bounds }
   word_holds section.Rows m = record { order = held_order section.Rows; rows_at = refl; rows = h.rows; entries = h.entries; no_columns = λ l. h.no_columns (early s.words section.Rows m l); marked_is = h.marked_is; rhs = h.rhs; ranges = h.ranges; no_rhs = λ l. h.no_rhs (early s.words section.Rows m l); no_ranges = λ l. h.no_ranges (early s.words section.Rows m l); bounds = h.bounds }
@@ -151,7 +151,7 @@ module _ {B H : Type 0} (st new : Tables B H) (s : Sections) (line : Line) (h : 
   pub known_fault : line_fault s line ≡ word_fault s (drop 1 line.fields) (Some word)
   known_fault = fault_of_word s line d ∙ ap (λ o. word_fault s (drop 1 line.fields) o) w
 
-  pub known_fine : word_fault s (drop 1 line.fields) (Some word) ≡ None → new ≡ with_section word (more_of line) line.number st
+  pub known_fine : word_fault s (drop 1 line.fields) (Some word) ≡ None → new ≡ with_section word (rest_of line) line.number st
       → (line_fault s line ≡ None) × (is_end (Some word) ≡ ends line) × HoldsSections new (with_line s line)
   known_fine f e = (
     known_fault ∙ f,

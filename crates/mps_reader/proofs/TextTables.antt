@@ -59,7 +59,7 @@ at_end : {B H : Type 0} (st : Tables B H) (s : Sections) (line : Line) → ends 
 at_end st s line e h =
     let p = end_parts line e in
     let k : HoldsSections st (with_word (Some section.EndData) s line) = subst (λ (t : Sections). HoldsSections st t) (line_of_word s line p.0 ∙ ap (λ w. with_word w s line) p.1) h in
-    record { rows_at = k.rows_at; rows = k.rows; entries = k.entries; rhs = k.rhs; ranges = k.ranges; bounds = k.bounds }
+    record { sense = k.order.asked_for; rows_at = k.rows_at; rows = k.rows; entries = k.entries; rhs = k.rhs; ranges = k.ranges; bounds = k.bounds }
 
 module _ {B H : Type 0} (text : List ℕ) (st new : Tables B H) (lines rest : Lines) (line : Line) (h : HasFollowed text st lines) (e : left lines ≡ line ∷ left rest) where
   next : sections_in text ≡ sections_from (length (raw_lines text)) h.s (line ∷ left rest)

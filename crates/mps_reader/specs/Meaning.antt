@@ -11,7 +11,7 @@ use Rattle.problem.specs.declared.row.Sense.TheVariants as sense
 use Rattle.problem.specs.Problem.{Problem}
 use Rattle.problem_box.specs.declared.span.Span.{Span}
 use Rattle.mps_reader.specs.Words.{value_under}
-use Rattle.mps_reader.specs.Sections.{Sections, DeclaredRows, DeclaredColumns, RowValues, rows_of, Entry, entries_of, columns_of, number, sides_of, Bound, bounds_of}
+use Rattle.mps_reader.specs.Sections.{Sections, asked, DeclaredRows, DeclaredColumns, RowValues, rows_of, Entry, entries_of, columns_of, number, sides_of, Bound, bounds_of}
 use Rattle.mps_lines.specs.Infinities.{infinite}
 use Rattle.mps_reader.specs.Faults.{◌<|>◌, when}
 use Rattle.mps_reader.specs.declared.kinds.Kind.{Kind}
@@ -186,12 +186,13 @@ abbrev pub objective_terms : Option (List ℕ) → List Entry → Terms
 objective_terms None entries = []
 objective_terms (Some name) entries = terms_of name entries
 
--- the problem of the lines: its names, rows, objective and spans
+-- the problem of the lines: its names, rows, objective with its sense, and spans
 abbrev pub problem_of : Option ℕ → Sections → Problem
 problem_of upper s = record {
   names = map (λ c. c.0) (columns_of (entries_of s.columns));
   rows = flat_map (rows_at (entries_of s.columns) (sides_of s.rhs) (sides_of s.ranges)) (rows_of s.rows);
   objective = objective_terms (objective_name (rows_of s.rows)) (entries_of s.columns);
+  sense = asked s.senses;
   spans = spans_of upper (bounds_on (bounds_of s.bounds)) (columns_of (entries_of s.columns));
 }
 

@@ -1,5 +1,5 @@
 -- The reader's tables are those of the sections so far.
-use Rattle.std.specs.Prelude.{◌≡◌, ℕ, Bool, true, false, ◌==◌, not, nat_lt, drop, length, Option, None, Result, OnOk, IfOk, IfErr, []}
+use Rattle.std.specs.Prelude.{◌≡◌, ℕ, Bool, true, false, nat_lt, drop, List, Option, None, Result, OnOk, IfOk, IfErr, []}
 use Rattle.mps_lines.specs.Lines.{Line}
 use Rattle.mps_reader.specs.BoundTables.{HasBounds}
 use Rattle.mps_reader.specs.Faults.{counted, line_fault, section_fault, stage}
@@ -44,11 +44,11 @@ Steps before after line result = (s : Sections) → HoldsSections before s
     → IfOk result (λ last. (line_fault s line ≡ None) × (last ≡ ends line) × HoldsSections after (with_line s line)) × IfErr result (λ stop. Stops stop (line_fault s line))
 
 -- ---- a section line
--- the tables after a section word on this line
-abbrev pub with_section : {B H : Type 0} → Section → Bool → ℕ → Tables B H → Tables B H
+-- the tables after a section word on the line of this number, with this behind it
+abbrev pub with_section : {B H : Type 0} → Section → List (List ℕ) → ℕ → Tables B H → Tables B H
 with_section section.Rows rest number st = record st { order = order_after section.Rows rest st.order; rows_at = number }
 with_section word rest number st = record st { order = order_after word rest st.order }
 
--- whether more stands on a section line
-abbrev pub more_of : Line → Bool
-more_of line = not (length (drop 1 line.fields) == 0)
+-- what stands on a section line behind its word
+abbrev pub rest_of : Line → List (List ℕ)
+rest_of line = drop 1 line.fields

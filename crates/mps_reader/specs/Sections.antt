@@ -8,7 +8,9 @@ use Rattle.mps_lines.specs.Decimals.{decimal}
 use Rattle.mps_lines.specs.declared.decimals.NumFault.{NumFault}
 use Rattle.mps_lines.specs.Lines.{Line}
 use Rattle.mps_reader.specs.declared.kinds.Column.{Column}
-use Rattle.mps_reader.specs.Words.{section_of, row_type_of, bound_type_of, marker_of}
+use Rattle.mps_reader.specs.Words.{section_of, sense_of, row_type_of, bound_type_of, marker_of}
+use Rattle.problem.specs.declared.objective_sense.ObjectiveSense.{ObjectiveSense}
+use Rattle.problem.specs.declared.objective_sense.ObjectiveSense.TheVariants.{Minimise}
 use Rattle.mps_reader.specs.declared.kinds.Section.{Section}
 use Rattle.mps_reader.specs.declared.kinds.Section.TheVariants as section
 use Rattle.mps_reader.specs.declared.kinds.RowType.{RowType}
@@ -63,6 +65,11 @@ first_field fields = get_or fields 0 []
 -- the lines so far and one more
 abbrev pub with_line : Sections → Line → Sections
 with_line s line = if line.is_data then with_data_in (last_word s.words) s line else with_word (section_of (first_field line.fields)) s line
+
+-- OBJSENSE: the sense that its words ask for; without a word the objective is minimised
+abbrev pub asked : List (List ℕ) → ObjectiveSense
+asked [] = Minimise
+asked (word ∷ words) = unwrap_or (sense_of word) Minimise
 
 -- ROWS: names with their types, in order
 abbrev pub DeclaredRows : Type 0

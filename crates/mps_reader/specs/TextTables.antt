@@ -2,7 +2,7 @@
 use Rattle.std.specs.Prelude.{◌≡◌, ℕ, true, false, List, Result, Ok, Err}
 use Rattle.mps_reader.specs.BoundTables.{HasBounds}
 use Rattle.mps_reader.specs.Reading.{sections_in}
-use Rattle.mps_reader.specs.Sections.{Sections, rows_of, entries_of, bounds_of}
+use Rattle.mps_reader.specs.Sections.{Sections, asked, rows_of, entries_of, bounds_of}
 use Rattle.mps_reader.specs.SideLines.{HasSideLines}
 use Rattle.mps_reader.specs.State.{HasEntries}
 use Rattle.mps_reader.specs.Tables.{table}
@@ -25,6 +25,7 @@ fault_at line stop.Memory = fault.Memory
 
 -- the tables are those of the sections at ENDATA
 pub record HasData {B H : Type 0} (st : Tables B H) (s : Sections) : Type 0 where
+  pub sense : st.order.sense ≡ asked s.senses
   pub rows_at : st.rows_at ≡ s.rows_at
   pub rows : table st.rows.entries ≡ rows_of s.rows
   pub entries : HasEntries st.columns (table st.rows.entries) (entries_of s.columns)

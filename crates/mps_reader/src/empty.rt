@@ -18,6 +18,7 @@ use crate::side_table::SideTable;
 use crate::sides::Sides;
 use crate::tables::Tables;
 use indexmap::IndexMap;
+use problem::ObjectiveSense;
 use std::alloc::Global;
 use std::hash::BuildHasher;
 
@@ -52,6 +53,7 @@ fn no_order() -> Order
         has_ranges: false,
         has_bounds: false,
         has_sense: false,
+        sense: ObjectiveSense::Minimise,
     }
 }
 

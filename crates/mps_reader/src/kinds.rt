@@ -5,8 +5,6 @@
 pub enum Kind {
     /// A section word that is none or may not stand here, or a data line outside its section.
     BadSection,
-    /// The objective is to be a maximum.
-    Maximise,
     /// A wrong count of fields, a field outside the limits, or a type that is none.
     BadFields,
     /// A set's name unlike the one before in its section.

@@ -3,12 +3,14 @@
 ghost use Rattle.std.specs.Prelude.{◌≡◌, ◌==◌, ◌&&◌, ◌||◌, Some, not, drop, length};
 ghost use Rattle.mps_reader.specs.Faults.{limits_fields, may_follow, rest_fault, sense_fault, stage, stage_of, word_fault};
 ghost use Rattle.mps_reader.specs.SectionOrder.{HasOrder, order_after};
-ghost use Rattle.mps_reader.specs.Sections.{Sections};
+ghost use Rattle.mps_reader.specs.Sections.{Sections, asked};
 ghost use Rattle.mps_reader.specs.Tables.{texts};
 
 use crate::kinds::{Kind, Section};
+use crate::words::sense_of;
+use problem::ObjectiveSense;
 
-/// The last section word, which of the later sections have come, and whether OBJSENSE has its word.
+/// The last section word, which of the later sections have come, whether OBJSENSE has its word, and which sense it asks for.
 #[derive(Clone, Copy)]
 pub struct Order {
     pub last: Option<Section>,
@@ -16,6 +18,7 @@ pub struct Order {
     pub has_ranges: bool,
     pub has_bounds: bool,
     pub has_sense: bool,
+    pub sense: ObjectiveSense,
 }
 
 /// How far the sections have come: 0 nothing, 1 NAME, 2 OBJSENSE, 3 ROWS, 4 COLUMNS or a later one, 5 ENDATA.
@@ -61,19 +64,20 @@ fn follows(order: Order, word: Section) -> bool
 pub fn sense_fault(word: &[u8]) -> Option<Kind>
     ensures { result ≡ sense_fault word.now }
 {
-    if word == b"MIN".as_slice() {
-        return None;
+    match sense_of(word) {
+        Some(_) => None,
+        None => Some(Kind::BadSection),
     }
-    if word == b"MINIMIZE".as_slice() {
-        return None;
+}
+
+/// The sense that the words of OBJSENSE ask for; without a word the objective is minimised.
+pub fn asked(words: &[&[u8]]) -> ObjectiveSense
+    ensures { result ≡ asked (texts words.now) }
+{
+    match words {
+        [word, ..] => sense_of(word).unwrap_or(ObjectiveSense::Minimise),
+        [] => ObjectiveSense::Minimise,
     }
-    if word == b"MAX".as_slice() {
-        return Some(Kind::Maximise);
-    }
-    if word == b"MAXIMIZE".as_slice() {
-        return Some(Kind::Maximise);
-    }
-    Some(Kind::BadSection)
 }
 
 /// What is wrong with the fields behind the section word.
@@ -123,12 +127,15 @@ pub fn word_fault(order: Order, word: Section, fields: &[&[u8]]) -> Option<Kind>
 
 /// The order after a section line.
 pub fn order_after(order: Order, word: Section, fields: &[&[u8]]) -> Order
-    ensures { result ≡ order_after word (not (length (drop 1 (texts fields.now)) == 0)) order }
+    ensures { result ≡ order_after word (drop 1 (texts fields.now)) order }
 {
     let mut new = order;
     new.last = Some(word);
     match word {
-        Section::ObjSense => new.has_sense = !rest_of(fields).is_empty(),
+        Section::ObjSense => {
+            new.has_sense = !rest_of(fields).is_empty();
+            new.sense = asked(rest_of(fields));
+        }
         Section::Rhs => new.has_rhs = true,
         Section::Ranges => new.has_ranges = true,
         Section::Bounds => new.has_bounds = true,

@@ -58,5 +58,9 @@ pub fn problem_of<'a, B: BuildHasher + Drop>(
     let Ok(names) = column_names(alloc, &columns) else {
         return Err(ReadFault::Memory);
     };
-    Ok(Problem::make(names, rows, objective, IntBox::make(spans)))
+    let root = IntBox::make(spans);
+    match Problem::make(alloc, names, rows, objective, root, tables.order.sense) {
+        Ok(problem) => Ok(problem),
+        Err(_) => Err(ReadFault::Memory),
+    }
 }

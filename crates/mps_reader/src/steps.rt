@@ -5,13 +5,13 @@ ghost use Rattle.std.specs.List.{list_all};
 ghost use Rattle.mps_lines.specs.Left.{seen};
 ghost use Rattle.mps_reader.specs.Faults.{is_field, limits_fields};
 ghost use Rattle.mps_reader.specs.Reading.{is_end};
-ghost use Rattle.mps_reader.specs.SectionTables.{CountsRows, Steps, TakesLine, more_of, with_section};
+ghost use Rattle.mps_reader.specs.SectionTables.{CountsRows, Steps, TakesLine, rest_of, with_section};
 ghost use Rattle.mps_reader.specs.Sections.{first_field};
 ghost use Rattle.mps_reader.specs.Words.{section_of};
 
 use crate::fields::are_fields;
 use crate::kinds::{Kind, Section, Stop};
-use crate::order::{limits_fields, order_after, sense_fault, word_fault};
+use crate::order::{asked, limits_fields, order_after, sense_fault, word_fault};
 use crate::rows::row_line;
 use crate::tables::Tables;
 use crate::words::{first_field, section_of};
@@ -35,6 +35,7 @@ fn sense_line<'a, B: BuildHasher + Drop>(
         Some(kind) => Err(Stop::Fault(kind)),
         None => {
             tables.order.has_sense = true;
+            tables.order.sense = asked(fields);
             Ok(())
         }
     }
@@ -165,7 +166,7 @@ fn data_line<'a, B: BuildHasher + Drop>(
 
 /// Keeps a section word that may stand here.
 fn keep_word<'a, B: BuildHasher + Drop>(tables: &mut Tables<'a, B>, word: Section, line: &Line<'a>)
-    ensures { tables.new ≡ with_section word (more_of (seen line.now)) line.now.number tables.old }
+    ensures { tables.new ≡ with_section word (rest_of (seen line.now)) line.now.number tables.old }
 {
     tables.order = order_after(tables.order, word, line.fields.as_slice());
     match word {

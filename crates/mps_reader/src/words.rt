@@ -1,11 +1,12 @@
 //! Words of sections and of bounds.
 
 ghost use Rattle.std.specs.Prelude.{◌≡◌, ℕ, IfSome, None, Some, List, [], ◌∷◌, true, false, is_some, length};
-ghost use Rattle.mps_reader.specs.Words.{bound_type_of, section_of};
+ghost use Rattle.mps_reader.specs.Words.{bound_type_of, section_of, sense_of};
 ghost use Rattle.mps_reader.specs.Sections.{first_field};
 ghost use Rattle.mps_reader.specs.Tables.{texts};
 
 use crate::kinds::{BoundType, Section};
+use problem::ObjectiveSense;
 
 /// The section that a word names.
 pub fn section_of(word: &[u8]) -> Option<Section>
@@ -34,6 +35,25 @@ pub fn section_of(word: &[u8]) -> Option<Section>
     }
     if word == b"ENDATA".as_slice() {
         return Some(Section::EndData);
+    }
+    None
+}
+
+/// The sense of the objective that a word of OBJSENSE asks for.
+pub fn sense_of(word: &[u8]) -> Option<ObjectiveSense>
+    ensures { result ≡ sense_of word.now }
+{
+    if word == b"MIN".as_slice() {
+        return Some(ObjectiveSense::Minimise);
+    }
+    if word == b"MINIMIZE".as_slice() {
+        return Some(ObjectiveSense::Minimise);
+    }
+    if word == b"MAX".as_slice() {
+        return Some(ObjectiveSense::Maximise);
+    }
+    if word == b"MAXIMIZE".as_slice() {
+        return Some(ObjectiveSense::Maximise);
     }
     None
 }

@@ -12,6 +12,6 @@ pub struct Survey {
     pub cuts: usize,
     /// How many nodes are open.
     pub open: usize,
-    /// The objective of the best point so far, if there is one.
+    /// The problem's own objective at the best point so far, if there is one.
     pub best: Option<Frac>,
 }

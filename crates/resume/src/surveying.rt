@@ -33,6 +33,6 @@ pub fn survey<B: BuildHasher + Drop, D: Disk>(
         nodes: state.tree().len(),
         cuts: state.book().len(),
         open: state.open_count(),
-        best: state.incumbent().cutoff(),
+        best: state.best_value(),
     })
 }

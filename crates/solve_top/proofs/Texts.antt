@@ -6,7 +6,7 @@ use Rattle.problem.specs.Best.{IsVoid}
 use Rattle.cert_rows.specs.declared.certificate.Cert.{Cert}
 use Rattle.cert_rows.specs.declared.certificate.Goal.TheVariants.{Infeas}
 use Rattle.cert_rows.specs.Validity.{IsValid}
-use Rattle.event_core.specs.States.{State, open_count, cutoff}
+use Rattle.event_core.specs.States.{State, open_count, best_value}
 use Rattle.event_core.specs.Histories.{AreLegal, state_of}
 use Rattle.event_core.specs.Rooms.{Recorded}
 use Rattle.core_search.specs.Endings.{AdmitsSplit, IsSpent}
@@ -53,8 +53,8 @@ module _ (r : Recorded) (stands : r.state ≡ state_of r.state.problem r.history
     pub has_finished : HasFinished (search_of r)
     has_finished = record { legal = legal; none_open = ap open_count (sym stands) ∙ ended }
 
-    claim_is : c.claim ≡ claim_of (cutoff r.state)
-    claim_is = ap (λ (d : Cert). d.claim) merges ∙ ap (λ (t : State). claim_of (cutoff t)) (sym stands)
+    claim_is : c.claim ≡ claim_of (best_value r.state)
+    claim_is = ap (λ (d : Cert). d.claim) merges ∙ ap (λ (t : State). claim_of (best_value t)) (sym stands)
 
     answer_lines_are : (text : List ℕ) (nodes cuts : ℕ) → nodes ≡ length r.state.nodes → cuts ≡ length r.state.cuts
         → text ≡ answer_lines c.claim nodes cuts → text ≡ lines_due (search_of r)
@@ -64,7 +64,7 @@ module _ (r : Recorded) (stands : r.state ≡ state_of r.state.problem r.history
 
     answer_is : (text : List ℕ) → text ≡ answer_line c.claim → text ≡ answer_due (search_of r)
     unfolding answer_due
-    answer_is text h = h ∙ ap answer_line claim_is ∙ ap (λ (t : State). answer_line (claim_of (cutoff t))) stands
+    answer_is text h = h ∙ ap answer_line claim_is ∙ ap (λ (t : State). answer_line (claim_of (best_value t))) stands
 
     pub finished_lines_are : (q : Request) (text : List ℕ) (nodes cuts : ℕ) → nodes ≡ length r.state.nodes → cuts ≡ length r.state.cuts
         → text ≡ finished_lines q c.claim nodes cuts → text ≡ lines_for q (search_of r)

@@ -37,7 +37,7 @@ finished_lines (Drill seed limits) claim nodes cuts = answer_line claim
 abbrev pub spent_lines : ℕ → ℕ → ℕ → List ℕ
 spent_lines nodes cuts open_nodes = (codes "spent\n" ++ count_lines nodes cuts) ++ number_line (codes "open ") open_nodes
 
--- the objective of the best point so far
+-- the problem's own objective at the best point so far
 abbrev pub best_line : Option ℚ → List ℕ
 best_line None = codes "best none\n"
 best_line (Some q) = codes "best " ++ spelled_number q ++ codes "\n"

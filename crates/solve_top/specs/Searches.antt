@@ -4,7 +4,7 @@ use Rattle.problem.specs.Problem.{Problem}
 use Rattle.problem.specs.Best.{IsVoid}
 use Rattle.problem_box.specs.PointCount.{point_count}
 use Rattle.event_core.specs.declared.entry.Entry.{Entry}
-use Rattle.event_core.specs.States.{State, open_count, cutoff}
+use Rattle.event_core.specs.States.{State, open_count, best_value}
 use Rattle.event_core.specs.Histories.{state_of, AreLegal}
 use Rattle.event_core.specs.Rooms.{Recorded}
 use Rattle.core_search.specs.Endings.{AdmitsSplit}
@@ -92,7 +92,7 @@ certificate_text s = text_of (merged s.problem s.history)
 -- the lines that tell of a state: its answer where no node is open
 abbrev pub lines_at : State → List ℕ
 lines_at t =
-    if eqb (open_count t) 0 then answer_lines (claim_of (cutoff t)) (length t.nodes) (length t.cuts)
+    if eqb (open_count t) 0 then answer_lines (claim_of (best_value t)) (length t.nodes) (length t.cuts)
     else spent_lines (length t.nodes) (length t.cuts) (open_count t)
 
 -- the lines that tell of a search
@@ -101,7 +101,7 @@ lines_due s = lines_at (end_of s)
 
 -- the line of its answer alone
 unfoldable pub answer_due : Search → List ℕ
-answer_due s = answer_line (claim_of (cutoff (end_of s)))
+answer_due s = answer_line (claim_of (best_value (end_of s)))
 
 -- the lines that a command tells of a search: a drill that is finished tells its answer alone
 abbrev pub lines_for : Request → Search → List ℕ

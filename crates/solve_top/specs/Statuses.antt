@@ -26,7 +26,6 @@ exit_number status.Memory = 9
 -- the names of the kinds of faults
 abbrev pub kind_name : Kind → List ℕ
 kind_name kind.BadSection = codes "BadSection"
-kind_name kind.Maximise = codes "Maximise"
 kind_name kind.BadFields = codes "BadFields"
 kind_name kind.ManySets = codes "ManySets"
 kind_name kind.UnknownRow = codes "UnknownRow"

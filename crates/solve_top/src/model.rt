@@ -70,7 +70,6 @@ pub fn kind_name(kind: Kind) -> &'static [u8]
 {
     match kind {
         Kind::BadSection => b"BadSection",
-        Kind::Maximise => b"Maximise",
         Kind::BadFields => b"BadFields",
         Kind::ManySets => b"ManySets",
         Kind::UnknownRow => b"UnknownRow",

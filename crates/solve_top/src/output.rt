@@ -93,7 +93,7 @@ pub fn spent_text(
     Ok(text)
 }
 
-// Pushes the objective of the best point so far.
+// Pushes the problem's own objective at the best point so far.
 fn push_best(text: &mut Vec<u8>, best: Option<Frac>) -> Result<(), AllocError>
     ensures { OnOk result (text.new.items ≡ text.old.items ++ best_line best) }
 {

@@ -31,14 +31,14 @@ returns-in-Err-clause-err g c s h =
     refusal_said c.args.tables s h c.args.upper c.in-Some.objective (sym c.in-Some.is ∙ c.in-Ok.ensures.objective)
     c.in-Err.fault c.in-Err.ensures.fault
 
-pub make-requires-2 : goal.make-requires-2
-make-requires-2 g c =
+pub make-requires : goal.make-requires
+make-requires g c =
     let k = c.requires.sections.1 in
     made_limited c.args.tables k.s k.tables c.args.upper c.in-Some.objective (sym c.in-Some.is ∙ c.in-Ok.ensures.objective)
-    c.in-Ok-spans_or_fault.spans.items c.in-Ok-spans_or_fault.ensures.spans c.in-Ok-column_names.names c.in-Ok-column_names.ensures c.in-Ok.parts.rows.items c.in-Ok.ensures.rows c.make.result c.make.ensures (keeps c.requires.sections.0 c.args.tables k) c.requires.upper
+    c.in-Ok-spans_or_fault.spans.items c.in-Ok-spans_or_fault.ensures.spans c.in-Ok-column_names.names c.in-Ok-column_names.ensures c.in-Ok.parts.rows.items c.in-Ok.ensures.rows c.make-root.result c.make-root.ensures (keeps c.requires.sections.0 c.args.tables k) c.requires.upper
 
-pub returns-clause-ok : goal.returns-clause-ok
-returns-clause-ok g c s h =
+pub returns-in-Ok-make-clause-ok : goal.returns-in-Ok-make-clause-ok
+returns-in-Ok-make-clause-ok g c s h =
     made_said c.args.tables s h c.args.upper c.in-Some.objective (sym c.in-Some.is ∙ c.in-Ok.ensures.objective)
-    c.in-Ok-spans_or_fault.spans.items c.in-Ok-spans_or_fault.ensures.spans c.in-Ok-column_names.names c.in-Ok-column_names.ensures c.in-Ok.parts.rows.items c.in-Ok.ensures.rows c.make.result c.make.ensures
-    ∙ ap Ok (sym c.make-2.ensures)
+    c.in-Ok-spans_or_fault.spans.items c.in-Ok-spans_or_fault.ensures.spans c.in-Ok-column_names.names c.in-Ok-column_names.ensures c.in-Ok.parts.rows.items c.in-Ok.ensures.rows c.make-root.result c.make-root.ensures
+    ∙ ap Ok (sym c.in-Ok-make.ensures)
