@@ -1,6 +1,7 @@
 * A knapsack: which of five things to take, so that they weigh at most 15 and are worth the most.
 *
-* A worth is written with a minus sign, since the objective is minimised. The most is 15, for all of them but the green one.
+* A worth is written with a minus sign, since the objective is minimised here (bakery.mps has one that is maximised). The most is 15, for all of
+* them but the green one.
 NAME knapsack
 ROWS
  N worth

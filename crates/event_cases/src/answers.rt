@@ -1,4 +1,4 @@
-//! Events with the answers that they get: on `2x >= 3`, and in a search of `2x + 2y = 3` that was worked out by hand.
+//! Events with the answers that they get: on `2x >= 3`, also where x is maximised, and in a search of `2x + 2y = 3` that was worked out by hand.
 
 use crate::models::made;
 use crate::plans::{By, Plan, Why, event_of};
@@ -17,6 +17,10 @@ const ONE_COLUMN: &[u8] =
 const TWO_COLUMNS: &[u8] =
     b"ROWS\n N o\n E r\nCOLUMNS\n m 'MARKER' 'INTORG'\n x r 2\n y r 2\nRHS\n r 3\nBOUNDS\n UP x 1\n UP y 1\nENDATA\n";
 
+/// 2x >= 3, x from 0 to 5, where x is maximised.
+const MAXIMISED: &[u8] =
+    b"OBJSENSE MAX\nROWS\n N o\n G r\nCOLUMNS\n m 'MARKER' 'INTORG'\n x o 1 r 2\nRHS\n r 3\nBOUNDS\n UP x 5\nENDATA\n";
+
 /// Events of the first model in its first state.
 const FIRST: [Plan; 9] = [
     Plan::Cut(0, 1),
@@ -32,6 +36,9 @@ const FIRST: [Plan; 9] = [
 
 /// Offers of points of the first model.
 const OFFERS: [Plan; 3] = [Plan::Offer(&[1]), Plan::Offer(&[2]), Plan::Offer(&[2])];
+
+/// Offers of points of the maximised model: the second has a smaller objective than the first, and the third a greater one.
+const GREATER_OFFERS: [Plan; 3] = [Plan::Offer(&[3]), Plan::Offer(&[2]), Plan::Offer(&[4])];
 
 /// Splits of node 0 of the second model, for each kind of reason.
 const SPLITS: [Plan; 6] = [
@@ -159,12 +166,22 @@ fn show_many_cuts<R: Print + Alloc<A = Global>>(rt: &R, state: &mut State) -> io
     println!(rt; "answer {answer:?} to one cut more than {count}")
 }
 
+/// Prints the answers to offers, and the incumbent's aim and objective.
+fn show_offers<R: Print + Alloc<A = Global>>(
+    rt: &R,
+    state: &mut State,
+    offers: &[Plan],
+) -> io::Result<()> {
+    show_all_applied(rt, state, offers)?;
+    let cutoff = NumberOrNone(state.incumbent().cutoff());
+    let best = NumberOrNone(state.best_value());
+    println!(rt; "answer: the cutoff is {cutoff}, the best objective {best}")
+}
+
 /// Prints the answers on the first model, with its offers and cuts.
 fn show_cuts_and_offers<R: Print + Alloc<A = Global>>(rt: &R, state: &mut State) -> io::Result<()> {
     show_all_asked(rt, state, &FIRST)?;
-    show_all_applied(rt, state, &OFFERS)?;
-    let cutoff = NumberOrNone(state.incumbent().cutoff());
-    println!(rt; "answer: the cutoff is {cutoff}")?;
+    show_offers(rt, state, &OFFERS)?;
     show_many_cuts(rt, state)
 }
 
@@ -193,6 +210,7 @@ fn state_of(alloc: Global, text: &[u8]) -> io::Result<State> {
 enum Model {
     OneColumn,
     TwoColumns,
+    Maximised,
 }
 
 /// Prints the answers on a model in its first state.
@@ -204,6 +222,7 @@ fn show_answers<R: Print + Alloc<A = Global>>(
     match model {
         Model::OneColumn => show_cuts_and_offers(rt, state),
         Model::TwoColumns => show_search(rt, state),
+        Model::Maximised => show_offers(rt, state, &GREATER_OFFERS),
     }
 }
 
@@ -213,8 +232,9 @@ fn show_model<R: Print + Alloc<A = Global>>(rt: &R, model: Model, text: &[u8]) -
     show_answers(rt, model, &mut state)
 }
 
-/// Prints the answers on both models.
+/// Prints the answers on each model.
 pub(crate) fn show<R: Print + Alloc<A = Global>>(rt: &R) -> io::Result<()> {
     show_model(rt, Model::OneColumn, ONE_COLUMN)?;
-    show_model(rt, Model::TwoColumns, TWO_COLUMNS)
+    show_model(rt, Model::TwoColumns, TWO_COLUMNS)?;
+    show_model(rt, Model::Maximised, MAXIMISED)
 }

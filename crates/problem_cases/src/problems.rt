@@ -11,6 +11,10 @@ use std::io;
 const MODEL: &[u8] =
     b"ROWS\n N o\n G r\nCOLUMNS\n m 'MARKER' 'INTORG'\n x o 1 r 1\n y o 0.5 r -2\nRHS\n r 1\nBOUNDS\n UP x 9\n UP y 3\nENDATA\n";
 
+/// The same objective, maximised.
+const MAXIMISED: &[u8] =
+    b"OBJSENSE MAX\nROWS\n N o\n G r\nCOLUMNS\n m 'MARKER' 'INTORG'\n x o 1 r 1\n y o 0.5 r -2\nRHS\n r 1\nBOUNDS\n UP x 9\n UP y 3\nENDATA\n";
+
 /// Prints a name.
 fn show_name<R: Print>(rt: &R, index: usize, name: &[u8]) -> io::Result<()> {
     let name = str::from_utf8(name).unwrap_or("(no text)");
@@ -119,9 +123,25 @@ fn show_problem<R: Print>(rt: &R, problem: &Problem) -> Result<()> {
     Ok(show_points(rt, problem)?)
 }
 
-/// A copy of the model's problem.
-fn problem_copy(alloc: Global) -> Result<Problem> {
-    let problem = problem_of(alloc, MODEL)?;
+/// Prints the objective and the aim at a point, where it lies in the box.
+fn show_values<R: Print>(rt: &R, problem: &Problem, point: &[i64]) -> io::Result<()> {
+    if !problem.root().holds(point) {
+        return Ok(());
+    }
+    let (value, aim) = (problem.value(point), problem.aim_value(point));
+    println!(rt; "problem point {point:?}: objective {value}, aim {aim}")
+}
+
+/// Prints the sense of a problem and its aim, which is the objective that a search minimises.
+fn show_aim<R: Print>(rt: &R, problem: &Problem) -> io::Result<()> {
+    let (sense, aim) = (problem.sense(), Sum(problem.aim().as_slice()));
+    println!(rt; "problem sense {sense:?}, aim {aim}")?;
+    show_values(rt, problem, &[3, 1])
+}
+
+/// A copy of a model's problem.
+fn problem_copy(alloc: Global, model: &[u8]) -> Result<Problem> {
+    let problem = problem_of(alloc, model)?;
     Ok(problem.copy(alloc)?)
 }
 
@@ -145,8 +165,14 @@ fn show_row_copy<R: Print + Alloc<A = Global>>(rt: &R) -> Result<()> {
 
 /// Prints a copy of a problem.
 fn show_problem_copy<R: Print + Alloc<A = Global>>(rt: &R) -> Result<()> {
-    let copy = problem_copy(rt.alloc())?;
+    let copy = problem_copy(rt.alloc(), MODEL)?;
     show_problem(rt, &copy)
+}
+
+/// Prints the aim of a copy of a model's problem.
+fn show_aim_of_copy<R: Print + Alloc<A = Global>>(rt: &R, model: &[u8]) -> Result<()> {
+    let copy = problem_copy(rt.alloc(), model)?;
+    Ok(show_aim(rt, &copy)?)
 }
 
 /// Prints the calls on problems and their parts.
@@ -154,5 +180,7 @@ pub(crate) fn show<R: Print + Alloc<A = Global>>(rt: &R) -> Result<()> {
     show_names_copy(rt)?;
     show_point_copy(rt)?;
     show_row_copy(rt)?;
-    show_problem_copy(rt)
+    show_problem_copy(rt)?;
+    show_aim_of_copy(rt, MODEL)?;
+    show_aim_of_copy(rt, MAXIMISED)
 }

@@ -1,7 +1,7 @@
 //! Commands over journals: begun, gone on with, shown, refused, and on disks and streams that fail.
 
 use crate::command::{Answered, Command, SOUND, Stream, usual};
-use crate::models::{EMPTY, FAR, ODD, ONE};
+use crate::models::{EMPTY, FAR, MOST, ODD, ONE};
 use crate::shown::{More, show_command, show_line, show_on, show_with_disk};
 use anyhow::Result;
 use outside::MemDisk;
@@ -41,13 +41,21 @@ fn show_spent<R: Print + Alloc<A = Global>>(rt: &R) -> Result<()> {
     show_on(rt, "resumed", &last, disk, More::Certificate)
 }
 
+/// A maximised search that is spent at three nodes with a point, and what is shown of it.
+fn show_spent_maximum<R: Print + Alloc<A = Global>>(rt: &R) -> Result<()> {
+    let first = usual("solve m j c --cuts 0 --nodes 3", MOST);
+    let disk = show_with_disk(rt, "a maximum, spent at three nodes", &first)?;
+    show_line(rt, "the maximum is shown", "show j", "", disk.bytes())
+}
+
 /// Commands that begin journals, the first of which has one event and is known byte by byte, and that go on with one.
 pub(crate) fn show_first<R: Print + Alloc<A = Global>>(rt: &R) -> Result<()> {
     show_command(rt, "an empty box", &usual(SOLVE, EMPTY), More::End)?;
     for line in &BEGUN {
         show_line(rt, line, line, ODD, b"")?;
     }
-    show_spent(rt)
+    show_spent(rt)?;
+    show_spent_maximum(rt)
 }
 
 /// The bytes of the journal of a finished search.
