@@ -5,8 +5,8 @@
 
     problem.solve(BNC_CMD(journal="rota.journal", certificate="rota.cert"))
 
-The model is written in the profile of free MPS that `bnc` reads (docs/MODEL_FORMAT.md). A maximised objective is negated on the way, and the value
-back. Names that the profile refuses are replaced, and mapped back.
+The model is written in the profile of free MPS that `bnc` reads (docs/MODEL_FORMAT.md). Names that the profile refuses are replaced, and
+mapped back.
 
 It needs PuLP 2.6 or later (Debian: python3-pulp), and the folder of `bnc_tools`, which is found beside this file or in the repository.
 """
@@ -243,8 +243,7 @@ def finished(model: LinearModel, made: ProfileText, lines: list[str], certificat
         return Answer(constants.LpStatusInfeasible, constants.LpSolutionInfeasible, lines)
     if not re.fullmatch(r"optimal -?[0-9]+(/[0-9]+)?", first):
         raise PulpSolverError("PuLP: the program told no answer of bnc")
-    told = Fraction(first.split(" ")[1])
-    objective = (-told if model.is_maximised else told) + model.constant
+    objective = Fraction(first.split(" ")[1]) + model.constant
     try:
         point = point_of(certificate)
     except Fault as fault:

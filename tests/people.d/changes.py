@@ -133,8 +133,10 @@ def holds(row, point):
     return total >= row.side if row.sense == "G" else total <= row.side if row.sense == "L" else total == row.side
 
 
-def is_true(claim, values):
-    """Whether a claim is true of a problem that is minimised, by the objectives of its feasible points."""
+def is_true(claim, values, maximise):
+    """Whether a claim is true of a problem, by the objectives of its feasible points."""
     if claim.infeasible:
         return not values
+    if maximise:
+        return (claim.high is None or all(value <= claim.high for value in values)) and (claim.low is None or any(value >= claim.low for value in values))
     return (claim.low is None or all(value >= claim.low for value in values)) and (claim.high is None or any(value <= claim.high for value in values))

@@ -24,7 +24,7 @@ from bnc_tools.model import Refusal, model_of
 
 CHANGES = 1000
 LONGEST = 20_000  # bytes of a certificate that is changed
-LIMITS = ("TooMany", "Maximise")  # what the program refuses and its checker doesn't
+LIMITS = ("TooMany",)  # what the program refuses and its checker doesn't
 
 
 def model_refusals(tests):
@@ -92,7 +92,7 @@ def reason_why(problem, change, claim, answer):
     else:
         need((claim.low is None or claim.low <= low) and (claim.high is None or claim.high >= high), f"it claims {claim.told()}, and the answer is {answer}")
     values = problem.values
-    need(values is None or changes.is_true(claim, values), f"it claims {claim.told()}, which isn't so")
+    need(values is None or changes.is_true(claim, values, problem.model.maximise), f"it claims {claim.told()}, which isn't so")
     if change.place == "a derived line's last number":
         return "the last number of a line is no part of validity"
     if change.place == "CON, the count of bounds":

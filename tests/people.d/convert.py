@@ -35,9 +35,9 @@ End
 """
 
 ROTA_PROFILE = """* rota.lp, by bnc-convert
-* Maximised: the objective stands here with the other sign. The greatest value is that of the answer with its sign changed.
-* The constant 4 of the objective is left out: add it to the value of the model's own direction.
+* The constant 4 of the objective is left out: add it to the value.
 NAME rota
+OBJSENSE MAX
 ROWS
  N earn
  L hands
@@ -47,17 +47,17 @@ ROWS
  E even
 COLUMNS
  m1 'MARKER' 'INTORG'
- early earn -3
+ early earn 3
  early hands 1
  early pair 1
  early least 2
  early R4 1
- late earn -2.5
+ late earn 2.5
  late hands 1
  late pair -1
  late least 3
  late even -1
- spare earn 1
+ spare earn -1
  spare hands 1
  spare R4 1
  spare even 1
@@ -163,13 +163,13 @@ def formats(trial: Trial) -> None:
     """Each format, by the text that is made or by the answer."""
     made = converted(trial, "rota.lp", ROTA)
     trial.equal("CPLEX LP: the text in the profile", made.out, ROTA_PROFILE)
-    trial.equal("CPLEX LP: the answer of a maximised model, negated", solved(trial, made.out), "optimal -33/2")
+    trial.equal("CPLEX LP: the answer of a maximised model", solved(trial, made.out), "optimal 33/2")
     trial.equal("OPB: the answer, without the constant 3", solved(trial, converted(trial, "a.opb", OPB).out), "optimal -5")
     fixed = converted(trial, "two.mps", FIXED)
     trial.equal("fixed MPS with blanks in names: the answer", solved(trial, fixed.out), "optimal 17")
     trial.need("fixed MPS: a name that is replaced is told", "column 'DAY CREW' is called column_1" in fixed.err, fixed.err)
     free = converted(trial, "max.mps", FREE_MAXIMISED)
-    trial.equal("free MPS, maximised: the answer, negated", solved(trial, free.out), "optimal -9")
+    trial.equal("free MPS, maximised: the answer", solved(trial, free.out), "optimal 9")
     trial.need("free MPS: the right side of the objective is told", "The constant 7 of the objective" in free.out, free.out)
     empty = converted(trial, "empty.lp", "Minimize\nSubject To\nEnd\n")
     trial.equal("a model of nothing", solved(trial, empty.out), "optimal 0")
@@ -268,8 +268,7 @@ def against_glpsol(trial: Trial) -> None:
         trial.write("random.lp", text)
         told = solved(trial, profile_text(read_lp(text)).text)
         wanted = glpsol_answer(trial, "--lp", "random.lp")
-        sign = -1 if text.startswith("Max") else 1
-        found = None if told == "infeasible" else sign * float(Fraction(told.split(" ")[1])) if told.startswith("optimal") else told
+        found = None if told == "infeasible" else float(Fraction(told.split(" ")[1])) if told.startswith("optimal") else told
         if (found is None) != (wanted is None) or found is not None and abs(found - wanted) > 1e-6:
             wrong = f"{told} and glpsol {wanted} of {text}"
         for option in ("--wmps", "--wfreemps"):

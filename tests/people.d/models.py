@@ -14,6 +14,11 @@ def knapsack(seed, columns, rows):
     return "\n".join(text + ["BOUNDS"] + [f" BV b x{column}" for column in range(columns)] + ["ENDATA"]) + "\n"
 
 
+def maximised(text):
+    """A knapsack with its costs as profits, which are maximised."""
+    return text.replace(" obj -", " obj ").replace("ROWS\n", "OBJSENSE MAX\nROWS\n", 1)
+
+
 def drill(seed):
     """The model of a seed (docs/DRILL.md)."""
     state = seed

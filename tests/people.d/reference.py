@@ -18,10 +18,10 @@ def need(holds, what):
 # ---- the model
 
 class Model:
-    """Names, rows (sense, right side, terms), the objective's terms, and a pair of bounds for each column. Terms go from columns to numbers."""
+    """Names, rows (sense, right side, terms), the objective's terms and direction, and a pair of bounds for each column. Terms go from columns to numbers."""
 
     def __init__(self):
-        self.names, self.rows, self.objective, self.bounds = [], [], {}, []
+        self.names, self.rows, self.objective, self.maximise, self.bounds = [], [], {}, False, []
 
 
 def number(field):
@@ -42,7 +42,7 @@ class Sections:
     """What the sections of a text say, each row and column by its name."""
 
     def __init__(self):
-        self.names, self.column, self.senses, self.order, self.objective = [], {}, {}, [], None
+        self.names, self.column, self.senses, self.order, self.objective, self.direction = [], {}, {}, [], None, "MIN"
         self.terms, self.sides, self.ranges, self.low, self.high = {}, {}, {}, {}, {}
 
     def rows(self, fields):
@@ -90,7 +90,9 @@ class Sections:
             self.high[at] = None
 
     def take(self, section, fields):
-        if section == "ROWS":
+        if section == "OBJSENSE":
+            self.direction = fields[0]
+        elif section == "ROWS":
             self.rows(fields)
         elif section == "COLUMNS":
             self.columns(fields)
@@ -114,6 +116,7 @@ class Sections:
         made = Model()
         made.names = self.names
         made.objective = self.terms.get(self.objective, {})
+        made.maximise = self.direction.startswith("MAX")
         for name in self.order:
             made.rows += self.row(name)
         for at in range(len(self.names)):
@@ -136,6 +139,8 @@ def read_model(text, upper=None):
             section = fields[0]
             if section == "ENDATA":
                 break
+            if section == "OBJSENSE" and len(fields) > 1:
+                sections.take(section, fields[1:])
     return sections.model(upper)
 
 
@@ -300,7 +305,7 @@ def check_part(lines, model):
     lines.fixed("INT", str(columns))
     if columns:
         lines.fixed(*map(str, range(columns)))
-    lines.fixed("OBJ", "min")
+    lines.fixed("OBJ", "max" if model.maximise else "min")
     words = lines.words()
     need(words.pairs() == model.objective, "the objective is another")
     words.end()
@@ -316,9 +321,9 @@ def check_part(lines, model):
 
 
 def check_points(lines, model, rows):
-    """Checks the points, and gives the least value of the objective; none where there is no point."""
+    """Checks the points, and gives the best value of the objective; none where there is no point."""
     words = lines.words("SOL")
-    count, least = words.whole(), None
+    count, best = words.whole(), None
     words.end()
     for _ in range(count):
         words = lines.words()
@@ -328,8 +333,8 @@ def check_points(lines, model, rows):
         need(all(value.denominator == 1 and column < len(model.names) for column, value in point.items()), "a point is not whole")
         need(all(satisfies(row, point) for row in rows), "a point is not feasible")
         value = sum((number * point.get(column, 0) for column, number in model.objective.items()), Fraction(0))
-        least = value if least is None else min(least, value)
-    return least
+        best = value if best is None else max(best, value) if model.maximise else min(best, value)
+    return best
 
 
 def check(text, model):
@@ -341,7 +346,7 @@ def check(text, model):
     need(kind in ("range", "infeas"), "the claim is neither a range nor infeasibility")
     low, high = (words.number(), words.number()) if kind == "range" else (None, None)
     words.end()
-    least = check_points(lines, model, rows)
+    best = check_points(lines, model, rows)
     derivation = Derivation(rows)
     words = lines.words("DER")
     count = words.whole()
@@ -354,7 +359,8 @@ def check(text, model):
     if kind == "infeas":
         need(is_absurd(last), "the last line is not absurd")
         return "infeasible"
-    need(dominates(last, ("G", low, model.objective)), "the last line does not show the lower end of the range")
-    need(least is not None and least <= high, "no point shows the upper end of the range")
+    shown, bound, reached = ("L", high, low) if model.maximise else ("G", low, high)
+    need(dominates(last, (shown, bound, model.objective)), "the last line does not show its end of the range")
+    need(best is not None and (best >= reached if model.maximise else best <= reached), "no point shows the other end of the range")
     need(low == high, "the range has more than one number")
     return f"optimal {low}"

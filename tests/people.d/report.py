@@ -18,7 +18,8 @@ import models
 import written
 from people import TOOLS, Skipped, Tests, example, inside, need
 from bnc_tools import report
-from bnc_tools.journal import records, single_events
+from bnc_tools.journal import read_search, records, single_events
+from bnc_tools.model import read_model
 
 FIRST = "a knapsack with its journal"
 SIZES = (("wide", 1280, 800), ("phone", 390, 844))
@@ -42,10 +43,19 @@ def knapsack(tests):
     return tests.knapsack
 
 
+def profits(tests):
+    """The same knapsack, maximised."""
+    if not hasattr(tests, "profits"):
+        tests.profits = tests.solve("profits", models.maximised(models.knapsack(5, 14, 4)), "--cuts", "6")[:3]
+    return tests.profits
+
+
 def pages(tests):
     """The pages that the browser loads: what they are, and their paths."""
     model, journal, certificate = knapsack(tests)
     found = [(FIRST, made(tests, "k", model, certificate, journal)), ("a knapsack", made(tests, "p", model, certificate))]
+    model, journal, certificate = profits(tests)
+    found.append(("a maximised knapsack with its journal", made(tests, "x", model, certificate, journal)))
     for name in ("blend", "coins", "one"):
         model, journal, certificate, _ = tests.solve(name, example(name))
         found.append((name, made(tests, name, model, certificate, journal)))
@@ -336,6 +346,21 @@ def older_form(tests):
     return f"{len(singles)} records and {len(payloads)}"
 
 
+def told_by(paths):
+    """The better points, the bounds and the relaxations that a journal tells of its model."""
+    model, journal, _ = paths
+    with open(model, "rb") as file:
+        search = read_search(journal, file.read(), read_model(model))
+    return [(point.node, point.value) for point in search.incumbents], search.bounds, sorted((node, value) for node, (value, _) in search.relaxed.items())
+
+
+def turned_over(tests):
+    """the journal of a maximised knapsack tells what that of the minimised one does, with the other sign"""
+    least, greatest = told_by(knapsack(tests)), told_by(profits(tests))
+    need(greatest == tuple([(at, -value) for at, value in found] for found in least), f"{least} and {greatest}")
+    return f"{len(least[0])} points, {len(least[1])} bounds, {len(least[2])} relaxations"
+
+
 # ---- pictures
 
 def pictures(tests, folder):
@@ -355,7 +380,7 @@ def pictures(tests, folder):
         page.picture(os.path.join(folder, "report_dark.png"))
 
 
-CASES = [alone, names_that_hurt, left_out, in_browser, folding, bad_input, journals, older_form]
+CASES = [alone, names_that_hurt, left_out, in_browser, folding, bad_input, journals, older_form, turned_over]
 
 
 def main():

@@ -14,7 +14,7 @@ from .words import Parser, upper_bound
 
 ABOUT = "Writes a model of another format in the profile of free MPS that bnc reads. Numbers are taken over exactly."
 MORE = """\
-FILE is in MPS (fixed columns or free), in the CPLEX LP format, or in OPB. A maximised objective is negated, and a comment of the text says so. Where
+FILE is in MPS (fixed columns or free), in the CPLEX LP format, or in OPB. A maximised objective is written with OBJSENSE MAX. Where
 bnc can't have the model, one line says where it is at fault, and why."""
 READERS = {"lp": read_lp, "mps": read_mps, "opb": read_opb}
 SUFFIXES = {".lp": "lp", ".mps": "mps", ".opb": "opb"}

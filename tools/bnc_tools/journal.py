@@ -197,7 +197,8 @@ class Incumbent:
 
 
 class OpenNodes:
-    """The least value of a relaxation among the open nodes. A node has the value that its parent's split recorded."""
+    """The least value of a relaxation among the open nodes, or the greatest of a maximised model. A node has the value that its parent's split
+    recorded."""
 
     def __init__(self, maximise: bool):
         self.sign = -1 if maximise else 1
@@ -232,7 +233,7 @@ class Search:
     reasons: dict[str, int] = field(default_factory=dict)
     relaxed: dict[int, tuple[Number, Number]] = field(default_factory=dict)  # node: value of the relaxation, and its number in the column
     incumbents: list[Incumbent] = field(default_factory=list)
-    bounds: list[tuple[int, Number]] = field(default_factory=list)  # nodes that had ended, and the least value of an open node's relaxation then
+    bounds: list[tuple[int, Number]] = field(default_factory=list)  # nodes that had ended, and the best value of an open node's relaxation then
     nodes: int = 1
     is_ended: bytearray = field(default_factory=lambda: bytearray(1))
     open_nodes: Optional[OpenNodes] = None

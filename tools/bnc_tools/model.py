@@ -1,7 +1,7 @@
 """Reads models: texts in free MPS, as docs/MODEL_FORMAT.md states them.
 
-The reader is written from that page and shares nothing with the program. It refuses what the program refuses, by the same line and kind, but for
-two things: it has no limit on the number of columns and rows, and it reads models that are maximised.
+The reader is written from that page and shares nothing with the program. It refuses what the program refuses, by the same line and kind, but that
+it has no limit on the number of columns and rows.
 """
 import re
 from dataclasses import dataclass, field

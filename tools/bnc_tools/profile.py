@@ -154,20 +154,16 @@ def column_lines(name: str, entries: list[tuple[str, Fraction]], objective: str)
 
 def remarks(model: LinearModel) -> list[str]:
     """Comment lines that say what the text can't."""
-    made = []
-    if model.is_maximised:
-        made.append("* Maximised: the objective stands here with the other sign. The greatest value is that of the answer with its sign changed.")
-    if model.constant:
-        constant = spelled(model.constant)
-        made.append(f"* The constant {constant} of the objective is left out: add it to the value of the model's own direction.")
-    return made
+    if not model.constant:
+        return []
+    return [f"* The constant {spelled(model.constant)} of the objective is left out: add it to the value."]
 
 
 def entries_by_column(model: LinearModel, objective: str, row_names: list[str]) -> list[list[tuple[str, Fraction]]]:
-    """For each column its entries: the row's name, and the number. An objective that is maximised is negated."""
+    """For each column its entries: the row's name, and the number."""
     entries: list[list[tuple[str, Fraction]]] = [[] for _ in model.columns]
     for place, value in model.objective.items():
-        entries[place].append((objective, -value if model.is_maximised else value))
+        entries[place].append((objective, value))
     for name, row in zip(row_names, model.rows):
         if not is_free(row):
             for place, value in row.terms.items():
@@ -206,7 +202,8 @@ def profile_text(model: LinearModel, remark: str = "") -> ProfileText:
     objective, *rows = profile_names([model.objective_name, *(row.name for row in model.rows)], "row")
     kept = [(name, row) for name, row in zip(rows, model.rows) if not is_free(row)]
     title = re.sub(r"[^!-~]+", "_", model.title)[:255] or "model"
-    lines = ([f"* {remark}"] if remark else []) + remarks(model) + [f"NAME {title}", "ROWS", f" N {objective}"]
+    lines = ([f"* {remark}"] if remark else []) + remarks(model) + [f"NAME {title}"]
+    lines += (["OBJSENSE MAX"] if model.is_maximised else []) + ["ROWS", f" N {objective}"]
     lines += [f" {sense(row)} {name}" for name, row in kept]
     lines += columns_section(model, columns, entries_by_column(model, objective, rows), objective)
     lines += sides_sections(kept)
