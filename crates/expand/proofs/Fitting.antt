@@ -82,8 +82,9 @@ one_row z x a l k h =
     (whole (pos 0) +ℚ whole z *ℚ x, with_product_is (whole (pos 0)) (whole z) x (one_fits z x a l k h) fits, subst (Small a) (sym (zero-+ℚ (whole z *ℚ x))) m)
 
 -- ---- columns
--- what is left of a column, times a bound, is added
-module _ (a c : ℚ) (ma : IsModest a) (mc : IsModest c) (s : Span) (ms : IsModestSpan s) (k : ℕ) (total : ℚ) (lk : k ≤ 10 ^ 37) (mt : Small k total) where
+-- What is left of a column, times a bound, is added. A sum of at most 10^38 and a product more is below 2^127, which is 1.7 * 10^38, and 8,000
+-- products of 2 * 10^33 are less than a sixth of 10^38.
+module _ (a c : ℚ) (ma : IsModest a) (mc : IsModest c) (s : Span) (ms : IsModestSpan s) (k : ℕ) (total : ℚ) (lk : k ≤ 10 ^ 38) (mt : Small k total) where
   abbrev left : ℚ
   left = a +ℚ neg_ℚ c
 
@@ -134,7 +135,7 @@ AreModestColumns [] = Unit {0}
 AreModestColumns (c ∷ cs) = IsModest c × AreModestColumns cs
 
 pub all_columns : (target : List (ℕ × ℚ)) → ((j : ℕ) → IsModest (coefficient target j)) → (j : ℕ) (cs : List ℚ) (ss : List Span) (total : ℚ) (k : ℕ)
-    → k + length ss * (2 * 10 ^ 33) ≤ 10 ^ 37 → Small k total → AreModestColumns cs → All IsModestSpan ss → (v : ℚ) × (with_columns total target j cs ss ≡ Some v)
+    → k + length ss * (2 * 10 ^ 33) ≤ 10 ^ 38 → Small k total → AreModestColumns cs → All IsModestSpan ss → (v : ℚ) × (with_columns total target j cs ss ≡ Some v)
 all_columns target mt j [] ss total k l h mc ms = (total, refl)
 all_columns target mt j (c ∷ cs) [] total k l h mc ms = (total, refl)
 all_columns target mt j (c ∷ cs) (s ∷ ss) total k l h mc ms =

@@ -41,7 +41,7 @@ finish upper (Err fault) = Err fault
 
 -- the most bytes that a text may have
 abbrev pub text_limit : ℕ
-text_limit = 4194304
+text_limit = 33554432
 
 -- the problem that a text reads as, or its first fault
 unfoldable pub reading : List ℕ → Option ℕ → Result Problem (ℕ × Kind)

@@ -13,7 +13,7 @@ use std::alloc::Global;
 use std::hash::BuildHasher;
 
 /// The bytes that a text may have.
-pub const TEXT_LIMIT: usize = 4_194_304;
+pub const TEXT_LIMIT: usize = 33_554_432;
 
 /// The problem that a text reads as, or why it gives none.
 ///

@@ -3,11 +3,11 @@ use Rattle.std.specs.Prelude.{ℕ, ◌^◌}
 
 -- the most columns of a problem
 abbrev pub most_columns : ℕ
-most_columns = 1000
+most_columns = 8000
 
 -- the most rows of a problem
 abbrev pub most_rows : ℕ
-most_rows = 1000
+most_rows = 8000
 
 -- the most cuts that a search adds to a problem's rows
 abbrev pub most_cuts : ℕ

@@ -1,10 +1,10 @@
 // The limits of a problem, each named once. What each of them limits is told in `specs/Limits`, where the same names stand.
 
 /// The most columns of a problem.
-pub const MOST_COLUMNS: usize = 1_000;
+pub const MOST_COLUMNS: usize = 8_000;
 
 /// The most rows of a problem.
-pub const MOST_ROWS: usize = 1_000;
+pub const MOST_ROWS: usize = 8_000;
 
 /// The most cuts that a search adds to a problem's rows.
 pub const MOST_CUTS: u32 = 256;
