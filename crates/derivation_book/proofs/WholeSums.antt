@@ -1,16 +1,15 @@
 -- Combinations of multipliers over one denominator: where their sums in whole numbers aren't cramped, those of the fractions aren't either.
-use Rattle.std.specs.Prelude.{◌≡◌, ℕ, zero, suc, ◌+◌, ◌*◌, ◌^◌, ◌<◌, ℤ, pos, ◌+ℤ◌, ◌*ℤ◌, nat_abs, eqb, Bool, true, false, if◌then◌else◌, List, [], ◌∷◌, ◌++◌, map, slice_index_or, All, Option, Some, option_map, refl}
+use Rattle.std.specs.Prelude.{◌≡◌, ℕ, zero, suc, ◌+◌, ◌*◌, ◌^◌, ◌<◌, ◌≤◌, ℤ, pos, ◌+ℤ◌, ◌*ℤ◌, nat_abs, eqb, Bool, true, false, if◌then◌else◌, List, [], ◌∷◌, ◌++◌, map, slice_index_or, replicate, All, Option, Some, option_map, refl}
 use Rattle.std.specs.Option.{option_and_then}
-use Rattle.std.proofs.Common.{sym, ap, ◌∙◌, subst, arith, get_or, take, drop, length}
+use Rattle.std.proofs.Common.{sym, ap, ◌∙◌, subst, arith, get_or, take, length}
 use Rattle.std.proofs.lemmas.Int.{ints}
-use Rattle.std.proofs.lemmas.List.{take_more, length-map}
-use Rattle.std.proofs.Math.Seq.{take-append_seam}
-use Rattle.std.proofs.lemmas.List.Elements.{All-nil, All-cons, All-head, All-tail, All-weaker}
+use Rattle.std.proofs.lemmas.List.{take_all, take_more}
+use Rattle.std.proofs.lemmas.List.Elements.{All-nil, All-cons, All-head, All-tail, All-push, All-weaker}
 use Rattle.std.proofs.Math.Nat.{le_of_dvd}
-use Rattle.fraction.specs.Rational.{ℚ, whole, frac, ◌+ℚ◌, ◌*ℚ◌}
+use Rattle.fraction.specs.Rational.{ℚ, whole, frac, ◌+ℚ◌}
 use Rattle.fraction.specs.Checked.{add_checked, mul_checked}
 use Rattle.fraction.specs.Lemmas.Integers.{is_diff, diff-pos, diff-mul, diff-same}
-use Rattle.fraction.specs.Lemmas.Rational.{lit_one, frac_den, frac_same, frac-*ℚ, divided}
+use Rattle.fraction.specs.Lemmas.Rational.{ℚ_is, frac_den, frac_same}
 use Rattle.fraction.specs.Lemmas.Bounds.{was_some, value_from_add, value_from_mul, whole_parts, frac-num_le, was_mapped}
 use Rattle.fraction.specs.Lemmas.Checked.{sum_has_fraction, product_has_fraction}
 use Rattle.fraction.specs.Lemmas.Whole.{IsAnInteger, integer_from_whole, integer-+, whole-+, whole-*}
@@ -25,8 +24,10 @@ use Rattle.derivation_book.specs.declared.place.Place.{Place}
 use Rattle.derivation_book.specs.declared.place.Place.TheVariants.{Lower, Upper}
 use Rattle.derivation_book.specs.Places.{row_in, no_span}
 use Rattle.derivation_book.specs.Sums.{with_product, sum_from, coefficient_at, side_at, combined_at, combined_side, combined_columns, Sums, sums_of, combined}
+use Rattle.derivation_book.specs.Adding.{row_added}
 use Rattle.derivation_book.specs.Lemmas.OneDenominator.{add_over, mul_over, zero_over}
-use Rattle.derivation_book.specs.OverOne.{IsTimes, IsScaled, AreScaled, IsWholeRow, NamesWholeRow, over, sums_over}
+use Rattle.derivation_book.specs.Lemmas.Combining.{combined_from, combined_step, combined_done, combined_begun, first_combined}
+use Rattle.derivation_book.specs.OverOne.{IsScaled, AreScaled, IsWholeRow, NamesWholeRow, over, sums_over}
 
 -- ---- whole coefficients
 abbrev IsWholeTerm : ℕ × ℚ → Type 0
@@ -119,17 +120,11 @@ combined_over ls d ms ws n s o h w k e =
     (λ i. option_and_then (λ cs. option_map (sums_of cs) (side i)) (columns_over ls d ms ws 0 n a.0 o h w k a.1 i)) ∙ ap (λ v. Some (sums_over d v)) b.2
 
 -- ---- a multiplier times the denominator
-times_one : (z : ℤ) (d : ℕ) → (z *ℤ pos d) *ℤ pos 1 ≡ z *ℤ pos (d * 1)
-times_one z d = rw (is_diff z) (simp (diff-pos, diff-mul) (diff-same _ _ _ _ (omega arith)))
+times_part : (z : ℤ) (a k d : ℕ) → a * k ≡ d → z *ℤ pos d ≡ (z *ℤ pos k) *ℤ pos a
+times_part z a k d e = rw (← e, is_diff z) (simp (diff-pos, diff-mul) (diff-same _ _ _ _ (omega arith)))
 
-over_times : (z : ℤ) (d : ℕ) → 0 < d → frac z d *ℚ whole (pos d) ≡ whole z
-over_times z d o = frac-*ℚ z (pos d) d 1 o lit_one ∙ frac_same (z *ℤ pos d) z (d * 1) 1 (omega (arith, o)) lit_one (times_one z d)
-
-pub times_is : (d : ℕ) (m w : ℚ) → 0 < d → mul_checked m (whole (pos d)) ≡ Some w → w.den ≡ 1 → IsTimes d m w
-times_is d m w o e h =
-    let i = integer_from_whole w h in
-    let n : 0 < nat_abs (whole (pos d)).num = subst (λ z. 0 < nat_abs z) (sym (whole_parts (pos d)).0) o in
-    (i.0, i.1, divided (whole (pos d)) m (frac i.0 d) n (value_from_mul m (whole (pos d)) w e ∙ i.1 ∙ sym (over_times i.0 d o)))
+pub over_multiple : (m : ℚ) (k d : ℕ) → 0 < d → m.den * k ≡ d → m ≡ frac (m.num *ℤ pos k) d
+over_multiple m k d o e = ℚ_is m ∙ frac_same m.num (m.num *ℤ pos k) m.den d m.lowest.0 o (times_part m.num m.den k d e)
 
 pub one_scaled : (d : ℕ) (ms ws : List (ℕ × ℚ)) (m w : ℕ × ℚ) → AreScaled d ms ws → IsScaled d m w → AreScaled d (ms ++ m ∷ []) (ws ++ w ∷ [])
 one_scaled d [] [] m w h k = (k, tt)
@@ -137,22 +132,53 @@ one_scaled d [] (v ∷ vs) m w h k = absurd h
 one_scaled d (n ∷ ns) [] m w h k = absurd h
 one_scaled d (n ∷ ns) (v ∷ vs) m w h k = (h.0, one_scaled d ns vs m w h.1 k)
 
-abbrev IsBelow : ℕ → ℕ × ℚ → Type 0
-IsBelow n m = m.0 < n
+-- ---- one multiplier after another
+last_added : (ls : List CertLine) (ws : List (ℕ × ℚ)) (w : ℕ × ℚ) (q u v : Sums) → combined_from ls ws q ≡ Some u → row_added u w.1 (row_at ls w.0) ≡ Some v
+    → combined_from ls (ws ++ w ∷ []) q ≡ Some v
+last_added ls [] w q u v e f =
+    let same : Some q ≡ Some u = sym (combined_done ls q) ∙ e in
+    let z : q ≡ u = cc in
+    combined_step ls w [] q ∙ ap (λ (p : Sums). option_and_then (combined_from ls []) (row_added p w.1 (row_at ls w.0))) z
+    ∙ ap (option_and_then (combined_from ls [])) f ∙ combined_done ls v
+last_added ls (x ∷ ws) w q u v e f =
+    let s = was_some (combined_from ls ws) (row_added q x.1 (row_at ls x.0)) u (sym (combined_step ls x ws q) ∙ e) in
+    combined_step ls x (ws ++ w ∷ []) q ∙ ap (option_and_then (combined_from ls (ws ++ w ∷ []))) s.1 ∙ last_added ls ws w s.0 u v s.2 f
 
-pub scaled_below : (d n : ℕ) (ms ws : List (ℕ × ℚ)) → AreScaled d ms ws → All (IsBelow n) ms → All (IsBelow n) ws
-scaled_below d n [] [] h k = All-nil (IsBelow n)
-scaled_below d n [] (v ∷ vs) h k = absurd h
-scaled_below d n (m ∷ ms) [] h k = absurd h
-scaled_below d n (m ∷ ms) (v ∷ vs) h k =
-    All-cons (IsBelow n) v vs (subst (λ i. i < n) (sym h.0.0) (All-head (IsBelow n) m ms k)) (scaled_below d n ms vs h.1 (All-tail (IsBelow n) m ms k))
+-- the sums are those of the multipliers times d, all of whose rows are whole
+pub record AreScaledSums (ls : List CertLine) (d : ℕ) (ms : List (ℕ × ℚ)) (n : ℕ) (q : Sums) : Type 0 where
+  pub multipliers : List (ℕ × ℚ)
+  pub scaled : AreScaled d ms multipliers
+  pub rows : All (NamesWholeRow ls) ms
+  pub combined : combined ls multipliers n ≡ Some q
 
-pub next_scaled : (d : ℕ) (ms ws more : List (ℕ × ℚ)) (i : ℕ) (m p : ℕ × ℚ) (w : ℚ) → i < length ms → m ≡ get_or ms i m → p ≡ m → IsTimes d p.1 w → more ≡ ws ++ (p.0, w) ∷ []
-    → AreScaled d (take i ms) ws → AreScaled d (take (i + 1) ms) more
-next_scaled d ms ws more i m p w l e f h g k =
-    subst (AreScaled d (take (i + 1) ms)) (sym g)
-    (subst (λ (us : List (ℕ × ℚ)). AreScaled d us (ws ++ (p.0, w) ∷ [])) (sym (take_more ms i m l ∙ ap (λ (u : ℕ × ℚ). take i ms ++ u ∷ []) (sym (f ∙ e))))
-    (one_scaled d (take i ms) ws p (p.0, w) k (refl, h)))
+pub first_scaled : (ls : List CertLine) (d : ℕ) (n k : ℕ) (q : Sums) → k ≡ n → q ≡ sums_of (replicate k (whole (pos 0))) (whole (pos 0)) → AreScaledSums ls d [] n q
+first_scaled ls d n k q e f = record {
+  multipliers = [];
+  scaled = tt;
+  rows = All-nil (NamesWholeRow ls);
+  combined = sym (first_combined ls [] n k e q f) ∙ combined_done ls q;
+}
+
+one_more : (ls : List CertLine) (d : ℕ) (ms : List (ℕ × ℚ)) (n : ℕ) (q u : Sums) (p : ℕ × ℚ) (z : ℤ) → p.1 ≡ frac z d → IsWholeRow (row_at ls p.0) → row_added q (whole z) (row_at ls p.0) ≡ Some u
+    → AreScaledSums ls d ms n q → AreScaledSums ls d (ms ++ p ∷ []) n u
+one_more ls d ms n q u p z e w f h = record {
+  multipliers = h.multipliers ++ (p.0, whole z) ∷ [];
+  scaled = one_scaled d ms h.multipliers p (p.0, whole z) h.scaled (refl, (z, refl, e));
+  rows = All-push (NamesWholeRow ls) ms p h.rows w;
+  combined = sym (combined_begun ls (h.multipliers ++ (p.0, whole z) ∷ []) n)
+      ∙ last_added ls h.multipliers (p.0, whole z) (sums_of (replicate n (whole (pos 0))) (whole (pos 0))) q u (combined_begun ls h.multipliers n ∙ h.combined) f;
+}
+
+pub next_scaled : (ls : List CertLine) (d : ℕ) (ms : List (ℕ × ℚ)) (n : ℕ) (q u : Sums) (i : ℕ) (m p : ℕ × ℚ) (z : ℤ) → i < length ms → m ≡ get_or ms i m → p ≡ m → p.1 ≡ frac z d
+    → IsWholeRow (row_at ls p.0) → row_added q (whole z) (row_at ls p.0) ≡ Some u → AreScaledSums ls d (take i ms) n q → AreScaledSums ls d (take (i + 1) ms) n u
+next_scaled ls d ms n q u i m p z l e f g w r h =
+    subst (λ (us : List (ℕ × ℚ)). AreScaledSums ls d us n u) (sym (take_more ms i m l ∙ ap (λ (x : ℕ × ℚ). take i ms ++ x ∷ []) (sym (f ∙ e))))
+    (one_more ls d (take i ms) n q u p z g w r h)
+
+pub all_scaled : (ls : List CertLine) (d : ℕ) (ms : List (ℕ × ℚ)) (n : ℕ) (q : Sums) (i : ℕ) → length ms ≤ i → 0 < d → d < 2 ^ 127 → AreScaledSums ls d (take i ms) n q → combined ls ms n ≡ Some (sums_over d q)
+all_scaled ls d ms n q i l o k h =
+    let s = subst (λ (us : List (ℕ × ℚ)). AreScaledSums ls d us n q) (take_all i ms l) h in
+    combined_over ls d ms s.multipliers n q o k s.rows s.scaled s.combined
 
 -- ---- bound rows
 one_is_whole : IsWhole (whole (pos 1))
@@ -179,9 +205,3 @@ all_over_fit d (c ∷ cs) o h k =
 
 pub sum_over_fits : (d : ℕ) (c v : ℚ) → 0 < d → d < 2 ^ 127 → FitsFraction c → v ≡ over d c → FitsFraction v
 sum_over_fits d c v o h k e = subst FitsFraction (sym e) (over_fits d c o h k)
-
--- a list that was written over another one of its length
-pub written : (n d : ℕ) (items now more : List ℚ) → more ≡ map (over d) now → now ≡ items → length now ≡ n → take n (more ++ drop (length more) items) ≡ map (over d) items
-written n d items now more e f l =
-    let k : length more ≡ n = ap length e ∙ length-map now (over d) ∙ l in
-    ap (λ m. take m (more ++ drop (length more) items)) (sym k) ∙ take-append_seam more (drop (length more) items) ∙ e ∙ ap (map (over d)) f

@@ -3,6 +3,7 @@ pub mod Known
 pub mod Sums
 pub mod Sizes
 pub mod OverOne
+pub mod IntegerSums
 pub mod Adding
 pub mod Rounded
 pub mod Price

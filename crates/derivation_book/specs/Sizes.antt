@@ -7,12 +7,12 @@ denominator_limit = 2 ^ 62
 
 -- the largest numerator that a combination leaves of a column
 abbrev pub largest_left : ℕ
-largest_left = 2 ^ 85
+largest_left = 2 ^ 84
 
 -- the largest bound that such a numerator is multiplied with
 abbrev pub largest_taken : ℕ
-largest_taken = 2 ^ 31
+largest_taken = 2 ^ 30
 
 -- the largest addend of a price: the product of the two, or the numerator of the right side
 abbrev pub largest_addend : ℕ
-largest_addend = 2 ^ 116
+largest_addend = 2 ^ 114

@@ -48,7 +48,7 @@ pub(crate) fn short(number: Frac) -> Option<i64>
 
 /// The product of two numbers of 64 bits, which needs no test.
 #[inline(always)]
-fn short_product(factor: i64, number: i64) -> i128
+pub(crate) fn short_product(factor: i64, number: i64) -> i128
     ensures value { result ≡ factor *ℤ number }
     ensures small { nat_abs result ≤ 2 ^ 126 }
 {

@@ -39,12 +39,25 @@ fn are_cut_coefficients(coefficients: &[Frac]) -> bool
         .all(|coefficient| is_cut_coefficient(*coefficient))
 }
 
+/// How many coefficients aren't 0.
+fn nonzero_count(coefficients: &[Frac]) -> usize
+    ensures { result ≡ length (nonzero_terms 0 coefficients.now) }
+{
+    let mut count = 0;
+    for coefficient in coefficients {
+        if coefficient.numer() != 0 {
+            count += 1;
+        }
+    }
+    count
+}
+
 /// The coefficients that aren't 0, with their columns.
 fn nonzero_terms(alloc: Global, coefficients: &[Frac]) -> Result<Terms, AllocError>
     requires { length coefficients.now < 2 ^ 32 }
     ensures { IfOk result (λ t. t ≡ nonzero_terms 0 coefficients.now) }
 {
-    let mut terms = Terms::new(alloc);
+    let mut terms = Terms::with_capacity(alloc, nonzero_count(coefficients))?;
     for (column, coefficient) in coefficients.iter().enumerate() {
         if coefficient.numer() != 0 {
             terms.push(column as u32, *coefficient)?;

@@ -1,7 +1,7 @@
 //! Prices by whole numbers, of combinations whose numbers are whole numbers over one denominator.
 
 ghost use Rattle.std.specs.Prelude.{◌≡◌, ℕ, ◌<◌, ◌≤◌, ◌+◌, ◌*◌, ◌^◌, ◌+ℤ◌, ◌-ℤ◌, ◌*ℤ◌, pos, nat_abs, int_lt, length, map, IfSome, Some, if◌then◌else◌};
-ghost use Rattle.fraction.specs.Rational.{frac};
+ghost use Rattle.fraction.specs.Rational.{frac, whole};
 ghost use Rattle.fraction.specs.Checked.{sub_checked};
 ghost use Rattle.problem.specs.Rising.{AreRising};
 ghost use Rattle.problem.specs.Limits.{most_columns};
@@ -9,20 +9,20 @@ ghost use Rattle.derivation_book.specs.OverOne.{over};
 ghost use Rattle.derivation_book.specs.Price.{with_bound, with_reduced_cost, with_columns};
 ghost use Rattle.derivation_book.specs.Sizes.{denominator_limit, largest_left, largest_taken, largest_addend};
 
-use crate::combination::Combination;
+use crate::integer_sums::IntegerSums;
 use crate::price::wanted_at;
 use fraction::Frac;
 use problem::{MOST_COLUMNS, Term};
 use problem_box::{IntBox, Span};
 
 /// The greatest size of a numerator that is left of a column.
-const MOST_LEFT: u128 = 1 << 85;
+const MOST_LEFT: u128 = 1 << 84;
 
 /// The greatest size of a bound.
-const MOST_BOUND: u64 = 1 << 31;
+const MOST_BOUND: u64 = 1 << 30;
 
 /// The greatest size of the right side's numerator.
-const MOST_SIDE: u128 = 1 << 116;
+const MOST_SIDE: u128 = 1 << 114;
 
 /// The product of a number of 64 bits with a natural one of 62.
 #[inline(always)]
@@ -122,17 +122,17 @@ fn with_left(total: i128, left: i128, span: Span) -> Option<i128>
 fn with_column(
     total: i128,
     wanted: Frac,
-    combined: Frac,
+    combined: i128,
     span: Span,
     denominator: u64,
 ) -> Option<i128>
     requires total { nat_abs total ≤ (most_columns + 1) * largest_addend }
     requires positive { 0 < denominator }
     requires denominator_small { denominator < denominator_limit }
-    ensures value { IfSome result (λ t. with_reduced_cost (frac total denominator) wanted (over denominator combined) span ≡ Some (frac t denominator)) }
+    ensures value { IfSome result (λ t. with_reduced_cost (frac total denominator) wanted (frac combined denominator) span ≡ Some (frac t denominator)) }
     ensures small { IfSome result (λ t. nat_abs t ≤ nat_abs total + largest_addend) }
 {
-    let left = left_numerator(wanted, combined.numer(), denominator)?;
+    let left = left_numerator(wanted, combined, denominator)?;
     with_left(total, left, span)
 }
 
@@ -140,7 +140,7 @@ fn with_column(
 fn price_numerator(
     side: i128,
     target: &[Term],
-    coefficients: &[Frac],
+    coefficients: &[i128],
     area: &IntBox,
     denominator: u64,
 ) -> Option<i128>
@@ -149,7 +149,7 @@ fn price_numerator(
     requires denominator_small { denominator < denominator_limit }
     requires columns { length area.now ≡ length coefficients.now }
     requires rising { AreRising target.now }
-    ensures value { IfSome result (λ t. with_columns (frac side denominator) target.now 0 (map (over denominator) coefficients.now) area.now ≡ Some (frac t denominator)) }
+    ensures value { IfSome result (λ t. with_columns (frac side denominator) target.now 0 (map (over denominator) (map whole coefficients.now)) area.now ≡ Some (frac t denominator)) }
     ensures small { IfSome result (λ t. nat_abs t < 2 ^ 127) }
 {
     if coefficients.len() > MOST_COLUMNS {
@@ -165,7 +165,7 @@ fn price_numerator(
     Some(total)
 }
 
-impl Combination {
+impl IntegerSums {
     /// The price over a box, where the combination has the numerators of its numbers over the denominator; none where this gives up: where the target
     /// isn't whole, or a number is too large.
     pub(crate) fn integer_price(
@@ -180,7 +180,7 @@ impl Combination {
         requires rising { AreRising target.now }
         ensures { IfSome result (λ v. with_columns (over denominator self.now.side) target.now 0 (map (over denominator) self.now.coefficients) area.now ≡ Some v) }
     {
-        let side = self.side.numer();
+        let side = self.side;
         if side.unsigned_abs() > MOST_SIDE {
             return None;
         }

@@ -11,6 +11,7 @@ mod combination;
 mod cut;
 mod cut_rows;
 mod integer_price;
+mod integer_sums;
 pub mod laws;
 mod legal;
 mod place;

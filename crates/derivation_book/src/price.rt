@@ -13,6 +13,7 @@ ghost use Rattle.derivation_book.specs.Sizes.{denominator_limit};
 
 use crate::book::Book;
 use crate::combination::{Combination, short, with_product, with_short_product};
+use crate::integer_sums::IntegerSums;
 use fraction::Frac;
 use node_events::Mult;
 use problem::{Problem, Term};
@@ -199,23 +200,6 @@ impl Combination {
         with_columns(self.side, target, &self.coefficients, area)
     }
 
-    /// The price over a box, where the combination has the numerators of its numbers over the denominator; none exactly where that is cramped.
-    fn price_over(mut self, denominator: u64, area: &IntBox, target: &[Term]) -> Option<Frac>
-        requires positive { 0 < denominator }
-        requires small { denominator < denominator_limit }
-        requires columns { length area.now ≡ length self.coefficients }
-        requires rising { AreRising target.now }
-        ensures { result ≡ with_columns (over denominator self.side) target.now 0 (map (over denominator) self.coefficients) area.now }
-    {
-        match self.integer_price(denominator, area, target) {
-            Some(price) => Some(price),
-            None => {
-                self.divide(denominator);
-                self.price(area, target)
-            }
-        }
-    }
-
     /// What is left of a target at each column, no difference being cramped. The one error is want of memory.
     fn left_over(&self, alloc: Global, target: &[Term]) -> Result<Vec<Frac>, AllocError>
         requires rising { AreRising target.now }
@@ -224,6 +208,29 @@ impl Combination {
         ensures left { IfOk result (λ v. (j : ℕ) → j < length self.now.coefficients → slice_index_or v.items j (whole (pos 0)) ≡ coefficient target.now j +ℚ neg_ℚ (slice_index_or self.now.coefficients j (whole (pos 0)))) }
     {
         left_over(alloc, target, &self.coefficients)
+    }
+}
+
+impl IntegerSums {
+    /// The price over a box of the combination that has these numbers over the denominator; none exactly where that is cramped. The one error is want
+    /// of memory.
+    fn price_over(
+        &self,
+        alloc: Global,
+        denominator: u64,
+        area: &IntBox,
+        target: &[Term],
+    ) -> Result<Option<Frac>, AllocError>
+        requires positive { 0 < denominator }
+        requires small { denominator < denominator_limit }
+        requires columns { length area.now ≡ length self.now.coefficients }
+        requires rising { AreRising target.now }
+        ensures { IfOk result (λ p. p ≡ with_columns (over denominator self.now.side) target.now 0 (map (over denominator) self.now.coefficients) area.now) }
+    {
+        match self.integer_price(denominator, area, target) {
+            Some(price) => Ok(Some(price)),
+            None => Ok(self.over(alloc, denominator)?.price(area, target)),
+        }
     }
 }
 
@@ -247,7 +254,7 @@ impl Book {
     {
         let mult = mult.as_slice();
         if let Some((denominator, sums)) = self.scaled_sums(alloc, problem, mult)? {
-            return Ok(sums.price_over(denominator, area, target));
+            return sums.price_over(alloc, denominator, area, target);
         }
         match self.combine_by_fractions(alloc, problem, mult)? {
             Some(sums) => Ok(sums.price(area, target)),

@@ -1,15 +1,24 @@
-//! Sums by whole numbers: each multiplier is taken over one denominator.
+//! Multipliers over one denominator.
 
-ghost use Rattle.std.specs.Prelude.{◌≡◌, ◌<◌, map, IsTrue, IfOk, IfSome};
-ghost use Rattle.derivation_book.specs.OverOne.{IsTimes, AreScaled, IsWholeRow, over};
+ghost use Rattle.std.specs.Prelude.{◌≡◌, ◌<◌, ◌%◌, IsTrue, IfSome};
+ghost use Rattle.fraction.specs.Rational.{frac};
 ghost use Rattle.derivation_book.specs.Sizes.{denominator_limit};
 
 use fraction::Frac;
-use problem::{Row, Term, Terms};
-use std::alloc::{AllocError, Global};
+use problem::Term;
 
 /// Common denominators are below this.
 const LIMIT: u128 = 1 << 62;
+
+/// Whether a fraction's denominator divides the number.
+fn is_multiple(number: u64, factor: Frac) -> bool
+    ensures { IsTrue result → number % factor.den ≡ 0 }
+{
+    match u64::try_from(factor.denom()) {
+        Ok(denominator) => number % denominator == 0,
+        Err(_) => false,
+    }
+}
 
 /// A multiple of a number that is a multiple of a fraction's denominator too, the least one; none where it is too large.
 fn common_multiple(number: u64, factor: Frac) -> Option<u64>
@@ -18,8 +27,8 @@ fn common_multiple(number: u64, factor: Frac) -> Option<u64>
     ensures positive { IfSome result (λ n. 0 < n) }
     ensures small { IfSome result (λ n. n < denominator_limit) }
 {
-    // Most multipliers are whole.
-    if factor.is_whole() {
+    // Most multipliers are whole, and the denominators of the others are mostly the same few.
+    if factor.is_whole() || is_multiple(number, factor) {
         return Some(number);
     }
     factor.limits_hold();
@@ -36,7 +45,7 @@ fn common_multiple(number: u64, factor: Frac) -> Option<u64>
     }
 }
 
-/// A number that each multiplier's denominator divides; none where it is 1, since sums of fractions are then as fast, or too large.
+/// A number that each multiplier's denominator divides; none where it is too large.
 pub(crate) fn common_denominator(mult: &[Term]) -> Option<u64>
     ensures positive { IfSome result (λ n. 0 < n) }
     ensures small { IfSome result (λ n. n < denominator_limit) }
@@ -46,70 +55,24 @@ pub(crate) fn common_denominator(mult: &[Term]) -> Option<u64>
         let (_, factor) = multiplier.pair();
         denominator = common_multiple(denominator, factor)?;
     }
-    if denominator == 1 {
-        None
-    } else {
-        Some(denominator)
-    }
+    Some(denominator)
 }
 
-/// A multiplier times the denominator; none where that isn't whole.
-fn times(factor: Frac, denominator: u64) -> Option<Frac>
+/// A multiplier times the denominator; none where that isn't whole, or has more than 64 bits.
+pub(crate) fn times(factor: Frac, denominator: u64) -> Option<i64>
     requires positive { 0 < denominator }
     requires small { denominator < denominator_limit }
-    ensures { IfSome result (λ w. IsTimes denominator factor w) }
+    ensures { IfSome result (λ z. factor ≡ frac z denominator) }
 {
-    let product = factor.mul(Frac::of(denominator as i128))?;
-    if product.is_whole() {
-        Some(product)
-    } else {
-        None
+    let Ok(numerator) = i64::try_from(factor.numer()) else {
+        return None;
+    };
+    let Ok(part) = u64::try_from(factor.denom()) else {
+        return None;
+    };
+    if denominator % part != 0 {
+        return None;
     }
-}
-
-/// The multipliers times the denominator; none where one isn't whole then. The one error is want of memory.
-pub(crate) fn all_times(
-    alloc: Global,
-    mult: &[Term],
-    denominator: u64,
-) -> Result<Option<Terms>, AllocError>
-    requires positive { 0 < denominator }
-    requires small { denominator < denominator_limit }
-    ensures { IfOk result (λ o. IfSome o (λ t. AreScaled denominator mult.now t)) }
-{
-    let mut scaled = Terms::new(alloc);
-    for multiplier in mult {
-        let (number, factor) = multiplier.pair();
-        match times(factor, denominator) {
-            Some(product) => scaled.push(number, product)?,
-            None => return Ok(None),
-        }
-    }
-    Ok(Some(scaled))
-}
-
-/// Whether all numbers of a row are whole.
-pub(crate) fn is_whole_row(row: &Row) -> bool
-    ensures { IsTrue result → IsWholeRow row.now }
-{
-    row.terms.are_whole() && row.rhs.is_whole()
-}
-
-/// A whole number over the denominator.
-pub(crate) fn over(number: Frac, denominator: u64) -> Frac
-    requires { 0 < denominator }
-    ensures { result ≡ over denominator number }
-{
-    number.limits_hold();
-    Frac::make(number.numer(), denominator as i128)
-}
-
-/// Divides whole numbers by the denominator.
-pub(crate) fn divide(numbers: &mut [Frac], denominator: u64)
-    requires { 0 < denominator }
-    ensures { numbers.new ≡ map (over denominator) numbers.old }
-{
-    for number in numbers.iter_mut() {
-        *number = over(*number, denominator);
-    }
+    let scaled = numerator.checked_mul((denominator / part) as i64)?;
+    Some(scaled)
 }

@@ -101,9 +101,9 @@ first_full found cs l =
     let k = kept found cs in
     ap (take 4) k.1 ∙ ap (λ n. take n (found ++ k.0)) l ∙ take-append_seam found k.0
 
--- where four are found, no more is kept
-pub full_stays : (found : List (List (ℕ × ℚ))) (c : Option (List (ℕ × ℚ))) (rest : List (Option (List (ℕ × ℚ)))) → 4 ≡ length found → take 4 (with_cuts found rest) ≡ take 4 (with_cuts found (c ∷ rest))
-full_stays found c rest l = first_full found rest l ∙ sym (first_full found (c ∷ rest) l)
+-- where four are found, none of these is kept
+pub full_stays : (found : List (List (ℕ × ℚ))) (cs rest : List (Option (List (ℕ × ℚ)))) → 4 ≡ length found → take 4 (with_cuts found rest) ≡ take 4 (with_cuts found (cs ++ rest))
+full_stays found cs rest l = first_full found rest l ∙ sym (first_full found (cs ++ rest) l)
 
 -- ---- the same list
 same_none : (b : List (ℕ × ℚ)) → is_same [] b ≡ eqb 0 (length b)

@@ -48,7 +48,7 @@ pub(crate) fn fillings(
     requires there { length coefficients.now ≤ length tableau.now.statuses }
     ensures { IfOk result (λ o. o ≡ fillings first tableau.now 0 coefficients.now) }
 {
-    let mut multipliers = Terms::new(alloc);
+    let mut multipliers = Terms::with_capacity(alloc, coefficients.len())?;
     for (column, coefficient) in coefficients.iter().enumerate() {
         let status = tableau.status(column);
         match filling(status, *coefficient) {

@@ -4,12 +4,14 @@ ghost use Rattle.std.specs.Prelude.{◌≡◌, ◌<◌, ◌≤◌, ◌+◌, ◌+
 ghost use Rattle.derivation_book.specs.Known.{known_lines};
 ghost use Rattle.gomory_cuts.specs.Multipliers.{filled, gomory_multipliers};
 ghost use Rattle.dual_simplex.specs.Sizes.{most_numbered_cuts};
+ghost use Rattle.tableau.specs.Tableau.{row_of};
 
 use crate::filling::fillings;
 use crate::multiplier::{of_cuts, of_rows};
 use crate::sign::Sign;
 use derivation_book::Book;
 use dual_simplex::FinalTableau;
+use fraction::Frac;
 use problem::{Problem, Term, Terms};
 use std::alloc::{AllocError, Global};
 
@@ -28,7 +30,8 @@ fn append(terms: &mut Terms, more: &[Term]) -> Result<(), AllocError>
 fn joined(alloc: Global, front: &Terms, back: &Terms) -> Result<Terms, AllocError>
     ensures { IfOk result (λ t. t ≡ front.now ++ back.now) }
 {
-    let mut all = front.copy(alloc)?;
+    let mut all = Terms::with_capacity(alloc, front.len().saturating_add(back.len()))?;
+    append(&mut all, front.as_slice())?;
     append(&mut all, back.as_slice())?;
     Ok(all)
 }
@@ -59,8 +62,8 @@ fn filled(
     Ok(Some(joined(alloc, &front, of_cuts)?))
 }
 
-/// The multipliers from the row of a column, with a sign; none exactly where a step is cramped. Their numbers rise, and none is 0. The one error is
-/// want of memory.
+/// The multipliers from the row of a column, which is given, with a sign; none exactly where a step is cramped. Their numbers rise, and none is 0.
+/// The one error is want of memory.
 pub(crate) fn gomory_multipliers(
     alloc: Global,
     tableau: &FinalTableau,
@@ -68,17 +71,17 @@ pub(crate) fn gomory_multipliers(
     book: &Book,
     sign: Sign,
     column: usize,
+    row: &[Frac],
 ) -> Result<Option<Terms>, AllocError>
     requires few { length book.now.cuts < most_numbered_cuts }
     requires columns { length problem.now.spans ≤ length tableau.now.statuses }
-    requires column { column < length problem.now.spans }
+    requires row { row.now ≡ row_of tableau.now column }
     ensures { IfOk result (λ o. o ≡ gomory_multipliers problem.now book.now.cuts tableau.now sign column) }
 {
-    let row = tableau.coefficients(alloc, column)?;
-    let Some(of_rows) = of_rows(alloc, problem, sign, &row)? else {
+    let Some(of_rows) = of_rows(alloc, problem, sign, row)? else {
         return Ok(None);
     };
-    let Some(of_cuts) = of_cuts(alloc, problem, book, sign, &row)? else {
+    let Some(of_cuts) = of_cuts(alloc, problem, book, sign, row)? else {
         return Ok(None);
     };
     filled(alloc, tableau, problem, book, &of_rows, &of_cuts)

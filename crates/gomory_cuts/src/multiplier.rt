@@ -33,6 +33,10 @@ fn below_ceiling(number: Frac) -> Option<Frac>
 fn multiplier(sign: Sign, sense: Sense, coefficient: Frac) -> Option<Frac>
     ensures { result ≡ multiplier sign sense coefficient }
 {
+    // That of a basic variable is 0, and most rows' variables are basic.
+    if coefficient.numer() == 0 {
+        return Some(coefficient);
+    }
     match sense {
         Sense::G => above_floor(signed(sign, coefficient)),
         Sense::L => below_ceiling(signed(sign, coefficient)),
@@ -79,7 +83,7 @@ pub(crate) fn of_rows(
 {
     problem.limits_hold();
     let first = problem.columns();
-    let mut multipliers = Terms::new(alloc);
+    let mut multipliers = Terms::with_capacity(alloc, problem.rows())?;
     for index in 0..problem.rows() {
         match multiplier(sign, problem.row(index).sense, entry(row, first + index)) {
             Some(factor) => push_multiplier(&mut multipliers, index as u32, factor)?,
@@ -103,7 +107,7 @@ pub(crate) fn of_cuts(
     problem.limits_hold();
     let variable = problem.columns() + problem.rows();
     let number = problem.rows() + 2 * problem.columns();
-    let mut multipliers = Terms::new(alloc);
+    let mut multipliers = Terms::with_capacity(alloc, book.len())?;
     for index in 0..book.len() {
         match multiplier(sign, book.cut(index).sense, entry(row, variable + index)) {
             Some(factor) => push_multiplier(&mut multipliers, (number + index) as u32, factor)?,

@@ -3,6 +3,8 @@
 ghost use Rattle.std.specs.Prelude.{◌≡◌, ◌<◌, ◌≤◌, ◌++◌, ◌∷◌, ◌&&◌, nat_eq, IfOk, OnOk, List, Option, length, take};
 ghost use Rattle.std.specs.Ordering.{int_eq};
 ghost use Rattle.problem.specs.Linear.{Multipliers};
+ghost use Rattle.tableau.specs.Tableau.{row_of};
+ghost use Rattle.gomory_cuts.specs.declared.sign.Sign.TheVariants.{Plus, Minus};
 ghost use Rattle.gomory_cuts.specs.Separation.{cut_at, is_fractional, cuts_at, is_same, is_found, with_cuts, separation};
 ghost use Rattle.dual_simplex.specs.Sizes.{most_numbered_cuts};
 
@@ -20,8 +22,8 @@ use tableau::BasisStatus;
 /// How many cuts are separated at most.
 const MOST: usize = 4;
 
-/// The multipliers of the cut that the row of a column gives with a sign; none exactly where a step is cramped, or the point violates no such cut. The
-/// one error is want of memory.
+/// The multipliers of the cut that a column's row, which is given, gives with a sign; none exactly where a step is cramped, or the point violates no
+/// such cut. The one error is want of memory.
 fn cut_at(
     alloc: Global,
     tableau: &FinalTableau,
@@ -29,14 +31,16 @@ fn cut_at(
     book: &Book,
     point: &RationalPoint,
     column: usize,
+    row: &[Frac],
     sign: Sign,
 ) -> Result<Option<Mult>, AllocError>
     requires few { length book.now.cuts < most_numbered_cuts }
     requires columns { length problem.now.spans ≤ length tableau.now.statuses }
-    requires column { column < length problem.now.spans }
+    requires row { row.now ≡ row_of tableau.now column }
     ensures { IfOk result (λ o. o ≡ cut_at problem.now book.now.cuts tableau.now point.now column sign) }
 {
-    let Some(multipliers) = gomory_multipliers(alloc, tableau, problem, book, sign, column)? else {
+    let Some(multipliers) = gomory_multipliers(alloc, tableau, problem, book, sign, column, row)?
+    else {
         return Ok(None);
     };
     let mult = Mult::make(multipliers);
@@ -93,7 +97,7 @@ fn is_found(mult: &Mult, found: &[Mult]) -> bool
     false
 }
 
-/// Adds the cut of a column and a sign, if it is there and new and there is place for one more. The one error is want of memory.
+/// Adds the cut of a column's row and a sign, if it is there and new and there is place for one more. The one error is want of memory.
 fn add_cut(
     alloc: Global,
     tableau: &FinalTableau,
@@ -101,12 +105,13 @@ fn add_cut(
     book: &Book,
     point: &RationalPoint,
     column: usize,
+    row: &[Frac],
     sign: Sign,
     found: &mut Vec<Mult>,
 ) -> Result<(), AllocError>
     requires few { length book.now.cuts < most_numbered_cuts }
     requires columns { length problem.now.spans ≤ length tableau.now.statuses }
-    requires column { column < length problem.now.spans }
+    requires row { row.now ≡ row_of tableau.now column }
     requires four { length found.old.items ≤ 4 }
     ensures value { OnOk result ((rest : List (Option Multipliers)) → take 4 (with_cuts found.new.items rest) ≡ take 4 (with_cuts found.old.items (cut_at problem.now book.now.cuts tableau.now point.now column sign ∷ rest))) }
     ensures four { OnOk result (length found.new.items ≤ 4) }
@@ -114,11 +119,54 @@ fn add_cut(
     if found.len() == MOST {
         return Ok(());
     }
-    if let Some(mult) = cut_at(alloc, tableau, problem, book, point, column, sign)? {
+    if let Some(mult) = cut_at(alloc, tableau, problem, book, point, column, row, sign)? {
         if !is_found(&mult, found) {
             found.push(mult)?;
         }
     }
+    Ok(())
+}
+
+/// Adds the cuts of a column's row with both signs, those that are there and new, as long as there is place. The one error is want of memory.
+fn add_cuts_of_row(
+    alloc: Global,
+    tableau: &FinalTableau,
+    problem: &Problem,
+    book: &Book,
+    point: &RationalPoint,
+    column: usize,
+    row: &[Frac],
+    found: &mut Vec<Mult>,
+) -> Result<(), AllocError>
+    requires few { length book.now.cuts < most_numbered_cuts }
+    requires columns { length problem.now.spans ≤ length tableau.now.statuses }
+    requires row { row.now ≡ row_of tableau.now column }
+    requires four { length found.old.items ≤ 4 }
+    ensures value { OnOk result ((rest : List (Option Multipliers)) → take 4 (with_cuts found.new.items rest) ≡ take 4 (with_cuts found.old.items (cut_at problem.now book.now.cuts tableau.now point.now column Plus ∷ cut_at problem.now book.now.cuts tableau.now point.now column Minus ∷ rest))) }
+    ensures four { OnOk result (length found.new.items ≤ 4) }
+{
+    add_cut(
+        alloc,
+        tableau,
+        problem,
+        book,
+        point,
+        column,
+        row,
+        Sign::Plus,
+        found,
+    )?;
+    add_cut(
+        alloc,
+        tableau,
+        problem,
+        book,
+        point,
+        column,
+        row,
+        Sign::Minus,
+        found,
+    )?;
     Ok(())
 }
 
@@ -140,29 +188,12 @@ fn add_cuts(
     ensures value { OnOk result ((rest : List (Option Multipliers)) → take 4 (with_cuts found.new.items rest) ≡ take 4 (with_cuts found.old.items (cuts_at problem.now book.now.cuts tableau.now point.now column ++ rest))) }
     ensures four { OnOk result (length found.new.items ≤ 4) }
 {
-    if !is_fractional(tableau, point, column) {
+    // A row takes long to read, and where there is no place for its cuts it isn't.
+    if found.len() == MOST || !is_fractional(tableau, point, column) {
         return Ok(());
     }
-    add_cut(
-        alloc,
-        tableau,
-        problem,
-        book,
-        point,
-        column,
-        Sign::Plus,
-        found,
-    )?;
-    add_cut(
-        alloc,
-        tableau,
-        problem,
-        book,
-        point,
-        column,
-        Sign::Minus,
-        found,
-    )?;
+    let row = tableau.coefficients(alloc, column)?;
+    add_cuts_of_row(alloc, tableau, problem, book, point, column, &row, found)?;
     Ok(())
 }
 

@@ -6,7 +6,7 @@ use Rattle.gomory_cuts.proofs.Steps.{one_row, no_row, rows_begun}
 use Rattle.gomory_cuts.proofs.multiplier.of_cuts.Goals as goal
 
 pub loop-index-init : goal.loop-index-init
-loop-index-init c = rows_begun c.args.sign c.args.row.now _ _ (map (λ (c : Cut). c.row) c.args.book.now.cuts) c.new-multipliers.result c.new-multipliers.ensures
+loop-index-init c = rows_begun c.args.sign c.args.row.now _ _ (map (λ (c : Cut). c.row) c.args.book.now.cuts) c.in_ok-multipliers.multipliers c.in_ok-multipliers.ensures
 
 pub loop-index-preserved : goal.loop-index-preserved
 loop-index-preserved c =

@@ -5,7 +5,7 @@ use Rattle.gomory_cuts.proofs.Steps.{one_row, no_row, rows_done, rows_begun}
 use Rattle.gomory_cuts.proofs.multiplier.of_rows.Goals as goal
 
 pub loop-index-init : goal.loop-index-init
-loop-index-init c = rows_begun c.args.sign c.args.row.now c.columns-first.result 0 c.args.problem.now.rows c.new-multipliers.result c.new-multipliers.ensures
+loop-index-init c = rows_begun c.args.sign c.args.row.now c.columns-first.result 0 c.args.problem.now.rows c.in_ok-multipliers.multipliers c.in_ok-multipliers.ensures
 
 pub returns-in-None : goal.returns-in-None
 returns-in-None c =
