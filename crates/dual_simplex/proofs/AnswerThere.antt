@@ -63,7 +63,8 @@ length-numbered (i ∷ is) (m ∷ ms) = at (int_eq m.num (pos 0)) (length-number
     at true l = omega arith
     at false l = omega arith
 
--- the sizes over the denominator of a product, and of a sum of a product for each row and cut
+-- The sizes over the denominator of a product, and of a sum of a product for each row and cut. A price adds one for each column to that: 17,000
+-- products of 2^112, and 2^127 is 32,768 of them.
 abbrev product : ℕ
 product = size_limit * largest_integer
 

@@ -15,13 +15,13 @@ numerator_at zs j = slice_index_or zs j (pos 0)
 
 -- the largest denominator, and the largest numerator
 abbrev pub largest_numerator : ℕ
-largest_numerator = 2 ^ 76
+largest_numerator = 2 ^ 74
 
 -- the largest coefficient that such a numerator is multiplied with
 abbrev pub largest_factor : ℕ
 largest_factor = 2 ^ 40
 
--- the largest product of the two: the sum of one for each column has at most 127 bits
+-- the largest product of the two: the sum of one for each column, and of one more, is below 2^127, where there would be room for 8,191
 abbrev pub largest_product : ℕ
 largest_product = largest_factor * largest_numerator
 

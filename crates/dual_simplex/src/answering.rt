@@ -49,19 +49,25 @@ fn infeasible_answer(
     }
 }
 
-/// Whether the sums of the aim, of each row and of the first cuts at a point are there. Where `is_there` says so, they aren't computed.
+/// Whether the sums of the aim, of each row and of the first cuts at a point are there. Where `is_there` says so, they aren't computed. The one error is
+/// want of memory.
 fn are_sums_there(
+    alloc: Global,
     problem: &Problem,
     book: &Book,
     cuts: usize,
     point: &RationalPoint,
     is_there: bool,
-) -> bool
+) -> Result<bool, AllocError>
     requires few { cuts ≤ length book.now.cuts }
     requires there { IsTrue is_there → sums_fit problem.now (take cuts book.now.cuts) point.now ≡ true }
-    ensures { result ≡ sums_fit problem.now (take cuts book.now.cuts) point.now }
+    ensures { IfOk result (λ b. b ≡ sums_fit problem.now (take cuts book.now.cuts) point.now) }
 {
-    is_there || sums_fit(problem, book, cuts, point)
+    if is_there {
+        Ok(true)
+    } else {
+        sums_fit(alloc, problem, book, cuts, point)
+    }
 }
 
 /// The price of the aim by these multipliers; none exactly where it is cramped. Where `is_there` says that it is the aim at the point, it is
@@ -108,7 +114,8 @@ fn optimal_answer(
 {
     let numbers = tableau.point(alloc)?;
     let point = RationalPoint::make(alloc, numbers)?;
-    if !are_sums_there(problem, book, cuts, &point, is_there) {
+    let are_there = are_sums_there(alloc, problem, book, cuts, &point, is_there)?;
+    if !are_there {
         return Ok(None);
     }
     let mult = Mult::make(tableau.mult_of_cost(alloc)?);

@@ -79,7 +79,7 @@ pub(crate) fn numerator_of_sum(numerators: &[i64], terms: &[Term]) -> Option<i12
     requires numerators { AreNumerators numerators.now }
     requires rising { AreRising terms.now }
     ensures value { IfSome result (IsSumOver terms.now numerators.now) }
-    ensures small { IfSome result (λ t. nat_abs t < 2 ^ 126) }
+    ensures small { IfSome result (λ t. nat_abs t < 2 ^ 127) }
 {
     if terms.len() > MOST_COLUMNS {
         return None;

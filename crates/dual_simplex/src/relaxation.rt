@@ -99,7 +99,7 @@ impl Relaxation {
         })
     }
 
-    /// What the run answers over a box on the whole numbers of the scaled program; none where there is none, or it is given up. The one error is
+    /// What the run answers over a box that starts on the whole numbers of the scaled program; none where there is no such start. The one error is
     /// want of memory.
     fn solution_by_scales(
         &self,
@@ -121,8 +121,8 @@ impl Relaxation {
         }
     }
 
-    /// What the run answers over a box that starts on whole numbers; none where there is no such start, or scaled ones are given up. The one
-    /// error is want of memory.
+    /// What the run answers over a box that starts on whole numbers, scaled ones too; none where there is no such start. The one error is want of
+    /// memory.
     fn solution_on_whole_numbers(
         &self,
         alloc: Global,
@@ -146,9 +146,8 @@ impl Relaxation {
     /// What the dual simplex answers over a box, by the least-index run from the rows' values as the basis. Where the run ends with a tableau, that is
     /// handed out too.
     ///
-    /// The run goes on whole numbers first. Where that is given up, exact fractions go on from the last whole pivot, or where there is no start on
-    /// whole numbers, from the start. Where a number isn't whole, the run goes on scaled numbers first, and where these are given up, fractions begin
-    /// at the start. The answer is the same. The one error is want of memory.
+    /// The run goes on whole numbers first, and where a number isn't whole, on scaled ones. Where that is given up, exact fractions go on from the
+    /// last pivot, or where there is no start on such numbers, from the start. The answer is the same. The one error is want of memory.
     pub fn solve(
         &self,
         alloc: Global,

@@ -18,7 +18,7 @@ use std::cmp::Ordering;
 use std::marker::Model;
 
 /// The greatest size of a denominator and of a numerator.
-const MOST: u128 = 1 << 76;
+const MOST: u128 = 1 << 74;
 
 /// The greatest size of a right side.
 const MOST_SIDE: u128 = 1 << 50;
@@ -51,7 +51,7 @@ impl Model for ScaledPoint {
 
 // ---- the denominator
 
-/// A common multiple of a denominator and another one, the least where the first isn't one already; none where it is above 2^76.
+/// A common multiple of a denominator and another one, the least where the first isn't one already; none where it is above 2^74.
 fn with_denominator(common: u128, other: u128) -> Option<u128>
     requires common { IsDenominator common }
     requires positive { 0 < other }
@@ -71,7 +71,7 @@ fn with_denominator(common: u128, other: u128) -> Option<u128>
     }
 }
 
-/// A common multiple of a denominator and that of a number; none where it is above 2^76.
+/// A common multiple of a denominator and that of a number; none where it is above 2^74.
 fn with_number(common: u128, number: Frac) -> Option<u128>
     requires { IsDenominator common }
     ensures { IfSome result IsDenominator }
@@ -80,7 +80,7 @@ fn with_number(common: u128, number: Frac) -> Option<u128>
     with_denominator(common, number.denom())
 }
 
-/// A common multiple of the denominators of a point's numbers; none where it is above 2^76.
+/// A common multiple of the denominators of a point's numbers; none where it is above 2^74.
 fn common_denominator(point: &RationalPoint) -> Option<u128>
     ensures { IfSome result IsDenominator }
 {
@@ -93,7 +93,7 @@ fn common_denominator(point: &RationalPoint) -> Option<u128>
 
 // ---- the numerators
 
-/// The product, where its size is at most 2^76.
+/// The product, where its size is at most 2^74.
 fn small_multiple(number: i128, factor: u128) -> Option<i128>
     requires { factor ≤ largest_numerator }
     ensures value { IfSome result (λ z. z ≡ number *ℤ pos factor) }
@@ -123,7 +123,7 @@ fn factor_to(denominator: u128, other: u128) -> Option<u128>
     Some(denominator / other)
 }
 
-/// The numerator of a number over a denominator; none where it isn't whole, or its size is above 2^76.
+/// The numerator of a number over a denominator; none where it isn't whole, or its size is above 2^74.
 fn numerator_over(number: Frac, denominator: u128) -> Option<i128>
     requires { IsDenominator denominator }
     ensures value { IfSome result (λ z. frac z denominator ≡ number) }
@@ -133,7 +133,7 @@ fn numerator_over(number: Frac, denominator: u128) -> Option<i128>
     small_multiple(number.numer(), factor)
 }
 
-/// The numerators of a point's numbers over a denominator; none where one of them isn't whole, or its size is above 2^76. The one error is want of
+/// The numerators of a point's numbers over a denominator; none where one of them isn't whole, or its size is above 2^74. The one error is want of
 /// memory.
 fn numerators_over(
     alloc: Global,
@@ -215,7 +215,7 @@ fn numerator_of_sum(numerators: &[i128], terms: &[Term]) -> Option<i128>
     requires numerators { AreNumerators numerators.now }
     requires rising { AreRising terms.now }
     ensures value { IfSome result (IsSumOver terms.now numerators.now) }
-    ensures small { IfSome result (λ t. nat_abs t < 2 ^ 126) }
+    ensures small { IfSome result (λ t. nat_abs t < 2 ^ 127) }
 {
     if terms.len() > MOST_COLUMNS {
         return None;
@@ -237,7 +237,7 @@ fn narrow_or_wide_sum(
     requires same { IfSome narrow.now (λ v. v.items ≡ numerators.now) }
     requires rising { AreRising terms.now }
     ensures value { IfSome result (IsSumOver terms.now numerators.now) }
-    ensures small { IfSome result (λ t. nat_abs t < 2 ^ 126) }
+    ensures small { IfSome result (λ t. nat_abs t < 2 ^ 127) }
 {
     match narrow {
         Some(narrow) => narrow_sums::numerator_of_sum(narrow, terms),

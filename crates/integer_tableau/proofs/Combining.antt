@@ -6,7 +6,7 @@ use Rattle.std.proofs.Math.Nat.{mul-le-mul_left, mul-le-mul_right}
 use Rattle.std.proofs.lemmas.Int.{ints, unsigned_abs-mul}
 use Rattle.std.proofs.lemmas.Bool.{cases_eq, cases_lt, eq-eqb, ne_eqb}
 use Rattle.std.proofs.lemmas.Bool.Decides.{nat_tests}
-use Rattle.std.proofs.lemmas.List.{get_or_default, get_or_past, same_lists}
+use Rattle.std.proofs.lemmas.List.{get_or_past}
 use Rattle.fraction.specs.Lemmas.Integers.{diff-add, diff-mul, diff-neg, diff-pos, diff-same, is_diff, neg-mul_ℤ}
 use Rattle.integer_tableau.specs.Combined.{combined, combined_row, numbers_from, numerator_of}
 use Rattle.integer_tableau.specs.Numbers.{IsWithin, number_at, total_size}
@@ -193,14 +193,7 @@ combined_row_at d cs ss ls h w k = elim (cases_lt k (length ls)) [
       ∙ sym (combined_past d k cs ss ls (λ j. numerator_past d (length ls) k (get_or ls j []) (get_or ss j InBasis) l (h j) (w j)))
 ]
 
--- the row of these numbers
-pub row_from_numbers : (d : ℕ) (cs : List ℤ) (ss : List Position) (ls : List (List ℤ)) (xs : List ℤ) → length xs ≡ length ls → ((k : ℕ) → number_at xs k ≡ combined d cs ss ls k) → xs ≡ combined_row d ss ls cs
-row_from_numbers d cs ss ls xs e h = same_lists _ _ (e ∙ sym (length-numbers_from 0 (length ls) (combined d cs ss ls))) (λ j z m.
-    get_or_default xs j z (pos 0) m ∙ h j ∙ ap (combined d cs ss ls) (let q : j ≡ 0 + j = omega arith in q)
-    ∙ sym (number_at-numbers_from 0 (length ls) (combined d cs ss ls) j (omega (arith, m, e)))
-    ∙ sym (get_or_default (combined_row d ss ls cs) j z (pos 0) (omega (arith, m, e, length-numbers_from 0 (length ls) (combined d cs ss ls)))))
-
--- its numbers have at most the size of what is said of each column
+-- the numbers of a combination have at most the size of what is said of each column
 pub combined_row_within : (d most : ℕ) (cs : List ℤ) (ss : List Position) (ls : List (List ℤ)) → ((k : ℕ) → nat_abs (combined d cs ss ls k) ≤ most) → IsWithin most (combined_row d ss ls cs)
 combined_row_within d most cs ss ls h k = elim (cases_lt k (length ls)) [
   | inl l ↦ subst (λ z. nat_abs z ≤ most) (sym (combined_row_in d cs ss ls k l)) (h k)

@@ -1,8 +1,8 @@
 -- One denominator for all numbers of a tableau.
-use Rattle.std.proofs.Common.{◌≡◌, ℕ, zero, suc, ◌+◌, ◌-◌, ◌*◌, ◌≤◌, ◌<◌, arith, ap, sym, ◌∙◌, subst, List, [], ◌∷◌, length, get_or, inl, inr}
-use Rattle.std.specs.Prelude.{ℤ, pos, ◌<ℤ◌, nat_abs, All}
-use Rattle.std.proofs.Math.Nat.{mul-one}
-use Rattle.std.proofs.lemmas.Int.{unsigned_abs-mul}
+use Rattle.std.proofs.Common.{◌≡◌, ℕ, zero, suc, ◌+◌, ◌-◌, ◌*◌, ◌≤◌, ◌<◌, arith, refl, ap, sym, ◌∙◌, subst, List, [], ◌∷◌, length, get_or, inl, inr}
+use Rattle.std.specs.Prelude.{ℤ, pos, ◌<ℤ◌, ◌+ℤ◌, ◌*ℤ◌, nat_abs, All}
+use Rattle.std.proofs.Math.Nat.{mul-le-mul_left, mul-le-mul_right, mul-one}
+use Rattle.std.proofs.lemmas.Int.{ints, unsigned_abs-mul}
 use Rattle.std.proofs.lemmas.List.Elements.{All-nil, All-cons}
 use Rattle.fraction.specs.Bounds.{Within}
 use Rattle.fraction.specs.Rational.{frac, whole}
@@ -15,7 +15,7 @@ use Rattle.integer_tableau.specs.Consistent.{IsConsistent}
 use Rattle.integer_tableau.specs.Combined.{IsCompact, combined_value, expanded, value_numerator}
 use Rattle.integer_tableau.specs.Denominator.{HasDenominator}
 use Rattle.integer_tableau.specs.IntegerTableau.{IntegerTableau, row_of_position, rows_of, tableau_of, value, values_of}
-use Rattle.integer_tableau.specs.Numbers.{IsWithin, number_at}
+use Rattle.integer_tableau.specs.Numbers.{IsWithin, number_at, total_size}
 use Rattle.integer_tableau.specs.Range.{size_limit}
 use Rattle.integer_tableau.specs.Positions.{coefficient, coefficients, numerator}
 use Rattle.integer_tableau.specs.declared.position.Position.{Position}
@@ -61,6 +61,26 @@ rows_within d all [] rows o h = All-nil (All (Within d size_limit))
 rows_within d all (s ∷ ss) [] o h = All-nil (All (Within d size_limit))
 rows_within d all (s ∷ ss) (row ∷ rows) o h = All-cons (All (Within d size_limit)) (row_of_position d all s row) (rows_of (row_of_position d all) ss rows)
     (row_within d all s row o (h zero)) (rows_within d all ss rows o (λ v. h (suc v)))
+
+-- ---- the value of a row's variable
+value_by_weight : (most : ℕ) (d : ℤ) (cs : List ℤ) (ss : List Position) (xs vs : List ℤ) → length cs ≤ length vs
+    → ((j : ℕ) → j < length vs → nat_abs (value_numerator d (get_or ss j InBasis) (number_at xs j) (number_at vs j)) ≤ most) → nat_abs (combined_value d cs ss xs vs) ≤ total_size cs * most
+value_by_weight most d [] ss xs vs l h = omega arith
+value_by_weight most d (c ∷ cs) [] xs vs l h = omega arith
+value_by_weight most d (c ∷ cs) (s ∷ ss) [] vs l h = omega arith
+value_by_weight most d (c ∷ cs) (s ∷ ss) (x ∷ xs) [] l h = omega arith
+value_by_weight most d (c ∷ cs) (s ∷ ss) (x ∷ xs) (v ∷ vs) l h =
+    let y = value_numerator d s x v in
+    omega (arith, size (c *ℤ y) (combined_value d cs ss xs vs), unsigned_abs-mul c y, mul-le-mul_left (nat_abs c) (h zero (omega arith)), value_by_weight most d cs ss xs vs (omega (arith, l)) (λ j m. h (suc j) (omega (arith, m))))
+  where
+    size : (a b : ℤ) → nat_abs (a +ℤ b) ≤ nat_abs a + nat_abs b
+    size a b = omega (arith, ints)
+
+pub row_small_by_weight : (most weight : ℕ) (d : ℤ) (s : Position) (x : ℤ) (cs : List ℤ) (ss : List Position) (xs vs : List ℤ) → length cs ≡ length vs → total_size cs ≤ weight → weight * most ≤ size_limit
+    → ((j : ℕ) → j < length vs → nat_abs (value_numerator d (get_or ss j InBasis) (number_at xs j) (number_at vs j)) ≤ most) → ((k : ℕ) → s ≡ InColumn k → nat_abs (x *ℤ d) ≤ size_limit)
+    → nat_abs (value_numerator d s x (combined_value d cs ss xs vs)) ≤ size_limit
+row_small_by_weight most weight d InBasis x cs ss xs vs e m light h g = omega (arith, value_by_weight most d cs ss xs vs (omega (arith, e)) h, mul-le-mul_right most m, light)
+row_small_by_weight most weight d (InColumn k) x cs ss xs vs e m light h g = g k refl
 
 -- ---- of the whole tableau
 pub has_denominator : (columns : ℕ) (numbers : List ℕ) (ps : List (List ℤ)) (weight reach : ℕ) (w : IntegerTableau) (d : ℤ) → IsCompact ps weight reach w → pos 0 <ℤ d → nat_abs d ≡ w.denominator

@@ -130,9 +130,6 @@ module _ (ps : List (List ℤ)) (weight reach : ℕ) (w : IntegerTableau) (compa
   pub nonbasic_there : length w.nonbasic_values ≡ length w.positions
   nonbasic_there = cons.nonbasic_values
 
-  pub light_rows : (i : ℕ) → i < length ps → total_size (get_or ps i []) < size_limit
-  light_rows i l = omega (arith, compact.weights i l, compact.light)
-
   pub full_rows : (i : ℕ) → i < length ps → length (get_or ps i []) ≡ length w.values
   full_rows i l = compact.full i l ∙ sym compact.values
 

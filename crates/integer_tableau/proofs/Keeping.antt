@@ -1,5 +1,5 @@
 -- What holds of a tableau on whole numbers between pivots, and that a pivot which wasn't given up keeps it.
-use Rattle.std.proofs.Common.{◌≡◌, ◌≢◌, ℕ, ◌+◌, ◌-◌, ◌<◌, arith, refl, ap, sym, ◌∙◌, subst, false, Some, ◌⊎◌, List, [], length, get_or, set, inl, inr, get_or-set_other, get_or-set_same}
+use Rattle.std.proofs.Common.{◌≡◌, ◌≢◌, ℕ, ◌+◌, ◌-◌, ◌<◌, arith, refl, ap, sym, ◌∙◌, subst, false, Some, List, [], length, get_or, set, inl, inr, get_or-set_other, get_or-set_same}
 use Rattle.std.specs.Prelude.{ℤ, pos, neg_ℤ, ◌+ℤ◌, ◌-ℤ◌, ◌*ℤ◌, nat_abs, map}
 use Rattle.std.specs.List.{swap}
 use Rattle.std.proofs.lemmas.Int.{ints}
@@ -8,6 +8,7 @@ use Rattle.std.proofs.lemmas.List.{length-set, same_lists, get_or_default, get_o
 use Rattle.std.proofs.lemmas.List.Edits.{swap_is}
 use Rattle.fraction.specs.Lemmas.Integers.{cancel_ℤ, neg-mul_ℤ}
 use Rattle.fraction.specs.Rational.{frac, whole}
+use Rattle.integer_tableau.proofs.Apart.{apart_after, entering_basic, in_column, leaving_there, other_stays, they_differ}
 use Rattle.integer_tableau.proofs.ExactPivots.{IsExactPivot, pivoted_is}
 use Rattle.integer_tableau.proofs.Sums.{value_fits, sum_exchanged, sum_solved, sum_substituted}
 use Rattle.integer_tableau.specs.Consistent.{IsConsistent, row_width}
@@ -80,7 +81,7 @@ module _ (w : IntegerTableau) (consistent : IsConsistent w) (r c k : ℕ) (b : �
     (pivot : 0 < nat_abs (number_at (get_or w.rows r []) k))
     (ex : AreEliminated r c k w.denominator w.rows after w.reduced_costs reduced_costs) where
   pub apart : c ≢ r
-  apart e = let f : InBasis ≡ InColumn k = sym at_r ∙ ap (λ v. get_or w.positions v InBasis) (sym e) ∙ at_c in cc
+  apart = they_differ w.positions r c k at_c at_r c_there r_there
 
   abbrev news : List (List ℤ)
   news = swap after r c
@@ -189,38 +190,20 @@ module _ (w : IntegerTableau) (consistent : IsConsistent w) (r c k : ℕ) (b : �
 
   -- where a variable is after the pivot
   pub still : (v : ℕ) → v ≢ r → v ≢ c → get_or positions' v InBasis ≡ get_or w.positions v InBasis
-  still v m n = get_or-set_other (set w.positions r (InColumn k)) c v InBasis InBasis n ∙ get_or-set_other w.positions r v (InColumn k) InBasis m
+  still = other_stays w.positions r c k at_c at_r c_there r_there
 
   pub now_c : get_or positions' c InBasis ≡ InBasis
-  now_c = get_or-set_same (set w.positions r (InColumn k)) c InBasis InBasis (omega (arith, c_there, length-set w.positions r (InColumn k)))
+  now_c = entering_basic w.positions r c k at_c at_r c_there r_there
 
   pub now_r : get_or positions' r InBasis ≡ InColumn k
-  now_r = get_or-set_other (set w.positions r (InColumn k)) c r InBasis InBasis (λ e. apart (sym e)) ∙ get_or-set_same w.positions r (InColumn k) InBasis r_there
+  now_r = leaving_there w.positions r c k at_c at_r c_there r_there
 
   -- ---- it is consistent
-  position_case : (v j : ℕ) → get_or positions' v InBasis ≡ InColumn j → ((v ≡ r) × (j ≡ k)) ⊎ ((v ≢ r) × (v ≢ c) × (get_or w.positions v InBasis ≡ InColumn j))
-  position_case v j q = elim (cases_eq v c) [
-    | inl e ↦ absurd (let f : InBasis ≡ InColumn j = sym now_c ∙ ap (λ u. get_or positions' u InBasis) (sym e) ∙ q in cc)
-    | inr n ↦ elim (cases_eq v r) [
-      | inl e ↦ inl (e, let f : InColumn k ≡ InColumn j = sym now_r ∙ ap (λ u. get_or positions' u InBasis) (sym e) ∙ q in cc)
-      | inr m ↦ inr (m, n, sym (still v m n) ∙ q)
-    ]
-  ]
-
   pub alone_after : (v j : ℕ) → get_or positions' v InBasis ≡ InColumn j → IsColumnOf positions' v j
-  alone_after v j q u h = elim (position_case v j q) [
-    | inl a ↦ elim (position_case u j h) [
-      | inl e ↦ e.0 ∙ sym a.0
-      | inr e ↦ absurd (e.1 (consistent.alone c k at_c u (e.2 ∙ ap InColumn a.1)))
-    ]
-    | inr a ↦ elim (position_case u j h) [
-      | inl e ↦ absurd (a.1 (consistent.alone c k at_c v (a.2 ∙ ap InColumn e.1)))
-      | inr e ↦ consistent.alone v j a.2 u e.2
-    ]
-  ]
+  alone_after = apart_after w.positions r c k at_c at_r c_there r_there consistent.alone
 
   pub within_after : (v j : ℕ) → get_or positions' v InBasis ≡ InColumn j → j < length reduced_costs
-  within_after v j q = elim (position_case v j q) [
+  within_after v j q = elim (in_column w.positions r c k at_c at_r c_there r_there v j q) [
     | inl a ↦ omega (arith, a.1, width, ex.costs.width)
     | inr a ↦ omega (arith, consistent.within v j a.2, ex.costs.width)
   ]

@@ -1,4 +1,5 @@
 mod Exchanges
+mod Apart
 mod RowsByVariable
 mod AllRows
 mod Sums
@@ -10,7 +11,10 @@ mod Violations
 mod Places
 mod Combining
 mod CombinedValues
+mod EntrySums
+mod EntryRows
 mod CombinedLoops
+mod CombinationBounds
 mod Expanded
 mod CompactPivot
 mod Programs
@@ -19,7 +23,6 @@ mod LowProducts
 mod Loops
 mod Sizes
 mod Lists
-mod NonzeroPlaces
 mod FromCode
 mod StartFromCode
 mod Answering

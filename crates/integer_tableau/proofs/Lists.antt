@@ -19,18 +19,20 @@ use Rattle.fraction.specs.Rational.{frac, whole, ℚ}
 use Rattle.integer_tableau.specs.Lemmas.Comparing.{above_whole, below_whole}
 use Rattle.integer_tableau.specs.Combined.{bound_size, total_bound_size}
 use Rattle.integer_tableau.specs.declared.integer_bounds.IntegerBounds.{IntegerBounds}
-use Rattle.integer_tableau.specs.Numbers.{number_at, total_size}
+use Rattle.integer_tableau.specs.Entries.{entry_size}
+use Rattle.integer_tableau.specs.declared.program_row.ProgramEntry.{ProgramEntry}
+use Rattle.integer_tableau.proofs.EntrySums.{entry_at}
 use Rattle.integer_tableau.specs.Pivot.{IsEliminated, IsSubstitutedValue}
 use Rattle.integer_tableau.specs.Substitution.{IsSolvedRow, IsSubstitutedIfFull, IsSubstitutedRow}
 use Rattle.tableau.specs.Leaving.{is_above, is_below}
 
-pub total_size-take : (xs : List ℤ) (i : ℕ) → i < length xs → total_size (take (suc i) xs) ≡ total_size (take i xs) + nat_abs (number_at xs i)
-total_size-take [] i l = absurd (omega arith)
-total_size-take (x ∷ xs) zero l = omega arith
-total_size-take (x ∷ xs) (suc i) l = omega (arith, total_size-take xs i (omega arith))
+entry_size-take : (es : List ProgramEntry) (i : ℕ) → i < length es → entry_size (take (suc i) es) ≡ entry_size (take i es) + nat_abs (entry_at es i).number
+entry_size-take [] i l = absurd (omega arith)
+entry_size-take (e ∷ es) zero l = omega arith
+entry_size-take (e ∷ es) (suc i) l = omega (arith, entry_size-take es i (omega arith))
 
-pub total_size_more : (xs : List ℤ) (i total more x : ℕ) → i < length xs → total ≡ total_size (take i xs) → x ≡ nat_abs (number_at xs i) → more ≡ total + x → more ≡ total_size (take (i + 1) xs)
-total_size_more xs i total more x l t n m = let e : i + 1 ≡ suc i = omega arith in rw e (omega (arith, t, n, m, total_size-take xs i l))
+pub entry_size_more : (es : List ProgramEntry) (i total more x : ℕ) → i < length es → total ≡ entry_size (take i es) → x ≡ nat_abs (entry_at es i).number → more ≡ total + x → more ≡ entry_size (take (i + 1) es)
+entry_size_more es i total more x l t n m = let e : i + 1 ≡ suc i = omega arith in rw e (omega (arith, t, n, m, entry_size-take es i l))
 
 pub total_bound_size_more : (bs : List IntegerBounds) (i total more x : ℕ) → i < length bs → total ≡ total_bound_size (take i bs) → x ≡ bound_size (get_or bs i (record { lower = None; upper = None }))
     → more ≡ total + x → more ≡ total_bound_size (take (i + 1) bs)

@@ -1,17 +1,18 @@
 -- Combinations of columns modulo 2^64.
-use Rattle.std.proofs.Common.{◌≡◌, ℕ, ◌+◌, ◌-◌, ◌<◌, ◌≤◌, ℤ, pos, List, [], length, get_or, set, drop, arith, ap, sym, refl, ◌∙◌, inl, inr, get_or-set_same, get_or-set_other}
+use Rattle.std.proofs.Common.{◌≡◌, ℕ, ◌+◌, ◌-◌, ◌<◌, ℤ, pos, List, length, set, drop, arith, ap, sym, refl, ◌∙◌, inl, inr, get_or-set_same, get_or-set_other}
 use Rattle.std.specs.Prelude.{nat_abs, nat_eq, ◌+ℤ◌, ◌*ℤ◌, ◌<ℤ◌, if◌then◌else◌}
 use Rattle.std.specs.Int.{w64, int_wrap}
 use Rattle.std.proofs.lemmas.Bool.{cases_eq}
-use Rattle.std.proofs.lemmas.Int.{ints, int_wrap_fits, int_wrap-add_same, SFits-int_wrap, fits_signed_from_abs}
-use Rattle.std.proofs.lemmas.List.{get_or_default, same_lists, drop_all}
+use Rattle.std.proofs.lemmas.Int.{int_wrap_fits, int_wrap-add_same, SFits-int_wrap, fits_signed_from_abs}
+use Rattle.std.proofs.lemmas.List.{get_or_default, same_lists}
 use Rattle.integer_tableau.proofs.CombinedLoops.{column_more, product_more}
 use Rattle.integer_tableau.proofs.Combining.{combined_row_in, length-numbers_from}
-use Rattle.integer_tableau.specs.Combined.{combined, combined_row, numerator_of}
+use Rattle.integer_tableau.proofs.EntrySums.{entry_at, entry_sum}
+use Rattle.integer_tableau.specs.Combined.{combined, combined_row}
 use Rattle.integer_tableau.specs.Numbers.{IsWithin, number_at}
 use Rattle.integer_tableau.specs.Range.{size_limit}
 use Rattle.integer_tableau.specs.declared.position.Position.{Position}
-use Rattle.integer_tableau.specs.declared.position.Position.TheVariants.{InBasis}
+use Rattle.integer_tableau.specs.declared.program_row.ProgramEntry.{ProgramEntry}
 
 pub wrapped_twice : (z : ℤ) → int_wrap w64 (int_wrap w64 z) ≡ int_wrap w64 z
 wrapped_twice z = int_wrap_fits w64 (int_wrap w64 z) (SFits-int_wrap w64 z)
@@ -32,26 +33,13 @@ low_product_more sum column k next factor d l o is = same_before_wrapping ∙ ap
     ]
 
 -- a column is added to the sum
-pub low_column_more : (d : ℕ) (cs : List ℤ) (ss : List Position) (ls : List (List ℤ)) (j k : ℕ) (old new : ℤ) (row : List ℤ) (all : ℤ) → j < length cs → j < length ss → j < length ls → row ≡ get_or ls j []
-    → int_wrap w64 (old +ℤ combined d (drop j cs) (drop j ss) (drop j ls) k) ≡ int_wrap w64 all
-    → int_wrap w64 new ≡ int_wrap w64 (old +ℤ number_at cs j *ℤ numerator_of d row (get_or ss j InBasis) k)
-    → int_wrap w64 (new +ℤ combined d (drop (j + 1) cs) (drop (j + 1) ss) (drop (j + 1) ls) k) ≡ int_wrap w64 all
-low_column_more d cs ss ls j k old new row all l m n e sum is =
-    let next = old +ℤ number_at cs j *ℤ numerator_of d row (get_or ss j InBasis) k in
-    int_wrap-add_same w64 new next (combined d (drop (j + 1) cs) (drop (j + 1) ss) (drop (j + 1) ls) k) is
-    ∙ ap (int_wrap w64) (column_more d cs ss ls j k old next row (old +ℤ combined d (drop j cs) (drop j ss) (drop j ls) k) l m n e refl refl)
+pub low_column_more : (f : ℕ → ℤ) (es : List ProgramEntry) (i : ℕ) (old new all : ℤ) → i < length es → int_wrap w64 (old +ℤ entry_sum f (drop i es)) ≡ int_wrap w64 all
+    → int_wrap w64 new ≡ int_wrap w64 (old +ℤ (entry_at es i).number *ℤ f (entry_at es i).place) → int_wrap w64 (new +ℤ entry_sum f (drop (i + 1) es)) ≡ int_wrap w64 all
+low_column_more f es i old new all l sum is =
+    let next = old +ℤ (entry_at es i).number *ℤ f (entry_at es i).place in
+    int_wrap-add_same w64 new next (entry_sum f (drop (i + 1) es)) is
+    ∙ ap (int_wrap w64) (column_more f es i old next (old +ℤ entry_sum f (drop i es)) l refl refl)
     ∙ sum
-
--- nothing is added yet
-pub none_added : (total rest : ℤ) → total ≡ pos 0 → total +ℤ rest ≡ rest
-none_added total rest e = omega (arith, ints, e)
-
--- nothing more is to be added
-pub all_added : (d : ℕ) (cs : List ℤ) (ss : List Position) (ls : List (List ℤ)) (j k : ℕ) (total : ℤ) → length cs ≤ j → total ≡ total +ℤ combined d (drop j cs) (drop j ss) (drop j ls) k
-all_added d cs ss ls j k total h = sym (ap (λ (xs : List ℤ). total +ℤ combined d xs (drop j ss) (drop j ls) k) (drop_all j cs h) ∙ none total)
-  where
-    none : (t : ℤ) → t +ℤ pos 0 ≡ t
-    none t = omega (arith, ints)
 
 -- the row of numbers that are those of the combination modulo 2^64, where the combination is small
 pub row_from_low_numbers : (d : ℕ) (cs : List ℤ) (ss : List Position) (ls : List (List ℤ)) (xs : List ℤ) → length xs ≡ length ls → IsWithin (size_limit - 1) xs

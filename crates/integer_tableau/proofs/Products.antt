@@ -1,8 +1,7 @@
 -- Sums of products: the value of a row's variable by the numerators of the columns' values.
-use Rattle.std.proofs.Common.{◌≡◌, ℕ, zero, suc, ◌+◌, ◌<◌, ◌≤◌, arith, refl, ap, sym, ◌∙◌, List, [], ◌∷◌, ◌++◌, length, get_or, drop, drop-cons, append_assoc}
+use Rattle.std.proofs.Common.{◌≡◌, ℕ, suc, ◌+◌, ◌<◌, ◌≤◌, arith, refl, ap, sym, ◌∙◌, List, [], ◌∷◌, ◌++◌, length, get_or, drop, drop-cons, append_assoc}
 use Rattle.std.specs.Prelude.{ℤ, pos, map, ◌+ℤ◌, ◌*ℤ◌}
-use Rattle.std.proofs.lemmas.Int.{ints}
-use Rattle.std.proofs.lemmas.List.{drop_all, get_or_past, length-drop}
+use Rattle.std.proofs.lemmas.List.{length-drop}
 use Rattle.integer_tableau.specs.Combined.{combined_value, expanded_values, value_numerator, value_numerators}
 use Rattle.integer_tableau.specs.Numbers.{number_at}
 use Rattle.integer_tableau.specs.Positions.{products}
@@ -43,31 +42,3 @@ products_value d (c ∷ cs) (s ∷ ss) (x ∷ xs) (v ∷ vs) = ap (λ z. c *ℤ 
 -- of each variable
 pub values_by_products : (d : ℕ) (ps : List (List ℤ)) (ss : List Position) (xs vs ns : List ℤ) → ns ≡ value_numerators (pos d) ss xs vs → vs ++ map (λ a. products a ns) ps ≡ expanded_values d ps ss xs vs
 values_by_products d ps ss xs vs ns e = ap (λ ns. vs ++ map (λ a. products a ns) ps) e ∙ (λ i. vs ++ map (λ a. products_value (pos d) a ss xs vs i) ps)
-
--- ---- the loop over the places of a row
--- numbers as values of basic columns
-abbrev pub all_basic : List ℤ → List Position
-all_basic ns = map (λ n. InBasis) ns
-
-pub basic_value : (cs ns : List ℤ) → combined_value (pos 0) cs (all_basic ns) ns ns ≡ products cs ns
-basic_value [] ns = refl
-basic_value (c ∷ cs) [] = refl
-basic_value (c ∷ cs) (n ∷ ns) = ap (λ z. c *ℤ n +ℤ z) (basic_value cs ns)
-
-pub basic_at : (ns : List ℤ) (j : ℕ) → get_or (all_basic ns) j InBasis ≡ InBasis
-basic_at [] j = refl
-basic_at (n ∷ ns) zero = refl
-basic_at (n ∷ ns) (suc j) = basic_at ns j
-
--- behind the last place there is nothing
-pub last_sum : (d : ℤ) (cs : List ℤ) (ss : List Position) (xs vs : List ℤ) (places : List ℕ) (i : ℕ) (total all : ℤ) → length places ≤ i
-    → (let p = get_or places i (length cs) in total +ℤ combined_value d (drop p cs) (drop p ss) (drop p xs) (drop p vs)) ≡ all → total ≡ all
-last_sum d cs ss xs vs places i total all l h =
-    let p = get_or places i (length cs) in
-    plain total ∙ sym (ap (λ zs. total +ℤ combined_value d zs (drop p ss) (drop p xs) (drop p vs)) none) ∙ h
-  where
-    none : drop (get_or places i (length cs)) cs ≡ []
-    none = ap (λ q. drop q cs) (get_or_past places i (length cs) l) ∙ drop_all (length cs) cs (omega arith)
-
-    plain : (y : ℤ) → y ≡ y +ℤ pos 0
-    plain y = omega (arith, ints)

@@ -4,7 +4,7 @@ use Rattle.std.specs.Prelude.{ℤ, pos}
 use Rattle.std.proofs.Math.Nat.{mul-pos}
 use Rattle.fraction.specs.Checked.{mul_checked}
 use Rattle.fraction.specs.Lemmas.Bounds.{value_from_mul}
-use Rattle.fraction.specs.Lemmas.Rational.{*ℚ_assoc, *ℚ_comm, frac-*ℚ, frac_same, lit_one, one-*ℚ}
+use Rattle.fraction.specs.Lemmas.Rational.{*ℚ_assoc, *ℚ_comm, frac-*ℚ, frac_same, lit_one, one-*ℚ, zero-*ℚ}
 use Rattle.fraction.specs.Rational.{ℚ, frac, whole, ◌*ℚ◌}
 use Rattle.integer_tableau.specs.Scales.{scaled_by}
 
@@ -17,3 +17,7 @@ unfolding scaled_by
 scaled_from_product x p k z o e f =
     ap (λ y. y *ℚ frac (pos 1) k) (f ∙ sym (value_from_mul x (whole (pos k)) p e))
     ∙ *ℚ_assoc x (whole (pos k)) (frac (pos 1) k) ∙ ap (λ y. x *ℚ y) (one_of k o) ∙ *ℚ_comm x (whole (pos 1)) ∙ one-*ℚ x
+
+pub zero_scaled : (a b : ℕ) → scaled_by a b (whole (pos 0)) ≡ whole (pos 0)
+unfolding scaled_by
+zero_scaled a b = zero-*ℚ (frac (pos a) b)

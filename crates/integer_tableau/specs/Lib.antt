@@ -1,5 +1,6 @@
 pub mod Range
 pub mod Numbers
+pub mod Entries
 pub mod Substitution
 pub mod Positions
 pub mod IntegerTableau

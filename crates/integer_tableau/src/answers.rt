@@ -5,13 +5,12 @@ ghost use Rattle.tableau.specs.Leaving.{is_below};
 ghost use Rattle.tableau.specs.Multipliers.{point_of, mult_of_cost, direction_of, row_multipliers, mult_of_row};
 ghost use Rattle.tableau.specs.Tableau.{row_of};
 ghost use Rattle.tableau.specs.declared.bounds.Direction.TheVariants.{Rise, Fall};
-ghost use Rattle.integer_tableau.specs.Numbers.{number_at, IsWithin, total_size};
+ghost use Rattle.integer_tableau.specs.Numbers.{number_at, IsWithin};
 ghost use Rattle.integer_tableau.specs.Range.{size_limit};
 ghost use Rattle.integer_tableau.specs.Positions.{coefficient, coefficients};
 ghost use Rattle.integer_tableau.specs.IntegerTableau.{fraction_bounds, value, values_of, row_of_position};
 ghost use Rattle.integer_tableau.specs.Combined.{combined_row, expanded_rows};
 
-use crate::combination::combined_number;
 use crate::integer_bounds::{IntegerBounds, is_below};
 use crate::integer_row::IntegerRow;
 use crate::integer_tableau::IntegerTableau;
@@ -123,39 +122,7 @@ pub(crate) fn coefficients(
     Ok(all)
 }
 
-/// The coefficient of a variable in the row of a row's variable.
-fn combined_coefficient(
-    position: Position,
-    program_row: &ProgramRow,
-    positions: &[Position],
-    rows: &[IntegerRow],
-    denominator: i64,
-) -> Frac
-    requires positive { pos 0 <ℤ denominator }
-    requires small { nat_abs denominator < size_limit }
-    requires rows_there { length rows.now ≡ length program_row.now }
-    requires positions_there { length program_row.now ≤ length positions.now }
-    requires light { total_size program_row.now < size_limit }
-    requires rows_small { (j : ℕ) → IsWithin (size_limit - 1) (slice_index_or rows.now j []) }
-    requires column { (k : ℕ) → position ≡ Position.InColumn k → k < length rows.now }
-    ensures { result ≡ coefficient (nat_abs denominator) (combined_row (nat_abs denominator) positions.now rows.now program_row.now) position }
-{
-    match position {
-        Position::InBasis => Frac::of(0),
-        Position::InColumn(column) => Frac::make(
-            combined_number(
-                program_row.numerators(),
-                positions,
-                rows,
-                denominator,
-                column,
-            ),
-            i128::from(denominator),
-        ),
-    }
-}
-
-/// The coefficients of the variables from `first` on in the row of a row's variable. The one error is want of memory.
+/// The coefficients of the variables from `first` on in the row of a row's variable, whose numbers are small. The one error is want of memory.
 fn combined_coefficients(
     alloc: Global,
     first: usize,
@@ -165,19 +132,17 @@ fn combined_coefficients(
     denominator: i64,
 ) -> Result<Vec<Frac>, AllocError>
     requires positive { pos 0 <ℤ denominator }
-    requires small { nat_abs denominator < size_limit }
     requires rows_there { length rows.now ≡ length program_row.now }
     requires positions_there { length program_row.now ≤ length positions.now }
-    requires light { total_size program_row.now < size_limit }
-    requires rows_small { (j : ℕ) → IsWithin (size_limit - 1) (slice_index_or rows.now j []) }
-    requires columns { (j k : ℕ) → slice_index_or positions.now j Position.InBasis ≡ Position.InColumn k → k < length rows.now }
+    requires first_there { first ≤ length positions.now }
+    requires small { IsWithin (size_limit - 1) (combined_row (nat_abs denominator) positions.now rows.now program_row.now) }
     ensures { IfOk result (λ v. v.items ≡ coefficients (nat_abs denominator) (drop first positions.now) (combined_row (nat_abs denominator) positions.now rows.now program_row.now)) }
 {
-    let mut all = Vec::new(alloc);
-    for v in first..positions.len() {
-        all.push(combined_coefficient(positions[v], program_row, positions, rows, denominator))?;
+    let mut row = IntegerRow::empty(alloc);
+    if !row.combine_small(program_row, positions, rows, denominator) {
+        return Err(AllocError);
     }
-    Ok(all)
+    coefficients(alloc, &positions[first..], &row, denominator)
 }
 
 impl IntegerTableau {

@@ -1,9 +1,9 @@
 // The same tableau over fractions.
 
-ghost use Rattle.std.specs.Prelude.{◌≡◌, ◌<◌, ◌^◌, map, length, IfOk};
+ghost use Rattle.std.specs.Prelude.{◌≡◌, ℕ, ◌<◌, ◌≤◌, ◌^◌, map, length, IfOk};
 ghost use Rattle.std.specs.Option.{option_map};
 ghost use Rattle.fraction.specs.Rational.{whole};
-ghost use Rattle.tableau.specs.Tableau.{value_of};
+ghost use Rattle.tableau.specs.Tableau.{row_of, value_of};
 ghost use Rattle.integer_tableau.specs.IntegerTableau.{fraction_bounds};
 
 use crate::answers::coefficients;
@@ -50,6 +50,28 @@ fn whole_numbers(alloc: Global, numbers: &[i64]) -> Result<Vec<Frac>, AllocError
 }
 
 impl IntegerTableau {
+    /// There are no more columns than variables, and no row has more coefficients. This computes nothing: its contract is for callers' proofs.
+    pub fn sizes_hold(&self)
+        ensures columns { self.now.columns ≤ length self.now.statuses }
+        ensures rows { (i : ℕ) → i < length self.now.statuses → length (row_of self.now i) ≤ length self.now.statuses }
+    {
+        let _pivots = self.pivots;
+    }
+
+    /// The bounds of each variable. The one error is want of memory.
+    pub fn all_bounds(&self, alloc: Global) -> Result<Vec<Bounds>, AllocError>
+        ensures { IfOk result (λ v. v.items ≡ self.now.bounds) }
+    {
+        all_bounds(alloc, &self.fixed.bounds)
+    }
+
+    /// The bound at which each variable is that isn't basic; 0 for a basic one. The one error is want of memory.
+    pub fn all_nonbasic_values(&self, alloc: Global) -> Result<Vec<Frac>, AllocError>
+        ensures { IfOk result (λ v. v.items ≡ self.now.nonbasic_values) }
+    {
+        whole_numbers(alloc, &self.nonbasic_values)
+    }
+
     /// The value of a variable.
     fn value(&self, variable: usize) -> Frac
         requires { variable < length self.now.statuses }
@@ -72,7 +94,7 @@ impl IntegerTableau {
     }
 
     /// The value of each variable. The one error is want of memory.
-    fn all_values(&self, alloc: Global) -> Result<Vec<Frac>, AllocError>
+    pub fn all_values(&self, alloc: Global) -> Result<Vec<Frac>, AllocError>
         ensures { IfOk result (λ v. v.items ≡ self.now.values) }
     {
         let mut values = Vec::with_capacity(alloc, self.positions.len())?;
@@ -83,7 +105,7 @@ impl IntegerTableau {
     }
 
     /// Where each variable is. The one error is want of memory.
-    fn all_statuses(&self, alloc: Global) -> Result<Vec<BasisStatus>, AllocError>
+    pub fn all_statuses(&self, alloc: Global) -> Result<Vec<BasisStatus>, AllocError>
         ensures { IfOk result (λ v. v.items ≡ self.now.statuses) }
     {
         let mut statuses = Vec::with_capacity(alloc, self.positions.len())?;
@@ -107,7 +129,7 @@ impl IntegerTableau {
     }
 
     /// The reduced cost of each variable. The one error is want of memory.
-    fn all_reduced_costs(&self, alloc: Global) -> Result<Vec<Frac>, AllocError>
+    pub fn all_reduced_costs(&self, alloc: Global) -> Result<Vec<Frac>, AllocError>
         ensures { IfOk result (λ v. v.items ≡ self.now.reduced_costs) }
     {
         coefficients(
@@ -124,9 +146,9 @@ impl IntegerTableau {
         ensures { IfOk result (λ t. t ≡ self.now) }
     {
         let numbers = Vec::from_slice(alloc, &self.fixed.numbers)?;
-        let bounds = all_bounds(alloc, &self.fixed.bounds)?;
+        let bounds = self.all_bounds(alloc)?;
         let statuses = self.all_statuses(alloc)?;
-        let nonbasic_values = whole_numbers(alloc, &self.nonbasic_values)?;
+        let nonbasic_values = self.all_nonbasic_values(alloc)?;
         let rows = self.all_rows(alloc)?;
         let reduced_costs = self.all_reduced_costs(alloc)?;
         let values = self.all_values(alloc)?;

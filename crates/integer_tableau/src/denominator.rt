@@ -1,6 +1,6 @@
 // The denominator of all numbers.
 
-ghost use Rattle.std.specs.Prelude.{◌≡◌, ℕ, ◌+◌, ◌*◌, ◌<◌, ◌≤◌, ◌^◌, [], pos, nat_abs, ◌<ℤ◌, length, IsTrue, IfSome, slice_index_or};
+ghost use Rattle.std.specs.Prelude.{◌≡◌, ℕ, ◌+◌, ◌*◌, ◌<◌, ◌≤◌, ◌^◌, [], pos, nat_abs, ◌*ℤ◌, ◌<ℤ◌, length, IsTrue, IfSome, slice_index_or};
 ghost use Rattle.integer_tableau.specs.Numbers.{number_at, total_size};
 ghost use Rattle.integer_tableau.specs.Range.{size_limit};
 ghost use Rattle.integer_tableau.specs.Combined.{value_numerator, combined_value};
@@ -29,6 +29,63 @@ fn are_columns_small(
     for (j, value) in values.iter().enumerate() {
         let numerator = column_value(positions[j], nonbasic_values[j], *value, denominator);
         if numerator.unsigned_abs() > SIZE_LIMIT {
+            return false;
+        }
+    }
+    true
+}
+
+/// The greatest size of the numerators of the columns' values.
+fn greatest_numerator(
+    positions: &[Position],
+    nonbasic_values: &[i64],
+    values: &[i64],
+    denominator: i64,
+) -> u64
+    requires positions_there { length values.now ≤ length positions.now }
+    requires nonbasic_values_there { length values.now ≤ length nonbasic_values.now }
+    requires near { (j : ℕ) → j < length values.now → nat_abs (number_at nonbasic_values.now j) * nat_abs denominator < 2 ^ 63 }
+    ensures { (j : ℕ) → j < length values.now → nat_abs (value_numerator denominator (slice_index_or positions.now j Position.InBasis) (number_at nonbasic_values.now j) (number_at values.now j)) ≤ result }
+{
+    let mut greatest = 0;
+    for (j, value) in values.iter().enumerate() {
+        let numerator = column_value(positions[j], nonbasic_values[j], *value, denominator);
+        greatest = greatest.max(numerator.unsigned_abs());
+    }
+    greatest
+}
+
+/// Whether rows of this weight make the values of basic variables small, where no column's value has a greater numerator.
+fn is_light(weight: u64, greatest: u64) -> bool
+    ensures { IsTrue result → weight * greatest ≤ size_limit }
+{
+    u128::from(weight) * u128::from(greatest) <= u128::from(SIZE_LIMIT)
+}
+
+/// Whether the numerator of a nonbasic variable's value is at most `SIZE_LIMIT` in size; true of a basic one.
+fn is_small_if_nonbasic(position: Position, nonbasic_value: i64, denominator: i64) -> bool
+    ensures { IsTrue result → (k : ℕ) → position ≡ Position.InColumn k → nat_abs (nonbasic_value *ℤ denominator) ≤ size_limit }
+{
+    match position {
+        Position::InBasis => true,
+        Position::InColumn(_) => {
+            product(nonbasic_value, denominator).unsigned_abs() <= u128::from(SIZE_LIMIT)
+        }
+    }
+}
+
+/// Whether this is so of each variable from `first` on.
+fn are_nonbasic_small(
+    first: usize,
+    positions: &[Position],
+    nonbasic_values: &[i64],
+    denominator: i64,
+) -> bool
+    requires { length nonbasic_values.now ≡ length positions.now }
+    ensures { IsTrue result → (v k : ℕ) → first ≤ v → v < length positions.now → slice_index_or positions.now v Position.InBasis ≡ Position.InColumn k → nat_abs (number_at nonbasic_values.now v *ℤ denominator) ≤ size_limit }
+{
+    for v in first..positions.len() {
+        if !is_small_if_nonbasic(positions[v], nonbasic_values[v], denominator) {
             return false;
         }
     }
@@ -64,8 +121,8 @@ fn row_value(
     }
 }
 
-/// Whether the numerators of the values of the rows' variables are at most `SIZE_LIMIT` in size.
-fn are_rows_small(
+/// Whether the numerators of the values of the rows' variables are at most `SIZE_LIMIT` in size, by a look at each.
+fn are_rows_small_by_look(
     program_rows: &[ProgramRow],
     positions: &[Position],
     nonbasic_values: &[i64],
@@ -97,6 +154,38 @@ fn are_rows_small(
     true
 }
 
+/// The same by the weight of the rows and the greatest numerator of a column's value or, where that doesn't tell it, by a look at each.
+fn are_rows_small(
+    program_rows: &[ProgramRow],
+    weight: u64,
+    positions: &[Position],
+    nonbasic_values: &[i64],
+    values: &[i64],
+    denominator: i64,
+) -> bool
+    requires positions_there { length positions.now ≡ length values.now + length program_rows.now }
+    requires nonbasic_values_there { length nonbasic_values.now ≡ length positions.now }
+    requires full { (i : ℕ) → i < length program_rows.now → length (slice_index_or program_rows.now i []) ≡ length values.now }
+    requires weights { (i : ℕ) → i < length program_rows.now → total_size (slice_index_or program_rows.now i []) ≤ weight }
+    requires light { (i : ℕ) → i < length program_rows.now → total_size (slice_index_or program_rows.now i []) < size_limit }
+    requires near { (j : ℕ) → j < length values.now → nat_abs (number_at nonbasic_values.now j) * nat_abs denominator < 2 ^ 63 }
+    ensures { IsTrue result → (i : ℕ) → i < length program_rows.now → nat_abs (value_numerator denominator (slice_index_or positions.now (length values.now + i) Position.InBasis) (number_at nonbasic_values.now (length values.now + i)) (combined_value denominator (slice_index_or program_rows.now i []) positions.now nonbasic_values.now values.now)) ≤ size_limit }
+{
+    let greatest = greatest_numerator(positions, nonbasic_values, values, denominator);
+    if is_light(weight, greatest)
+        && are_nonbasic_small(values.len(), positions, nonbasic_values, denominator)
+    {
+        return true;
+    }
+    are_rows_small_by_look(
+        program_rows,
+        positions,
+        nonbasic_values,
+        values,
+        denominator,
+    )
+}
+
 impl IntegerTableau {
     /// A denominator of all numbers, where none is greater in size than `SIZE_LIMIT` over it; none where one is.
     pub fn common_denominator(&self) -> Option<u64>
@@ -109,6 +198,7 @@ impl IntegerTableau {
             self.denominator,
         ) || !are_rows_small(
             &self.fixed.rows,
+            self.fixed.weight,
             &self.positions,
             &self.nonbasic_values,
             &self.values,

@@ -5,20 +5,21 @@ ghost use Rattle.fraction.specs.Rational.{whole};
 ghost use Rattle.std.specs.Option.{option_map};
 ghost use Rattle.tableau.specs.WellFormed.{IsIntegral};
 ghost use Rattle.integer_tableau.specs.Numbers.{IsWithin, total_size};
+ghost use Rattle.integer_tableau.specs.Entries.{entry_by};
 ghost use Rattle.integer_tableau.specs.Range.{size_limit};
 ghost use Rattle.integer_tableau.specs.IntegerTableau.{fraction_bounds};
 ghost use Rattle.integer_tableau.specs.IntegerProgram.{column_bounds};
 
 use crate::integer_bounds::IntegerBounds;
 use crate::integer_row::IntegerRow;
-use crate::program_row::ProgramRow;
+use crate::program_row::{ProgramEntry, ProgramRow};
 use crate::range::SIZE_LIMIT;
 use fraction::Frac;
 use problem_box::{IntBox, Span};
 use std::alloc::{AllocError, Global};
 use std::marker::Model;
 use std::rc::RcSlice;
-use tableau::{Bounds, LinearProgram};
+use tableau::{Bounds, Entry, LinearProgram};
 
 /// A linear program of whole numbers, made ready for tableaus over many boxes. Contracts see the linear program itself.
 #[derive(Drop)]
@@ -116,6 +117,34 @@ fn integer_costs(alloc: Global, program: &LinearProgram) -> Result<Option<Intege
     }
 }
 
+/// An entry in whole numbers; none where its coefficient isn't whole, or is too large.
+fn integer_entry(entry: &Entry) -> Option<ProgramEntry>
+    ensures { IfSome result (λ e. entry_by whole e ≡ entry.now) }
+{
+    let number = integer(entry.coefficient())?;
+    Some(ProgramEntry {
+        place: entry.index(),
+        number,
+    })
+}
+
+/// The same for several entries. The one error is want of memory.
+fn integer_entries(
+    alloc: Global,
+    entries: &[Entry],
+) -> Result<Option<Vec<ProgramEntry>>, AllocError>
+    ensures { IfOk result (λ o. IfSome o (λ v. map (entry_by whole) v.items ≡ entries.now)) }
+{
+    let mut integers = Vec::with_capacity(alloc, entries.len())?;
+    for entry in entries {
+        match integer_entry(entry) {
+            Some(integer) => integers.push(integer)?,
+            None => return Ok(None),
+        }
+    }
+    Ok(Some(integers))
+}
+
 /// A row of a linear program in whole numbers; none where one isn't whole, or is too large. The one error is want of memory.
 fn integer_row(
     alloc: Global,
@@ -126,9 +155,8 @@ fn integer_row(
     ensures value { IfOk result (λ o. IfSome o (λ r. map whole r ≡ slice_index_or program.now.rows row [])) }
     ensures width { IfOk result (λ o. IfSome o (λ r. length r ≡ length program.now.costs)) }
 {
-    let coefficients = program.row(alloc, row)?;
-    match integers(alloc, &coefficients)? {
-        Some(numbers) => Ok(Some(ProgramRow::make(alloc, numbers)?)),
+    match integer_entries(alloc, program.entries(row))? {
+        Some(entries) => Ok(Some(ProgramRow::make(program.columns(), entries))),
         None => Ok(None),
     }
 }
@@ -163,24 +191,13 @@ pub(crate) fn are_within(rows: &[ProgramRow]) -> bool
     true
 }
 
-/// The sum of the sizes, if it has 64 bits.
-fn total_size(numbers: &[i64]) -> Option<u64>
-    ensures { IfSome result (λ t. t ≡ total_size numbers.now) }
-{
-    let mut total = 0u64;
-    for number in numbers {
-        total = total.checked_add(number.unsigned_abs())?;
-    }
-    Some(total)
-}
-
 /// The greatest sum of the sizes in a row, if each has 64 bits.
 pub(crate) fn greatest_weight(rows: &[ProgramRow]) -> Option<u64>
     ensures { IfSome result (λ w. (v : ℕ) → v < length rows.now → total_size (slice_index_or rows.now v []) ≤ w) }
 {
     let mut weight = 0u64;
     for row in rows {
-        weight = weight.max(total_size(row.numerators())?);
+        weight = weight.max(row.weight()?);
     }
     Some(weight)
 }

@@ -6,7 +6,6 @@ ghost use Rattle.integer_tableau.specs.Range.{size_limit};
 ghost use Rattle.integer_tableau.specs.Combined.{combined_row};
 ghost use Rattle.integer_tableau.specs.Substitution.{IsSubstituted, IsSolvedFor, IsSubstitutedRow, IsSolvedRow, IsSubstitutedIfFull, substituted_size};
 
-use crate::combination::add_columns;
 use crate::divisor::Divisor;
 use crate::low_sums;
 use crate::position::Position;
@@ -38,7 +37,7 @@ impl Model for IntegerRow {
 }
 
 /// The greatest size.
-pub(crate) fn greatest_size(row: &[i64]) -> u64
+fn greatest_size(row: &[i64]) -> u64
     ensures { IsWithin result row.now }
 {
     let mut size = 0;
@@ -46,20 +45,6 @@ pub(crate) fn greatest_size(row: &[i64]) -> u64
         size = size.max(number.unsigned_abs());
     }
     size
-}
-
-/// Puts numbers in the place of others; false where one has more than 64 bits.
-fn put_narrowed(row: &mut [i64], numbers: &[i128]) -> bool
-    requires { length row.old ≡ length numbers.now }
-    ensures { IsTrue result → (k : ℕ) → number_at row.new k ≡ number_at numbers.now k }
-{
-    for (k, number) in row.iter_mut().enumerate() {
-        match i64::try_from(numbers[k]) {
-            Ok(narrowed) => *number = narrowed,
-            Err(_) => return false,
-        }
-    }
-    true
 }
 
 /// Turns each number's sign.
@@ -199,6 +184,11 @@ impl IntegerRow {
         }
     }
 
+    /// Where its memory comes from.
+    pub(crate) fn allocator(&self) -> Global {
+        *self.numerators.allocator()
+    }
+
     /// How many columns there are.
     #[inline(always)]
     pub(crate) fn width(&self) -> usize
@@ -238,44 +228,8 @@ impl IntegerRow {
         self.numerators.resize(width, 0)
     }
 
-    /// Makes the row the combination of the columns by coefficients; false where memory is wanting, or a number is too large.
-    pub(crate) fn combine(
-        &mut self,
-        coefficients: &ProgramRow,
-        positions: &[Position],
-        rows: &[IntegerRow],
-        denominator: i64,
-    ) -> bool
-        requires rows_there { length rows.now ≡ length coefficients.now }
-        requires positions_there { length coefficients.now ≤ length positions.now }
-        requires positive { pos 0 <ℤ denominator }
-        ensures { IsTrue result → (self.new ≡ combined_row (nat_abs denominator) positions.now rows.now coefficients.now) × IsWithin (size_limit - 1) self.new }
-    {
-        if self.fill(rows.len()).is_err() {
-            return false;
-        }
-        let Ok(mut sums) = Vec::from_elem(*self.numerators.allocator(), 0, rows.len()) else {
-            return false;
-        };
-        if add_columns(
-            &mut sums,
-            coefficients.numerators(),
-            positions,
-            rows,
-            denominator,
-        ) && put_narrowed(&mut self.numerators, &sums)
-        {
-            self.size = greatest_size(&self.numerators);
-            self.is_small()
-        } else {
-            self.numerators.clear();
-            self.size = 0;
-            false
-        }
-    }
-
-    /// The same of a combination whose numbers are known to be small; false where memory is wanting, a column's row hasn't as many numbers, or
-    /// they aren't small.
+    /// Makes the row the combination of the columns by coefficients, whose numbers are known to be small; false where memory is wanting, a
+    /// column's row hasn't as many numbers, or they aren't small.
     pub(crate) fn combine_small(
         &mut self,
         coefficients: &ProgramRow,
@@ -294,7 +248,7 @@ impl IntegerRow {
         }
         let is_full = low_sums::add_columns(
             &mut self.numerators,
-            coefficients.numerators(),
+            coefficients,
             positions,
             rows,
             denominator,

@@ -4,6 +4,7 @@ ghost use Rattle.std.specs.Prelude.{◌≡◌, ℕ, ◌+◌, ◌*◌, ◌<◌, �
 ghost use Rattle.integer_tableau.specs.Numbers.{IsWithin, total_size};
 ghost use Rattle.integer_tableau.specs.Range.{size_limit};
 ghost use Rattle.integer_tableau.specs.Combined.{combined};
+ghost use Rattle.integer_tableau.specs.Positions.{IsColumnOf};
 ghost use Rattle.integer_tableau.specs.Small.{AreNumbersWithin, IsKept, IsSmallTimes};
 
 use crate::combined_sizes::{combination_bound, common_bound, look_at_all};
@@ -28,13 +29,14 @@ fn kept_bound(rows: &[IntegerRow], reduced_costs: &IntegerRow, denominator: i64)
 fn limit_with(
     limit: u64,
     position: Position,
-    coefficients: &[i64],
+    coefficients: &ProgramRow,
     positions: &[Position],
     rows: &[IntegerRow],
     denominator: i64,
 ) -> Option<u64>
     requires rows_there { length rows.now ≡ length coefficients.now }
     requires positions_there { length coefficients.now ≤ length positions.now }
+    requires apart { (v k : ℕ) → slice_index_or positions.now v Position.InBasis ≡ Position.InColumn k → IsColumnOf positions.now v k }
     ensures more { IfSome result (λ l. limit ≤ l) }
     ensures within { IfSome result (λ l. position ≡ Position.InBasis → (k : ℕ) → nat_abs (combined (nat_abs denominator) coefficients.now positions.now rows.now k) ≤ l) }
 {
@@ -57,6 +59,7 @@ fn limit_by_each(
 ) -> Option<u64>
     requires positions_there { length positions.now ≡ length rows.now + length program_rows.now }
     requires full { (i : ℕ) → i < length program_rows.now → length (slice_index_or program_rows.now i []) ≡ length rows.now }
+    requires apart { (v k : ℕ) → slice_index_or positions.now v Position.InBasis ≡ Position.InColumn k → IsColumnOf positions.now v k }
     ensures { IfSome result (λ l. AreNumbersWithin l (nat_abs denominator) program_rows.now positions.now rows.now reduced_costs.now) }
 {
     let columns = rows.len();
@@ -65,7 +68,7 @@ fn limit_by_each(
         limit = limit_with(
             limit,
             positions[columns + i],
-            coefficients.numerators(),
+            coefficients,
             positions,
             rows,
             denominator,

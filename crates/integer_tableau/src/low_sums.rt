@@ -7,6 +7,7 @@ ghost use Rattle.integer_tableau.specs.Combined.{numerator_of, combined};
 
 use crate::integer_row::IntegerRow;
 use crate::position::Position;
+use crate::program_row::ProgramRow;
 
 /// `number + factor * other` modulo 2^64.
 #[inline(always)]
@@ -46,9 +47,6 @@ fn add_column(
     requires { pos 0 <ℤ denominator }
     ensures { IsTrue result → (k : ℕ) → k < length sums.old → int_wrap w64 (number_at sums.new k) ≡ int_wrap w64 (number_at sums.old k +ℤ coefficient *ℤ numerator_of (nat_abs denominator) row.now position k) }
 {
-    if coefficient == 0 {
-        return true;
-    }
     match position {
         Position::InBasis => {
             if row.width() != sums.len() {
@@ -69,7 +67,7 @@ fn add_column(
 /// Adds up what the columns say, each times its coefficient; false where a row hasn't as many numbers.
 pub(crate) fn add_columns(
     sums: &mut [i64],
-    coefficients: &[i64],
+    coefficients: &ProgramRow,
     positions: &[Position],
     rows: &[IntegerRow],
     denominator: i64,
@@ -80,8 +78,10 @@ pub(crate) fn add_columns(
     requires positive { pos 0 <ℤ denominator }
     ensures { IsTrue result → (k : ℕ) → k < length sums.old → int_wrap w64 (number_at sums.new k) ≡ int_wrap w64 (combined (nat_abs denominator) coefficients.now positions.now rows.now k) }
 {
-    for (j, coefficient) in coefficients.iter().enumerate() {
-        if !add_column(sums, *coefficient, positions[j], &rows[j], denominator) {
+    let entries = coefficients.entries();
+    for entry in entries {
+        let j = entry.place;
+        if !add_column(sums, entry.number, positions[j], &rows[j], denominator) {
             return false;
         }
     }

@@ -346,7 +346,14 @@ fn pivot_parts(
     at_upper[leaving] = is_upper(exchange.direction);
     at_upper[entering] = false;
     if !is_near(reach, exchange.size)
-        || !are_combinations_small(program_rows, weight, positions, rows, spare, exchange.size)
+        || !are_combinations_small(
+            spare.allocator(),
+            program_rows,
+            weight,
+            positions,
+            rows,
+            exchange.size,
+        )
     {
         return None;
     }

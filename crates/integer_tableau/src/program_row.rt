@@ -1,80 +1,95 @@
 // The rows of a linear program, as tableaus read them.
 
-ghost use Rattle.std.specs.Prelude.{◌≡◌, ◌-◌, length, IfOk, IsTrue};
-ghost use Rattle.integer_tableau.specs.Numbers.{ArePlaces, IsWithin};
+ghost use Rattle.std.specs.Prelude.{◌≡◌, ℕ, ◌<◌, ◌≤◌, ◌-◌, nat_abs, pos, length, slice_index_or, IfSome, IsTrue};
+ghost use Rattle.integer_tableau.specs.Numbers.{IsWithin, total_size};
+ghost use Rattle.integer_tableau.specs.Entries.{spread, RiseWithin, AreEntries, entry_size};
 ghost use Rattle.integer_tableau.specs.Range.{size_limit};
 
-use crate::integer_row::greatest_size;
 use crate::range::SIZE_LIMIT;
-use std::alloc::{AllocError, Global};
 use std::marker::Model;
 
-/// The coefficients of a row, seen as the list of them. The places of those that aren't 0 spare looks at the others.
+/// A coefficient of a row that isn't 0, with its place.
+#[derive(Clone, Copy)]
+pub(crate) struct ProgramEntry {
+    /// The column.
+    pub(crate) place: usize,
+    /// The coefficient.
+    pub(crate) number: i64,
+}
+
+/// The coefficients of a row, seen as the list of them.
+///
+/// The row keeps those alone that aren't 0, by rising place: few are, and each loop over a row goes over these.
 #[derive(Drop)]
 pub(crate) struct ProgramRow {
-    coefficients: Vec<i64>,
-    places: Vec<usize>,
+    width: usize,
+    entries: Vec<ProgramEntry>,
 }
 
 impl Model for ProgramRow {
-    ghost use Rattle.std.specs.Prelude.{List, ℤ, length};
+    ghost use Rattle.std.specs.Prelude.{List, ℤ};
     ghost use Rattle.std.specs.Coded.{coded_list, coded_ℤ};
-    ghost use Rattle.integer_tableau.specs.Numbers.{ArePlaces};
+    ghost use Rattle.integer_tableau.specs.Entries.{spread, RiseWithin};
 
     ghost Value = { List ℤ };
 
     ghost coded = { coded_list coded_ℤ };
 
-    ghost view = { λ r. r.coefficients.items };
+    ghost view = { λ r. spread 0 r.width r.entries.items };
 
-    ghost invariant = { λ r. ArePlaces (length r.coefficients.items) r.coefficients.items r.places.items };
+    ghost invariant = { λ r. RiseWithin 0 r.width r.entries.items };
 }
 
-/// The places of the numbers that aren't 0. The one error is want of memory.
-fn nonzero_places(alloc: Global, numbers: &[i64]) -> Result<Vec<usize>, AllocError>
-    ensures { IfOk result (λ v. ArePlaces (length numbers.now) numbers.now v.items) }
+/// The sum of the sizes, if it has 64 bits.
+fn total_size(entries: &[ProgramEntry]) -> Option<u64>
+    ensures { IfSome result (λ t. t ≡ entry_size entries.now) }
 {
-    let mut places = Vec::new(alloc);
-    for (k, number) in numbers.iter().enumerate() {
-        if *number != 0 {
-            places.push(k)?;
-        }
+    let mut total = 0u64;
+    for entry in entries {
+        total = total.checked_add(entry.number.unsigned_abs())?;
     }
-    Ok(places)
+    Some(total)
+}
+
+/// The greatest size.
+fn greatest_size(entries: &[ProgramEntry]) -> u64
+    ensures { (i : ℕ) → i < length entries.now → nat_abs (slice_index_or entries.now i (record { place = 0; number = pos 0 })).number ≤ result }
+{
+    let mut size = 0;
+    for entry in entries {
+        size = size.max(entry.number.unsigned_abs());
+    }
+    size
 }
 
 impl ProgramRow {
-    /// The row of these coefficients. The one error is want of memory.
-    pub(crate) fn make(alloc: Global, coefficients: Vec<i64>) -> Result<ProgramRow, AllocError>
-        ensures { IfOk result (λ r. r ≡ coefficients.items) }
+    /// The row of so many coefficients, those of these entries, and 0 at the other places.
+    pub(crate) fn make(width: usize, entries: Vec<ProgramEntry>) -> ProgramRow
+        requires { RiseWithin 0 width entries.items }
+        ensures { result ≡ spread 0 width entries.items }
     {
-        let places = nonzero_places(alloc, &coefficients)?;
-        Ok(ProgramRow {
-            coefficients,
-            places,
-        })
+        ProgramRow { width, entries }
     }
 
-    /// The coefficients.
+    /// The coefficients that aren't 0, with their places.
     #[inline(always)]
-    pub(crate) fn numerators(&self) -> &[i64]
-        ensures { result.now ≡ self.now }
+    pub(crate) fn entries(&self) -> &[ProgramEntry]
+        ensures { AreEntries self.now result.now }
     {
-        &self.coefficients
+        &self.entries
     }
 
-    /// The places of the coefficients that aren't 0.
-    #[inline(always)]
-    pub(crate) fn places(&self) -> &[usize]
-        ensures { ArePlaces (length self.now) self.now result.now }
+    /// The sum of the coefficients' sizes, if it has 64 bits.
+    pub(crate) fn weight(&self) -> Option<u64>
+        ensures { IfSome result (λ t. t ≡ total_size self.now) }
     {
-        &self.places
+        total_size(self.entries())
     }
 
     /// Whether each coefficient is below `SIZE_LIMIT` in size.
     pub(crate) fn is_within(&self) -> bool
         ensures { IsTrue result → IsWithin (size_limit - 1) self.now }
     {
-        greatest_size(&self.coefficients) < SIZE_LIMIT
+        greatest_size(self.entries()) < SIZE_LIMIT
     }
 }

@@ -4,17 +4,18 @@ ghost use Rattle.std.specs.Prelude.{◌≡◌, ℕ, ◌+◌, ◌-◌, ◌<◌, �
 ghost use Rattle.std.specs.Option.{option_map};
 ghost use Rattle.fraction.specs.Rational.{whole};
 ghost use Rattle.integer_tableau.specs.IntegerTableau.{fraction_bounds};
+ghost use Rattle.integer_tableau.specs.Entries.{entry_by};
 ghost use Rattle.integer_tableau.specs.Scales.{scale_at, scaled_by, bounds_over, AreScaledBounds, AreScaledRows, unscaled_program};
 
 use crate::integer_bounds::IntegerBounds;
 use crate::integer_program::{IntegerProgram, are_within, greatest_weight, integer};
 use crate::integer_row::IntegerRow;
-use crate::program_row::ProgramRow;
+use crate::program_row::{ProgramEntry, ProgramRow};
 use crate::range::SIZE_LIMIT;
 use fraction::Frac;
 use std::alloc::{AllocError, Global};
 use std::rc::RcSlice;
-use tableau::{Bounds, LinearProgram};
+use tableau::{Bounds, Entry, LinearProgram};
 
 /// The whole number that a fraction is so many times; none where that isn't whole, or has more than 64 bits.
 fn scaled_integer(fraction: Frac, scale: u64) -> Option<i64>
@@ -102,6 +103,37 @@ fn all_scaled_bounds(
     Ok(Some(integers))
 }
 
+/// An entry, so many times, in whole numbers; none where its coefficient isn't whole then, or is too large.
+fn scaled_entry(entry: &Entry, scale: u64) -> Option<ProgramEntry>
+    requires { 0 < scale }
+    ensures { IfSome result (λ e. entry_by (λ z. scaled_by 1 scale (whole z)) e ≡ entry.now) }
+{
+    let number = scaled_integer(entry.coefficient(), scale)?;
+    Some(ProgramEntry {
+        place: entry.index(),
+        number,
+    })
+}
+
+/// The same for several entries. The one error is want of memory.
+fn scaled_entries(
+    alloc: Global,
+    entries: &[Entry],
+    scale: u64,
+) -> Result<Option<Vec<ProgramEntry>>, AllocError>
+    requires { 0 < scale }
+    ensures { IfOk result (λ o. IfSome o (λ v. map (entry_by (λ z. scaled_by 1 scale (whole z))) v.items ≡ entries.now)) }
+{
+    let mut integers = Vec::with_capacity(alloc, entries.len())?;
+    for entry in entries {
+        match scaled_entry(entry, scale) {
+            Some(integer) => integers.push(integer)?,
+            None => return Ok(None),
+        }
+    }
+    Ok(Some(integers))
+}
+
 /// A row of a linear program, so many times, in whole numbers; none where one isn't whole, or is too large. The one error is want of memory.
 fn scaled_row(
     alloc: Global,
@@ -114,9 +146,8 @@ fn scaled_row(
     ensures value { IfOk result (λ o. IfSome o (λ r. map (λ z. scaled_by 1 scale (whole z)) r ≡ slice_index_or program.now.rows row [])) }
     ensures width { IfOk result (λ o. IfSome o (λ r. length r ≡ length program.now.costs)) }
 {
-    let coefficients = program.row(alloc, row)?;
-    match scaled_integers(alloc, &coefficients, scale)? {
-        Some(numbers) => Ok(Some(ProgramRow::make(alloc, numbers)?)),
+    match scaled_entries(alloc, program.entries(row), scale)? {
+        Some(entries) => Ok(Some(ProgramRow::make(program.columns(), entries))),
         None => Ok(None),
     }
 }

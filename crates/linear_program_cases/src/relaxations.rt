@@ -31,6 +31,12 @@ const HALF: &[u8] =
 const LARGE: &[u8] =
     b"ROWS\n N o\n G r\n G s\nCOLUMNS\n m 'MARKER' 'INTORG'\n x o 1 r 700000000.0000001\n x s 900000000.0000007\n y o 1 r 800000000.0000003\n y s 500000000.0000009\nRHS\n r 1000000000 s 1000000000\nBOUNDS\n UP x 9\n UP y 9\nENDATA\n";
 
+/// Minimise x + y where 12345.6789x + 23456.7891y >= 50000 and 34567.8912x + 11111.2133y >= 60000, x and y from 0 to 9.
+///
+/// The first pivot is made on scaled numbers. Those of the second one, times the scale 10^4, are too large, and fractions go on.
+const GIVEN_UP: &[u8] =
+    b"ROWS\n N o\n G r\n G s\nCOLUMNS\n m 'MARKER' 'INTORG'\n x o 1 r 12345.6789\n x s 34567.8912\n y o 1 r 23456.7891\n y s 11111.2133\nRHS\n r 50000 s 60000\nBOUNDS\n UP x 9\n UP y 9\nENDATA\n";
+
 /// The box of x from 0 to 1 and y at 0.
 fn without_y(alloc: Global) -> Result<IntBox, AllocError> {
     let spans = vec![in alloc; Span { lo: 0, hi: 1 }, Span { lo: 0, hi: 0 }]?;
@@ -201,5 +207,6 @@ pub(crate) fn show<R: Print + Alloc<A = Global>>(rt: &R) -> Result<()> {
     show_boxes(rt, ODD)?;
     show_boxes(rt, ODD_QUARTERS)?;
     show_cut(rt)?;
-    show_boxes(rt, LARGE)
+    show_boxes(rt, LARGE)?;
+    show_boxes(rt, GIVEN_UP)
 }

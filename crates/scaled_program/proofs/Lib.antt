@@ -10,3 +10,4 @@ mod AnswersRead
 mod NumbersRead
 mod FromCode
 mod Boxes
+mod ToFractions

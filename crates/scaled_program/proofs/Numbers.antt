@@ -1,11 +1,12 @@
 -- Numbers that are scaled.
-use Rattle.std.proofs.Common.{◌≡◌, ℕ, zero, suc, ◌*◌, ◌<◌, ◌≤◌, ◌^◌, arith, ap, sym, ◌∙◌, Some}
-use Rattle.std.specs.Prelude.{ℤ, pos, negsuc, nat_abs, ◌*ℤ◌, int_lt}
+use Rattle.std.proofs.Common.{◌≡◌, ℕ, zero, suc, ◌*◌, ◌<◌, ◌≤◌, ◌^◌, arith, ap, sym, ◌∙◌, Option, Some, None}
+use Rattle.std.specs.Prelude.{ℤ, pos, negsuc, nat_abs, ◌*ℤ◌, int_lt, IfSome}
 use Rattle.std.specs.Bool.{one_answer}
 use Rattle.std.specs.Ordering.{is_lt, is_eq}
 use Rattle.std.proofs.Math.Nat.{mul-pos, mul-le-mul}
 use Rattle.std.proofs.lemmas.Int.{ints}
 use Rattle.fraction.specs.Checked.{abs_ℚ, compare, div_checked, mul_checked}
+use Rattle.fraction.specs.Lemmas.Bounds.{value_from_mul}
 use Rattle.fraction.specs.Lemmas.Integers.{diff-mul, diff-pos, diff-same, is_diff, le-mul_ℤ, mul-le_ℤ}
 use Rattle.fraction.specs.Lemmas.Order.{compare_equal}
 use Rattle.fraction.specs.Lemmas.Rational.{frac-*ℚ, frac_same, lit_one, ℚ_is, zero-*ℚ, one-*ℚ, *ℚ_comm, *ℚ_assoc, abs-times}
@@ -25,6 +26,12 @@ scaled_frac a b z d o p = frac-*ℚ z (pos a) d b p o
 
 pub scaled_is : (a b : ℕ) (x : ℚ) → 0 < b → scaled_by a b x ≡ frac (x.num *ℤ pos a) (x.den * b)
 scaled_is a b x o = ap (scaled_by a b) (ℚ_is x) ∙ scaled_frac a b x.num x.den o x.lowest.0
+
+-- a product with one over b, where it is there
+pub over_is : (b : ℕ) (x : ℚ) (o : Option ℚ) → o ≡ mul_checked x (frac (pos 1) b) → IfSome o (λ q. q ≡ scaled_by 1 b x)
+unfolding scaled_by
+over_is b x None e = tt
+over_is b x (Some q) e = sym (value_from_mul x (frac (pos 1) b) q (sym e))
 
 pub scaled_zero : (a b : ℕ) → scaled_by a b zero_ℚ ≡ zero_ℚ
 unfolding scaled_by

@@ -1,5 +1,5 @@
 -- Numbers that code reads with scales: they are small enough for that, and a list of them is read from place to place.
-use Rattle.std.proofs.Common.{◌≡◌, ℕ, zero, suc, ◌+◌, ◌*◌, ◌<◌, ◌≤◌, arith, refl, ap, sym, ◌∙◌, subst, List, [], ◌∷◌, ◌++◌, length, map, set, take, drop, inl, inr}
+use Rattle.std.proofs.Common.{◌≡◌, ℕ, zero, suc, ◌+◌, ◌*◌, ◌<◌, ◌≤◌, arith, refl, ap, sym, ◌∙◌, subst, List, [], ◌∷◌, ◌++◌, get_or, length, map, set, take, drop, inl, inr}
 use Rattle.std.specs.Prelude.{pos, negsuc, neg_ℤ, nat_abs}
 use Rattle.std.proofs.Math.Nat.{mul-le-mul}
 use Rattle.std.proofs.lemmas.Bool.{cases_lt}
@@ -33,12 +33,13 @@ module _ (d k : ℕ) (x : ℚ) (o : 0 < d) (l : d * k < size_limit) (h : IsOver 
       omega (arith, l, mul-le-mul n lb)
 
 -- ---- a list, from its front
-pub one_more : (f : ℕ → ℚ → ℚ) (all xs : List ℚ) (i : ℕ) (y : ℚ) → i < length xs → all ≡ map_from f 0 (take i xs) → y ≡ f i (entry xs i) → all ++ (y ∷ []) ≡ map_from f 0 (take (i + 1) xs)
-one_more f all xs i y l h e =
+pub one_more : {A B : Type 0} (f : ℕ → A → B) (all : List B) (xs : List A) (i : ℕ) (y : B) (d : A) → i < length xs → all ≡ map_from f 0 (take i xs) → y ≡ f i (get_or xs i d)
+    → all ++ (y ∷ []) ≡ map_from f 0 (take (i + 1) xs)
+one_more f all xs i y d l h e =
     (λ t. h t ++ (e t ∷ []))
-    ∙ ap (λ k. map_from f 0 (take i xs) ++ (f k (entry xs i) ∷ [])) many
-    ∙ sym (append-map_from f 0 (take i xs) (entry xs i ∷ []))
-    ∙ ap (map_from f 0) (sym (take_more xs i zero_ℚ l))
+    ∙ ap (λ k. map_from f 0 (take i xs) ++ (f k (get_or xs i d) ∷ [])) many
+    ∙ sym (append-map_from f 0 (take i xs) (get_or xs i d ∷ []))
+    ∙ ap (map_from f 0) (sym (take_more xs i d l))
   where
     many : i ≡ 0 + length (take i xs)
     many = omega (arith, l, length-take i xs)

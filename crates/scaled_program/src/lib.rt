@@ -2,6 +2,7 @@
 #![tactic(auto)]
 
 mod answers;
+mod conversion;
 pub mod laws;
 mod making;
 mod reading;

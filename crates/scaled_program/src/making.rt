@@ -8,7 +8,7 @@ use fraction::Frac;
 use integer_tableau::IntegerProgram;
 use std::alloc::{AllocError, Global};
 use std::rc::RcSlice;
-use tableau::{Bounds, LinearProgram};
+use tableau::{Bounds, Entry, LinearProgram};
 
 /// The least common multiple, if it has 64 bits.
 fn common_multiple(a: u64, b: u64) -> Option<u64>
@@ -46,6 +46,18 @@ fn with_fractions(scale: u64, fractions: &[Frac]) -> Option<u64>
     Some(scale)
 }
 
+/// A scale that makes the coefficients of entries whole too.
+fn with_entries(scale: u64, entries: &[Entry]) -> Option<u64>
+    requires { 0 < scale }
+    ensures { IfSome result (λ m. 0 < m) }
+{
+    let mut scale = scale;
+    for entry in entries {
+        scale = with_fraction(scale, entry.coefficient())?;
+    }
+    Some(scale)
+}
+
 /// A scale that makes a bound whole too.
 fn with_bound(scale: u64, bound: &Option<Frac>) -> Option<u64>
     requires { 0 < scale }
@@ -57,11 +69,11 @@ fn with_bound(scale: u64, bound: &Option<Frac>) -> Option<u64>
     }
 }
 
-/// The scale of a row of these coefficients and these bounds.
-fn row_scale(coefficients: &[Frac], bounds: &Bounds) -> Option<u64>
+/// The scale of a row of these entries and these bounds. A coefficient that is 0 is whole by any scale.
+fn row_scale(entries: &[Entry], bounds: &Bounds) -> Option<u64>
     ensures { IfSome result (λ m. 0 < m) }
 {
-    let scale = with_fractions(1, coefficients)?;
+    let scale = with_entries(1, entries)?;
     let scale = with_bound(scale, &bounds.lower)?;
     with_bound(scale, &bounds.upper)
 }
@@ -75,8 +87,7 @@ fn row_scales(alloc: Global, program: &LinearProgram) -> Result<Option<Vec<u64>>
     let bounds = program.bounds();
     let columns = program.columns();
     for i in 0..program.rows() {
-        let coefficients = program.row(alloc, i)?;
-        match row_scale(&coefficients, &bounds[columns + i]) {
+        match row_scale(program.entries(i), &bounds[columns + i]) {
             Some(scale) => scales.push(scale)?,
             None => return Ok(None),
         }

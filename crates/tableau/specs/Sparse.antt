@@ -1,4 +1,4 @@
--- Rows by their coefficients that aren't 0. Only contracts of the code's own parts cite what stands here.
+-- Rows by their coefficients that aren't 0. Of what stands here `LinearProgram::entries` alone is public.
 use Rattle.std.specs.Prelude.{◌≡◌, ℕ, ◌+◌, pos, negsuc, nat_lt, nat_eq, [], ◌∷◌, All, if◌then◌else◌}
 use Rattle.std.specs.Ordering.{int_eq}
 use Rattle.fraction.specs.Rational.{ℚ, whole}

@@ -209,6 +209,36 @@ impl Entries {
         Ok(())
     }
 
+    /// Puts equal entries behind the others. The one error is want of memory.
+    fn push_copies(&mut self, entries: &[Entry]) -> Result<(), AllocError>
+        ensures { OnOk result (self.new ≡ self.old ++ entries.now) }
+    {
+        for entry in entries {
+            self.push_copy(entry)?;
+        }
+        Ok(())
+    }
+
+    /// Takes all entries out, and makes room for so many. Room for more than four times as many is given back first, so that lists that
+    /// were long once don't keep it for good. The one error is want of memory.
+    fn clear_for(&mut self, count: usize) -> Result<(), AllocError>
+        ensures { self.new ≡ [] }
+    {
+        self.items.clear();
+        if count < self.items.capacity() / 4 {
+            self.items.shrink_to_fit();
+        }
+        self.items.reserve_exact(count)
+    }
+
+    /// Makes these entries equal to other ones, in room that fits them. The one error is want of memory.
+    pub(crate) fn copy_from(&mut self, other: &Entries) -> Result<(), AllocError>
+        ensures { OnOk result (self.new ≡ other.now) }
+    {
+        self.clear_for(other.items.len())?;
+        self.push_copies(other.as_slice())
+    }
+
     /// Puts an entry with `factor` times another one of the same variable behind the others, unless the sum is 0; false exactly where it is
     /// cramped. The one error is want of memory.
     fn push_sum(&mut self, factor: Frac, entry: &Entry, other: &Entry) -> Result<bool, AllocError>

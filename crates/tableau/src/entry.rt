@@ -7,7 +7,7 @@ use std::marker::Model;
 
 /// A variable with its coefficient in a row, seen as the pair of them.
 #[derive(Drop)]
-pub(crate) struct Entry {
+pub struct Entry {
     variable: u32,
     coefficient: Frac,
 }
@@ -47,7 +47,7 @@ impl Entry {
 
     /// The variable, as the number of a place in a list.
     #[inline]
-    pub(crate) fn index(&self) -> usize
+    pub fn index(&self) -> usize
         ensures { result ≡ self.now.0 }
     {
         self.variable as usize
@@ -55,7 +55,7 @@ impl Entry {
 
     /// The coefficient.
     #[inline]
-    pub(crate) fn coefficient(&self) -> Frac
+    pub fn coefficient(&self) -> Frac
         ensures { result ≡ self.now.1 }
     {
         self.coefficient

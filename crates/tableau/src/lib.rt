@@ -24,6 +24,7 @@ mod values;
 
 pub use answers::{named_multipliers, turn_into_multipliers};
 pub use bounds::{Bounds, Direction};
+pub use entry::Entry;
 pub use parts::TableauRows;
 pub use place::Place;
 pub use program::LinearProgram;

@@ -4,8 +4,10 @@ ghost use Rattle.std.specs.Prelude.{◌≡◌, ◌<◌, ◌≤◌, ◌+◌, ◌*
 ghost use Rattle.problem.specs.Rising.{AreRising};
 ghost use Rattle.problem.specs.Limits.{most_columns};
 ghost use Rattle.tableau.specs.LinearProgram.{span_bounds, row_bounds, program_of, relaxation, with_row, with_cut};
+ghost use Rattle.tableau.specs.Sparse.{nonzeros};
 
 use crate::bounds::Bounds;
+use crate::entry::Entry;
 use crate::sparse_row::SparseRow;
 use fraction::Frac;
 use problem::{Problem, Row, Sense, Terms};
@@ -172,6 +174,15 @@ impl LinearProgram {
         ensures width { IfOk result (λ v. length v.items ≡ length self.now.costs) }
     {
         self.rows[row].dense(alloc)
+    }
+
+    /// The columns of a row with their coefficients, but those that are 0.
+    pub fn entries(&self, row: usize) -> &[Entry]
+        requires { row < length self.now.rows }
+        ensures value { result.now ≡ nonzeros 0 (slice_index_or self.now.rows row []) }
+        ensures width { length (slice_index_or self.now.rows row []) ≡ length self.now.costs }
+    {
+        self.rows[row].entries()
     }
 
     /// The bounds of the columns, then of the rows' values.

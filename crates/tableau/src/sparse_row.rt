@@ -20,7 +20,6 @@ use fraction::Frac;
 use problem::Terms;
 use std::alloc::{AllocError, Global};
 use std::marker::Model;
-use std::mem;
 
 /// The coefficients of a row, seen as the list of all of them.
 ///
@@ -189,13 +188,23 @@ impl SparseRow {
         sum_over(self.entries.as_slice(), values)
     }
 
-    /// Makes this the row of so many coefficients with these entries, and hands its own entries out.
-    fn exchange(&mut self, width: usize, entries: &mut Entries)
-        requires { IsSparse width entries.old }
-        ensures { self.new ≡ coefficients_from 0 width entries.old }
+    /// Makes this the row of so many coefficients with copies of these entries, in room of its own that fits them. The one error is want of
+    /// memory; the row is empty then.
+    fn set(&mut self, width: usize, entries: &Entries) -> Result<(), AllocError>
+        requires { IsSparse width entries.now }
+        ensures { OnOk result (self.new ≡ coefficients_from 0 width entries.now) }
     {
-        self.width = width;
-        mem::swap(&mut self.entries, entries);
+        match self.entries.copy_from(entries) {
+            Ok(()) => {
+                self.width = width;
+                Ok(())
+            }
+            Err(error) => {
+                self.width = 0;
+                self.entries.clear();
+                Err(error)
+            }
+        }
     }
 
     /// Makes another row of this one, in which a variable is substituted by what the source says of it; false exactly where this is cramped.
@@ -220,7 +229,7 @@ impl SparseRow {
         )? {
             return Ok(false);
         }
-        into.exchange(self.width, spare);
+        into.set(self.width, spare)?;
         Ok(true)
     }
 
@@ -244,7 +253,7 @@ impl SparseRow {
         if !self.push_solved(row, column, pivot, spare)? {
             return Ok(false);
         }
-        into.exchange(self.width, spare);
+        into.set(self.width, spare)?;
         Ok(true)
     }
 

@@ -39,7 +39,7 @@ returns-in-Some c =
     let point = c.in_ok-point.ensures ∙ c.in_ok-numbers.ensures in
     (λ i. Some (Optimal (point i) (mult i) c.in-Some.value))
     ∙ optimal_there c.args.problem.now c.args.book.now.cuts c.args.cuts c.args.area.now c.args.tableau.now c.in-Some.value c.requires.tableau
-    (ap (sums_fit c.args.problem.now (take c.args.cuts c.args.book.now.cuts)) (sym point) ∙ sym c.are_sums_there.ensures ∙ c.if-not-are_sums_there.false)
+    (ap (sums_fit c.args.problem.now (take c.args.cuts c.args.book.now.cuts)) (sym point) ∙ sym c.in_ok-are_there.ensures ∙ c.if-not-are_there.false)
     (ap (price c.args.problem.now c.args.book.now.cuts c.args.area.now (aim c.args.problem.now)) (sym mult) ∙ sym c.in_ok-value.ensures ∙ c.in-Some.is)
 
 pub returns-in-None : goal.returns-in-None

@@ -6,4 +6,4 @@ use Rattle.dual_simplex.specs.PointSums.{checked_sum}
 use Rattle.dual_simplex.proofs.sums.cut_sums_fit.Given as goal
 
 abbrev pub invariant-loop-index : goal.invariant-loop-index
-invariant-loop-index l = list_all (λ (c : Cut). is_some (checked_sum c.row.terms l.point)) (take l.index l.book.cuts) ≡ true
+invariant-loop-index l = list_all (λ (c : Cut). is_some (checked_sum c.row.terms l.sums)) (take l.index l.book.cuts) ≡ true

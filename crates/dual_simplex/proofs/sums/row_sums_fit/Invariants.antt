@@ -6,4 +6,4 @@ use Rattle.dual_simplex.specs.PointSums.{checked_sum}
 use Rattle.dual_simplex.proofs.sums.row_sums_fit.Given as goal
 
 abbrev pub invariant-loop-index : goal.invariant-loop-index
-invariant-loop-index l = list_all (λ (r : Row). is_some (checked_sum r.terms l.point)) (take l.index l.problem.rows) ≡ true
+invariant-loop-index l = list_all (λ (r : Row). is_some (checked_sum r.terms l.sums)) (take l.index l.problem.rows) ≡ true

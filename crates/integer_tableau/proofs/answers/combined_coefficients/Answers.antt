@@ -1,35 +1,23 @@
-use Rattle.std.proofs.Common.{◌≡◌, ◌+◌, ◌++◌, ◌∷◌, [], ap, sym, ◌∙◌, get_or, drop, nat_abs, pos, ◌<◌, ◌<ℤ◌, ℤ, subst, List, w64, to_z, of_z}
-use Rattle.std.proofs.lemmas.List.{append_assoc, drop_more}
+use Rattle.std.proofs.Common.{ap, nat_abs, refl, sym, subst, drop, ◌-◌, ◌∙◌, w64}
 use Rattle.std.proofs.lemmas.Int.{to_z-of_z}
-use Rattle.integer_tableau.specs.Range.{size_limit}
-use Rattle.fraction.specs.Rational.{ℚ}
+use Rattle.std.proofs.lemmas.List.{take_rest}
+use Rattle.std.proofs.lemmas.Result.{IfOk-weaker}
 use Rattle.integer_tableau.specs.Combined.{combined_row}
-use Rattle.integer_tableau.specs.Positions.{coefficient, coefficients}
-use Rattle.integer_tableau.specs.declared.position.Position.{Position}
-use Rattle.integer_tableau.specs.declared.position.Position.TheVariants.{InBasis}
+use Rattle.integer_tableau.specs.Numbers.{IsWithin}
+use Rattle.integer_tableau.specs.Positions.{coefficients}
+use Rattle.integer_tableau.specs.Range.{size_limit}
 use Rattle.integer_tableau.proofs.answers.combined_coefficients.Goals as goal
 
-pub loop-v-preserved : goal.loop-v-preserved
-loop-v-preserved c =
-    let v = c.loop-v.v in
-    let ps = c.args.positions.now in
-    let all = c.loop-v.all.items in
-    let d = nat_abs (to_z w64 (of_z w64 c.args.denominator)) in
-    let row = combined_row d ps c.args.rows.now c.args.program_row.now in
-    let rest = coefficients d (drop (v + 1) ps) row in
-    let made : c.combined_coefficient.result ≡ coefficient d row (get_or ps v InBasis) = c.combined_coefficient.ensures in
-    ap (λ (qs : List ℚ). qs ++ rest) (c.in_ok-push.ensures.items ∙ ap (λ (q : ℚ). all ++ q ∷ []) made) ∙ append_assoc all (coefficient d row (get_or ps v InBasis) ∷ []) rest
-    ∙ ap (λ (ps : List Position). all ++ coefficients d ps row) (sym (drop_more ps v InBasis c.loop-v-test.true)) ∙ c.loop-v.invariant
+pub combine_small-requires-clause-small : goal.combine_small-requires-clause-small
+combine_small-requires-clause-small c =
+    let a = c.args in
+    subst (λ z. IsWithin (size_limit - 1) (combined_row (nat_abs z) a.positions.now a.rows.now a.program_row.now)) (sym (to_z-of_z w64 a.denominator c.ranges.denominator)) c.requires.small
 
-pub combined_coefficient-requires : goal.combined_coefficient-requires
-combined_coefficient-requires c =
-    let back = sym (to_z-of_z w64 c.args.denominator c.ranges.denominator) in
-    record {
-      positive = subst (λ (z : ℤ). pos 0 <ℤ z) back c.requires.positive;
-      small = subst (λ (z : ℤ). nat_abs z < size_limit) back c.requires.small;
-      rows_there = c.requires.rows_there;
-      positions_there = c.requires.positions_there;
-      light = c.requires.light;
-      rows_small = c.requires.rows_small;
-      column = c.requires.columns c.loop-v.v;
-    }
+pub returns : goal.returns
+returns c =
+    let a = c.args in
+    let d = to_z-of_z w64 a.denominator c.ranges.denominator in
+    let made = c.if-not-combine_small.ensures refl ∙ ap (λ z. combined_row (nat_abs z) a.positions.now a.rows.now a.program_row.now) d in
+    IfOk-weaker c.coefficients.result _ _ (λ v h. h
+    ∙ (λ i. coefficients (nat_abs (d i)) (take_rest a.positions.now a.first i) c.combine_small.new.self)
+    ∙ ap (coefficients (nat_abs a.denominator) (drop a.first a.positions.now)) made) c.coefficients.ensures

@@ -10,6 +10,5 @@ pub returns-in-Some : goal.returns-in-Some
 returns-in-Some c = λ small.
     let below : c.in-Some.bound < size_limit = grind (arith, nat_tests, small) in
     combined_row_within (nat_abs c.args.denominator) (size_limit - 1) c.args.coefficients.now c.args.positions.now c.args.rows.now (λ k.
-    subst (λ cs. nat_abs (combined (nat_abs c.args.denominator) cs c.args.positions.now c.args.rows.now k) ≤ size_limit - 1) c.numerators.ensures
-    (subst (λ z. nat_abs (combined (nat_abs z) c.numerators.result.now c.args.positions.now c.args.rows.now k) ≤ size_limit - 1) (to_z-of_z w64 c.args.denominator c.ranges.denominator)
-    (omega (arith, below, c.in-Some.ensures k))))
+    subst (λ z. nat_abs (combined (nat_abs z) c.args.coefficients.now c.args.positions.now c.args.rows.now k) ≤ size_limit - 1) (to_z-of_z w64 c.args.denominator c.ranges.denominator)
+    (omega (arith, below, c.in-Some.ensures k)))

@@ -16,6 +16,6 @@ loop-i-preserved c =
     one_past i c.loop-i.limit limit d ps ss rows c.args.reduced_costs.now c.in_ok-limit.ensures.more
     (λ e. combined_row_within d limit (get_or ps i []) ss rows (λ k.
     subst (λ cs. nat_abs (combined d cs ss rows k) ≤ limit)
-    (c.numerators.ensures ∙ c.index-program_rows-i.is ∙ get_or_default ps i c.index-program_rows-i.result [] c.loop-i-test.true)
+    (c.index-program_rows-i.is ∙ get_or_default ps i c.index-program_rows-i.result [] c.loop-i-test.true)
     (c.in_ok-limit.ensures.within e k)))
     c.loop-i.invariant

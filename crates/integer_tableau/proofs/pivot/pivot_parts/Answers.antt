@@ -6,6 +6,7 @@ use Rattle.integer_tableau.specs.Combined.{expanded_rows, expanded_values}
 use Rattle.integer_tableau.specs.IntegerTableau.{of_parts}
 use Rattle.integer_tableau.specs.Numbers.{number_at}
 use Rattle.integer_tableau.specs.Pivot.{AreSubstitutedValues, IsEliminated, IsPivotOf, IsPivoted}
+use Rattle.integer_tableau.proofs.Apart.{apart_after}
 use Rattle.integer_tableau.proofs.Exchanges.{positions_exchanged}
 use Rattle.integer_tableau.specs.Substitution.{quotient_numerator}
 use Rattle.integer_tableau.proofs.FromCode.{near_from_code, pivoted_from, positive_from, small_from_code}
@@ -29,6 +30,12 @@ leave-requires-clause-small c =
 
 pub exchange_numbers-requires-clause-column : goal.exchange_numbers-requires-clause-column
 exchange_numbers-requires-clause-column c = c.requires.compact.consistent.within c.args.entering c.in_ok-value.exchange.column c.in_ok-value.ensures.there.entering
+
+pub are_combinations_small-requires-clause-apart : goal.are_combinations_small-requires-clause-apart
+are_combinations_small-requires-clause-apart c =
+    let there = c.in_ok-value.ensures.there in
+    apart_after c.args.positions.now c.args.leaving c.args.entering c.in_ok-value.exchange.column there.entering there.leaving c.requires.entering_there c.requires.leaving_there
+    c.requires.compact.consistent.alone
 
 pub returns : goal.returns
 returns c =

@@ -31,6 +31,6 @@ pub loop-i-preserved : goal.loop-i-preserved
 loop-i-preserved c =
     let scales = c.args.scales.now.rows.items.value.items in
     c.in_ok-push.ensures.items
-    ∙ one_more (λ j x. scaled_by (scale_at c.args.columns scales j) c.args.unit x) c.loop-i.all.items c.args.numbers.now c.loop-i.i c.scaled_by.result c.loop-i-test.true c.loop-i.invariant
+    ∙ one_more (λ j x. scaled_by (scale_at c.args.columns scales j) c.args.unit x) c.loop-i.all.items c.args.numbers.now c.loop-i.i c.scaled_by.result zero_ℚ c.loop-i-test.true c.loop-i.invariant
     (c.scaled_by.ensures
     ∙ (λ i. scaled_by (c.of.ensures i) c.args.unit ((c.index-numbers-i.is ∙ get_or_default c.args.numbers.now c.loop-i.i c.index-numbers-i.result zero_ℚ c.loop-i-test.true) i)))

@@ -19,4 +19,4 @@ returns-then-is_full c = λ ok.
     (c.add_columns-is_full.auto.sums ∙ ap length (c.deref_mut.ensures.value ∙ c.self.view_is ∙ filled) ∙ length-replicate (length c.args.rows.now) (pos 0))
     (subst (IsWithin (size_limit - 1)) is (c.is_small.ensures.small ok)) c.requires.small
     (λ k l. c.add_columns-is_full.ensures c.if-is_full.true k (omega (arith, l, c.add_columns-is_full.auto.sums))
-    ∙ (λ i. int_wrap w64 (combined (nat_abs (d i)) (c.numerators.ensures i) c.args.positions.now c.args.rows.now k)))
+    ∙ (λ i. int_wrap w64 (combined (nat_abs (d i)) c.args.coefficients.now c.args.positions.now c.args.rows.now k)))

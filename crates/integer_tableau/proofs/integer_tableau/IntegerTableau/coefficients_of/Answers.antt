@@ -1,13 +1,13 @@
-use Rattle.std.proofs.Common.{arith, refl, ◌≡◌, ◌∙◌, ◌-◌, ◌<◌, ◌≤◌, [], length, rules, ap, sym, subst, nat_abs, drop, w64, get_or}
+use Rattle.std.proofs.Common.{arith, refl, ◌≡◌, ◌∙◌, ◌+◌, ◌-◌, ◌<◌, ◌≤◌, [], length, rules, ap, sym, subst, nat_abs, drop, w64, get_or, to_z, of_z}
 use mir.Val.{SFits}
 use Rattle.std.proofs.lemmas.Int.{to_z-of_z}
 use Rattle.std.proofs.lemmas.List.{get_or_default, take_rest}
 use Rattle.integer_tableau.proofs.Answering.{column_are, combined_are, none_are}
-use Rattle.integer_tableau.proofs.Expanded.{light_rows}
-use Rattle.integer_tableau.proofs.FromCode.{is_there, statuses_as_many}
+use Rattle.integer_tableau.proofs.Expanded.{row_made}
+use Rattle.integer_tableau.proofs.FromCode.{is_there, small_from_code, statuses_as_many}
 use Rattle.std.proofs.lemmas.Result.{IfOk-weaker}
 use Rattle.integer_tableau.specs.Combined.{combined_row}
-use Rattle.integer_tableau.specs.Numbers.{total_size}
+use Rattle.integer_tableau.specs.Numbers.{IsWithin}
 use Rattle.integer_tableau.specs.Range.{size_limit}
 use Rattle.integer_tableau.specs.Positions.{coefficients}
 use Rattle.integer_tableau.specs.declared.position.Position.TheVariants.{InBasis}
@@ -72,9 +72,31 @@ combined_coefficients-requires-clause-rows_there c = omega (arith, row_full c, a
 pub combined_coefficients-requires-clause-positions_there : goal.combined_coefficients-requires-clause-positions_there
 combined_coefficients-requires-clause-positions_there c = omega (arith, row_full c, ap length c.deref-else-row-columns.ensures.value, c.self.invariant.0.variables)
 
-pub combined_coefficients-requires-clause-light : goal.combined_coefficients-requires-clause-light
-combined_coefficients-requires-clause-light c =
-    subst (λ a. total_size a < size_limit) (sym (row_is c)) (light_rows _ _ _ _ c.self.invariant.0 (c.args.row - c.len-columns.result) (place_there c))
+pub combined_coefficients-requires-clause-first_there : goal.combined_coefficients-requires-clause-first_there
+combined_coefficients-requires-clause-first_there c =
+    omega (arith, c.requires.first_there, ap length c.deref-else-row-columns.ensures.value, statuses_as_many _ _ _ _ _ _ c.args.self.now c.self.invariant.0 c.self.view_is)
+
+pub combined_coefficients-requires-clause-small : goal.combined_coefficients-requires-clause-small
+combined_coefficients-requires-clause-small c =
+    let n = c.self.inside in
+    let ps = n.fixed.rows.items.value.items in
+    let ss = c.deref-else-row-columns.result.now in
+    let rows = c.deref-else-row-columns-2.result.now in
+    let a = c.row.result.now in
+    let f : SFits w64 n.denominator = search rules in
+    let d = to_z-of_z w64 n.denominator f in
+    let there = is_there _ _ _ _ _ _ c.args.self.now c.self.invariant.0 c.self.view_is n.positions.items c.args.row refl c.requires.row_there in
+    let many : length ss ≡ length rows + length ps = omega (arith, ap length c.deref-else-row-columns.ensures.value, ap length c.deref-else-row-columns-2.ensures.value, c.self.invariant.0.variables) in
+    let basic : get_or ss c.args.row InBasis ≡ InBasis =
+    ap (λ ss. get_or ss c.args.row InBasis) c.deref-else-row-columns.ensures.value
+    ∙ sym (get_or_default n.positions.items c.args.row c.index.result.now InBasis there) ∙ sym c.index.ensures ∙ c.in-InBasis.is in
+    let e : a ≡ get_or ps (c.args.row - length rows) a =
+    row_is c ∙ sym (get_or_default ps (c.args.row - c.len-columns.result) a [] (place_there c))
+    ∙ ap (λ k. get_or ps (c.args.row - k) a) (let k : c.len-columns.result ≡ length rows = omega (arith, c.len-columns.ensures, n.rows.ok, ap length c.deref-else-row-columns-2.ensures.value) in k) in
+    subst (IsWithin (size_limit - 1)) (sym (row_made (nat_abs (to_z w64 (of_z w64 n.denominator))) ps ss rows many c.args.row a _
+    (omega (arith, c.if-row-columns.false, c.len-columns.ensures, n.rows.ok, ap length c.deref-else-row-columns-2.ensures.value))
+    (omega (arith, there, ap length c.deref-else-row-columns.ensures.value)) basic e refl))
+    (small_from_code _ _ _ _ c.self.invariant.0 ps ss rows _ c.args.row refl c.deref-else-row-columns.ensures.value c.deref-else-row-columns-2.ensures.value (ap nat_abs d))
 
 pub returns-then-row-columns : goal.returns-then-row-columns
 returns-then-row-columns c =

@@ -59,5 +59,6 @@ are_rows_small-requires c =
       nonbasic_values_there = omega (arith, k.consistent.nonbasic_values, ap length positions_are, ap length nonbasic_are);
       full = λ i l. ap (λ (rows : List (List ℤ)). length (get_or rows i [])) rows_are ∙ k.full i (omega (arith, l, ap length rows_are)) ∙ sym (ap length values_are ∙ k.values);
       light = λ i l. subst (λ (rows : List (List ℤ)). total_size (get_or rows i []) < size_limit) (sym rows_are) (omega (arith, k.weights i (omega (arith, l, ap length rows_are)), k.light));
+      weights = λ i l. subst (λ (rows : List (List ℤ)). total_size (get_or rows i []) ≤ n.fixed.weight) (sym rows_are) (k.weights i (omega (arith, l, ap length rows_are)));
       near = near_from_code n.fixed.rows.items.value.items n.fixed.weight n.fixed.reach w k _ _ _ nonbasic_are values_are (ap nat_abs (to_z-of_z w64 n.denominator f));
     }

@@ -1,8 +1,5 @@
-use Rattle.std.proofs.Common.{arith, refl, ◌∙◌, ap, map, length}
-use Rattle.fraction.specs.Rational.{whole}
+use Rattle.std.proofs.Common.{arith, refl, ◌∙◌, ap, length}
 use Rattle.integer_tableau.proofs.ToFractions.{bounds_many, columns_within, costs_many, nonbasic_values_many, rows_many, statuses_many, values_many}
-use Rattle.integer_tableau.specs.IntegerTableau.{fraction_bounds}
-use Rattle.tableau.specs.Tableau.{Tableau}
 use Rattle.integer_tableau.proofs.integer_tableau.IntegerTableau.fractions.Goals as goal
 
 pub of_parts-requires-clause-columns_there : goal.of_parts-requires-clause-columns_there
@@ -11,20 +8,18 @@ of_parts-requires-clause-columns_there c =
 
 pub of_parts-requires-clause-bounds_there : goal.of_parts-requires-clause-bounds_there
 of_parts-requires-clause-bounds_there c =
-    let same = ap length (c.in_ok-bounds.ensures ∙ ap (map fraction_bounds) c.deref-2.ensures.value ∙ ap (λ (t : Tableau). t.bounds) c.self.view_is) in
-    omega (arith, same, bounds_many _ _ _ _ _ _ c.args.self.now c.self.invariant.0 c.self.view_is refl, statuses_many _ _ _ _ _ _ c.args.self.now c.self.invariant.0 c.self.view_is refl, ap length c.in_ok-statuses.ensures)
+    omega (arith, ap length c.in_ok-bounds.ensures, bounds_many _ _ _ _ _ _ c.args.self.now c.self.invariant.0 c.self.view_is refl, statuses_many _ _ _ _ _ _ c.args.self.now c.self.invariant.0 c.self.view_is refl, ap length c.in_ok-statuses.ensures)
 
 pub of_parts-requires-clause-nonbasic_values_there : goal.of_parts-requires-clause-nonbasic_values_there
 of_parts-requires-clause-nonbasic_values_there c =
-    let same = ap length (c.in_ok-nonbasic_values.ensures ∙ ap (map whole) c.deref-3.ensures.value ∙ ap (λ (t : Tableau). t.nonbasic_values) c.self.view_is) in
-    omega (arith, same, nonbasic_values_many _ _ _ _ _ _ c.args.self.now c.self.invariant.0 c.self.view_is refl, statuses_many _ _ _ _ _ _ c.args.self.now c.self.invariant.0 c.self.view_is refl, ap length c.in_ok-statuses.ensures)
+    omega (arith, ap length c.in_ok-nonbasic_values.ensures, nonbasic_values_many _ _ _ _ _ _ c.args.self.now c.self.invariant.0 c.self.view_is refl, statuses_many _ _ _ _ _ _ c.args.self.now c.self.invariant.0 c.self.view_is refl, ap length c.in_ok-statuses.ensures)
 
 pub of_parts-requires-clause-rows_there : goal.of_parts-requires-clause-rows_there
 of_parts-requires-clause-rows_there c = omega (arith, ap length c.in_ok-rows.ensures, rows_many _ _ _ _ _ _ c.args.self.now c.self.invariant.0 c.self.view_is refl, statuses_many _ _ _ _ _ _ c.args.self.now c.self.invariant.0 c.self.view_is refl, ap length c.in_ok-statuses.ensures)
 
 pub of_parts-requires-clause-costs_there : goal.of_parts-requires-clause-costs_there
 of_parts-requires-clause-costs_there c =
-    let same = ap length (c.deref-4.ensures.value ∙ c.in_ok-reduced_costs.ensures) in
+    let same = ap length (c.deref-2.ensures.value ∙ c.in_ok-reduced_costs.ensures) in
     omega (arith, same, costs_many _ _ _ _ _ _ c.args.self.now c.self.invariant.0 c.self.view_is refl, statuses_many _ _ _ _ _ _ c.args.self.now c.self.invariant.0 c.self.view_is refl, ap length c.in_ok-statuses.ensures)
 
 pub of_parts-requires-clause-values_there : goal.of_parts-requires-clause-values_there

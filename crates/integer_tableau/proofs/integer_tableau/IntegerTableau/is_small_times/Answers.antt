@@ -1,13 +1,20 @@
-use Rattle.std.proofs.Common.{◌≡◌, ◌*◌, max, nat_abs, rules, subst, w64, to_z, of_z}
+use Rattle.std.proofs.Common.{◌≡◌, ◌*◌, ℕ, List, get_or, max, nat_abs, rules, subst, sym, w64, to_z, of_z}
 use mir.Val.{SFits}
 use Rattle.std.proofs.lemmas.Int.{to_z-of_z}
 use Rattle.integer_tableau.specs.IntegerTableau.{IntegerTableau, of_parts}
+use Rattle.integer_tableau.specs.Positions.{IsColumnOf}
+use Rattle.integer_tableau.specs.declared.position.Position.{Position}
+use Rattle.integer_tableau.specs.declared.position.Position.TheVariants.{InBasis, InColumn}
 use Rattle.integer_tableau.specs.Small.{AreNumbersWithin, IsKept, IsSmallTimes}
 use Rattle.integer_tableau.proofs.SmallTimes.{by_weight, is_small_times}
 use Rattle.integer_tableau.proofs.integer_tableau.IntegerTableau.is_small_times.Goals as goal
 
 transported : {A B : Type 0} → A ≡ B → A → B
 transported e a = subst (λ X. X) e a
+
+pub limit_by_each-requires-clause-apart : goal.limit_by_each-requires-clause-apart
+limit_by_each-requires-clause-apart c =
+    subst (λ (ss : List Position). (v k : ℕ) → get_or ss v InBasis ≡ InColumn k → IsColumnOf ss v k) (sym c.deref-3.ensures.value) c.self.invariant.0.consistent.alone
 
 pub returns-in-Some : goal.returns-in-Some
 returns-in-Some c = λ small.

@@ -1,0 +1,12 @@
+use Rattle.std.proofs.Common.{◌∙◌, ap}
+use Rattle.std.proofs.lemmas.Option.{IfSome_then}
+use Rattle.std.proofs.lemmas.Result.{IfOk-weaker}
+use Rattle.tableau.specs.Tableau.{Tableau}
+use Rattle.integer_tableau.specs.Scales.{unscaled_values, scale_at}
+use Rattle.scaled_program.proofs.scaled_tableau.ScaledTableau.all_nonbasic_values.Goals as goal
+
+pub returns : goal.returns
+returns c =
+    let scales = c.self.inside.scales.rows.items.value.items in
+    IfOk-weaker c.unscaled_values.result _ _ (λ o h. IfSome_then o h (λ v e.
+    e ∙ (λ i. unscaled_values (scale_at (c.columns-columns.ensures i) scales) 0 ((c.deref.ensures.value ∙ c.in_ok-scaled.ensures) i)) ∙ ap (λ (w : Tableau). w.nonbasic_values) c.self.view_is)) c.unscaled_values.ensures
