@@ -1,12 +1,13 @@
 // Pools with their journals in memory.
-ghost use Rattle.std.specs.Prelude.{◌≡◌, ◌≤◌, [], IfOk, None};
+ghost use Rattle.std.specs.Prelude.{◌≡◌, ◌≤◌, [], true, IsTrue, IfOk, None};
 ghost use Rattle.outside.specs.OnDisk.{disk_now};
 ghost use Rattle.node_journal.specs.Whole.{payloads_in};
 ghost use Rattle.event_core.specs.States.{first_state};
-ghost use Rattle.node_pool.specs.Payloads.{IsJournalOf};
+ghost use Rattle.node_pool.specs.Payloads.{IsJournalOf, is_upgraded};
 ghost use Rattle.node_tree.specs.Limits.{most_nodes};
 
 use anyhow::{Result, bail};
+use event_codec::upgrade_record;
 use event_core::State;
 use node_journal::{Journal, scan};
 use node_pool::Pool;
@@ -32,19 +33,29 @@ fn empty_journal(alloc: Global) -> Result<Journal<MemDisk>>
     }
 }
 
-/// A journal of the model's record alone.
+/// Whether the records of a model and of the upgrade were added to a journal.
+fn add_records(journal: &mut Journal<MemDisk>) -> bool
+    requires sound { journal.old.fault ≡ None }
+    requires empty { payloads_in (disk_now journal.old.disk) ≡ [] }
+    ensures sound { IsTrue result → journal.new.fault ≡ None }
+    ensures stands { IsTrue result → IsJournalOf (payloads_in (disk_now journal.new.disk)) [] }
+    ensures upgraded { IsTrue result → is_upgraded (payloads_in (disk_now journal.new.disk)) ≡ true }
+{
+    journal.append(MODEL).is_ok() && journal.append(&upgrade_record()).is_ok()
+}
+
+/// A journal of the records of a model and of the upgrade.
 fn first_journal(alloc: Global) -> Result<Journal<MemDisk>>
     ensures sound { IfOk result (λ j. j.fault ≡ None) }
     ensures stands { IfOk result (λ j. IsJournalOf (payloads_in (disk_now j.disk)) []) }
+    ensures upgraded { IfOk result (λ j. is_upgraded (payloads_in (disk_now j.disk)) ≡ true) }
 {
     let mut journal = empty_journal(alloc)?;
-    match journal.append(MODEL) {
-        Ok(_) => Ok(journal),
-        Err(_) => {
-            let _disk = journal.into_disk();
-            bail!("the model's record was not added")
-        }
+    if add_records(&mut journal) {
+        return Ok(journal);
     }
+    let _disk = journal.into_disk();
+    bail!("the first records were not added")
 }
 
 /// The pool of a state and the journal that stands for its history.
@@ -58,6 +69,7 @@ fn pool_of(
     requires unheld { state.state.holds ≡ [] }
     requires sound { journal.fault ≡ None }
     requires stands { IsJournalOf (payloads_in (disk_now journal.disk)) state.history }
+    requires upgraded { is_upgraded (payloads_in (disk_now journal.disk)) ≡ true }
     ensures state { IfOk result (λ p. p.state ≡ state) }
     ensures budget { IfOk result (λ p. p.budget ≡ budget) }
     ensures halt { IfOk result (λ p. p.halt ≡ None) }

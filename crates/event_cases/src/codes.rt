@@ -4,14 +4,15 @@ ghost use Rattle.std.specs.Option.{ForSome};
 ghost use Rattle.event_codec.specs.Codes.{IsCodable};
 ghost use Rattle.event_codec.specs.Models.{IsUpper};
 
-use crate::groups::{GROUPS, show_group};
+use crate::groups::{GROUPS, GROUPS_IN_TWO, show_group};
+use crate::in_two::{IN_A_BYTE_MORE, IN_TWO, PAST_THEIR_TYPES};
 use crate::printing::show_event;
-use event_codec::{CodecError, decode, decode_model, encode, encode_model};
+use event_codec::{CodecError, Enc, decode, decode_model, encode, encode_model};
 use node_events::Event;
 use std::alloc::{AllocError, Global};
 use std::io;
 
-/// Payloads in hexadecimal digits, a blank before each field.
+/// Payloads of encoding 1 in hexadecimal digits, a blank before each field.
 const EVENTS: [&str; 21] = [
     "03 01000000 0200000000000000",
     "03 01000000 0200000000000000 07",
@@ -78,19 +79,24 @@ fn bytes_of(alloc: Global, text: &str) -> io::Result<Vec<u8>> {
 }
 
 /// Whether an event is spelled by these bytes.
-fn is_spelled(alloc: Global, event: &Event, bytes: &[u8]) -> Result<bool, AllocError>
-    requires { IsCodable event.now }
+fn is_spelled(alloc: Global, enc: Enc, event: &Event, bytes: &[u8]) -> Result<bool, AllocError>
+    requires { IsCodable enc event.now }
 {
-    let spelled = encode(alloc, event)?;
+    let spelled = encode(alloc, enc, event)?;
     Ok(spelled.as_slice() == bytes)
 }
 
 /// Prints an event and whether it is spelled by these bytes.
-fn show_spelled<R: Print + Alloc<A = Global>>(rt: &R, event: &Event, bytes: &[u8]) -> io::Result<()>
-    requires { IsCodable event.now }
+fn show_spelled<R: Print + Alloc<A = Global>>(
+    rt: &R,
+    enc: Enc,
+    event: &Event,
+    bytes: &[u8],
+) -> io::Result<()>
+    requires { IsCodable enc event.now }
 {
     show_event(rt, event)?;
-    let is_same = is_spelled(rt.alloc(), event, bytes)?;
+    let is_same = is_spelled(rt.alloc(), enc, event, bytes)?;
     println!(rt; "  spelled so: {is_same}")
 }
 
@@ -103,9 +109,14 @@ pub(crate) fn show_fault<R: Print>(rt: &R, text: &str, fault: CodecError) -> io:
 }
 
 /// Prints the event that bytes spell and whether it is spelled so, or their first fault.
-fn show_event_of<R: Print + Alloc<A = Global>>(rt: &R, text: &str, bytes: &[u8]) -> io::Result<()> {
-    match decode(rt.alloc(), bytes) {
-        Ok(event) => show_spelled(rt, &event, bytes),
+fn show_event_of<R: Print + Alloc<A = Global>>(
+    rt: &R,
+    enc: Enc,
+    text: &str,
+    bytes: &[u8],
+) -> io::Result<()> {
+    match decode(rt.alloc(), enc, bytes) {
+        Ok(event) => show_spelled(rt, enc, &event, bytes),
         Err(fault) => show_fault(rt, text, fault),
     }
 }
@@ -148,9 +159,9 @@ fn show_model_of<R: Print + Alloc<A = Global>>(rt: &R, text: &str, bytes: &[u8])
 /// What a payload is read as.
 #[derive(Clone, Copy)]
 enum Kind {
-    Event,
+    Event(Enc),
     Model,
-    Group,
+    Group(Enc),
 }
 
 /// Prints what the bytes of a payload spell.
@@ -161,9 +172,9 @@ fn show_bytes<R: Print + Alloc<A = Global>>(
     bytes: &[u8],
 ) -> io::Result<()> {
     match kind {
-        Kind::Event => show_event_of(rt, text, bytes),
+        Kind::Event(enc) => show_event_of(rt, enc, text, bytes),
         Kind::Model => show_model_of(rt, text, bytes),
-        Kind::Group => show_group(rt, text, bytes),
+        Kind::Group(enc) => show_group(rt, enc, text, bytes),
     }
 }
 
@@ -187,7 +198,11 @@ fn show_payloads<R: Print + Alloc<A = Global>>(
 
 /// Prints what payloads spell as events, as models and as groups.
 pub(crate) fn show<R: Print + Alloc<A = Global>>(rt: &R) -> io::Result<()> {
-    show_payloads(rt, Kind::Event, &EVENTS)?;
+    show_payloads(rt, Kind::Event(Enc::One), &EVENTS)?;
     show_payloads(rt, Kind::Model, &MODELS)?;
-    show_payloads(rt, Kind::Group, &GROUPS)
+    show_payloads(rt, Kind::Group(Enc::One), &GROUPS)?;
+    show_payloads(rt, Kind::Event(Enc::Two), &IN_TWO)?;
+    show_payloads(rt, Kind::Event(Enc::Two), &IN_A_BYTE_MORE)?;
+    show_payloads(rt, Kind::Event(Enc::Two), &PAST_THEIR_TYPES)?;
+    show_payloads(rt, Kind::Group(Enc::Two), &GROUPS_IN_TWO)
 }

@@ -6,6 +6,7 @@ mod codes;
 mod cuts;
 mod events;
 mod groups;
+mod in_two;
 mod incumbents;
 mod models;
 mod plans;

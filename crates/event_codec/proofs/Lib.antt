@@ -1,5 +1,6 @@
 pub mod Numbers
 pub mod Binds
+pub mod Varints
 pub mod Fields
 pub mod Fractions
 pub mod Combined

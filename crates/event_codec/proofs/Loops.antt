@@ -2,6 +2,7 @@
 use Rattle.std.proofs.Common.{◌≡◌, ℕ, suc, ◌-◌, ◌+◌, ◌≤◌, ◌<◌, List, [], ◌∷◌, ◌++◌, Ok, Err, refl, sym, ap, ◌∙◌, append_assoc, arith}
 use Rattle.std.proofs.lemmas.List.{append-nil}
 use Rattle.fraction.specs.Rational.{ℚ}
+use Rattle.event_codec.specs.declared.enc.Enc.{Enc}
 use Rattle.event_codec.specs.declared.fault.CodecFault.{CodecFault}
 use Rattle.event_codec.specs.Places.{Place}
 use Rattle.event_codec.specs.declared.fault.CodecError.{CodecError}
@@ -47,28 +48,29 @@ is_done {A = A} read front count i p total le so_far =
     let one : with_front front (elements_at read (count - i) p) ≡ Ok (front, p) = rw k (ap (λ (ns : List A). Ok (ns, p)) (append-nil front)) in
     sym so_far ∙ one
 
--- ---- the same of rows that rise
+module _ (enc : Enc) where
+  -- ---- the same of rows that rise
 
-pub rises_on : (front : List (ℕ × ℚ)) (least count i : ℕ) (p : Place) (n : ℕ × ℚ) (after : Place) (total : Read (List (ℕ × ℚ))) → i < count → factor_at least p ≡ Ok (n, after)
-    → with_front front (factors_at least (count - i) p) ≡ total → with_front (front ++ n ∷ []) (factors_at (suc n.0) (count - (i + 1)) after) ≡ total
-unfolding factors_at
-rises_on front least count i p n after total lt h so_far =
-    let k : count - i ≡ suc (count - (i + 1)) = omega arith in
-    let one : with_front front (factors_at least (count - i) p) ≡ with_front (front ++ n ∷ []) (factors_at (suc n.0) (count - (i + 1)) after) = rw (k, h) (regroup front n (factors_at (suc n.0) (count - (i + 1)) after)) in
-    sym one ∙ so_far
+  pub rises_on : (front : List (ℕ × ℚ)) (least count i : ℕ) (p : Place) (n : ℕ × ℚ) (after : Place) (total : Read (List (ℕ × ℚ))) → i < count → factor_at enc least p ≡ Ok (n, after)
+      → with_front front (factors_at enc least (count - i) p) ≡ total → with_front (front ++ n ∷ []) (factors_at enc (suc n.0) (count - (i + 1)) after) ≡ total
+  unfolding factors_at
+  rises_on front least count i p n after total lt h so_far =
+      let k : count - i ≡ suc (count - (i + 1)) = omega arith in
+      let one : with_front front (factors_at enc least (count - i) p) ≡ with_front (front ++ n ∷ []) (factors_at enc (suc n.0) (count - (i + 1)) after) = rw (k, h) (regroup front n (factors_at enc (suc n.0) (count - (i + 1)) after)) in
+      sym one ∙ so_far
 
-pub row_ends : (f : CodecFault) (front : List (ℕ × ℚ)) (least count i : ℕ) (p : Place) (total : Read (List (ℕ × ℚ))) → i < count → factor_at least p ≡ Err f
-    → with_front front (factors_at least (count - i) p) ≡ total → total ≡ Err f
-unfolding factors_at
-row_ends f front least count i p total lt h so_far =
-    let k : count - i ≡ suc (count - (i + 1)) = omega arith in
-    let one : with_front front (factors_at least (count - i) p) ≡ Err f = rw (k, h) refl in
-    sym so_far ∙ one
+  pub row_ends : (f : CodecFault) (front : List (ℕ × ℚ)) (least count i : ℕ) (p : Place) (total : Read (List (ℕ × ℚ))) → i < count → factor_at enc least p ≡ Err f
+      → with_front front (factors_at enc least (count - i) p) ≡ total → total ≡ Err f
+  unfolding factors_at
+  row_ends f front least count i p total lt h so_far =
+      let k : count - i ≡ suc (count - (i + 1)) = omega arith in
+      let one : with_front front (factors_at enc least (count - i) p) ≡ Err f = rw (k, h) refl in
+      sym so_far ∙ one
 
-pub rows_are_done : (front : List (ℕ × ℚ)) (least count i : ℕ) (p : Place) (total : Read (List (ℕ × ℚ))) → count ≤ i
-    → with_front front (factors_at least (count - i) p) ≡ total → total ≡ Ok (front, p)
-unfolding factors_at
-rows_are_done front least count i p total le so_far =
-    let k : count - i ≡ 0 = omega arith in
-    let one : with_front front (factors_at least (count - i) p) ≡ Ok (front, p) = rw k (ap (λ (ns : List (ℕ × ℚ)). Ok (ns, p)) (append-nil front)) in
-    sym so_far ∙ one
+  pub rows_are_done : (front : List (ℕ × ℚ)) (least count i : ℕ) (p : Place) (total : Read (List (ℕ × ℚ))) → count ≤ i
+      → with_front front (factors_at enc least (count - i) p) ≡ total → total ≡ Ok (front, p)
+  unfolding factors_at
+  rows_are_done front least count i p total le so_far =
+      let k : count - i ≡ 0 = omega arith in
+      let one : with_front front (factors_at enc least (count - i) p) ≡ Ok (front, p) = rw k (ap (λ (ns : List (ℕ × ℚ)). Ok (ns, p)) (append-nil front)) in
+      sym so_far ∙ one

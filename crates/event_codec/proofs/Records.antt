@@ -7,6 +7,7 @@ use Rattle.fraction.specs.Lemmas.Checked.{num_zero}
 use Rattle.event_codec.specs.declared.fault.CodecFault.{CodecFault}
 use Rattle.event_codec.specs.declared.fault.CodecFault.TheVariants.{BadTag, BadValue}
 use Rattle.event_codec.specs.declared.model.ModelRecord.{ModelRecord}
+use Rattle.event_codec.specs.declared.enc.Enc.TheVariants.{One}
 use Rattle.event_codec.specs.Places.{Place, beginning}
 use Rattle.event_codec.specs.ReadResults.{◌>>=◌, test}
 use Rattle.event_codec.specs.Codes.{i64_code, flag_code}
@@ -22,9 +23,9 @@ use Rattle.event_codec.specs.Lemmas.Uppers.{upper_fits}
 abbrev upper_of : Bool → ℤ → Option ℤ
 upper_of flag z = cond flag (Some z) None
 
-spelled_upper : (flag : Bool) (z : ℤ) → is_upper flag z ≡ true → (upper_code (upper_of flag z) ≡ flag_code flag ++ i64_code z) × IfSome (upper_of flag z) IsUpper
+spelled_upper : (flag : Bool) (z : ℤ) → is_upper flag z ≡ true → (upper_code (upper_of flag z) ≡ flag_code flag ++ i64_code One z) × IfSome (upper_of flag z) IsUpper
 spelled_upper true z e = (refl, grind (arith, ints))
-spelled_upper false z e = (ap (λ (n : ℤ). 0 ∷ i64_code n) (sym (num_zero z e)), tt)
+spelled_upper false z e = (ap (λ (n : ℤ). 0 ∷ i64_code One n) (sym (num_zero z e)), tt)
 
 known_field : (n : ℕ) → IsField (known_at n) (λ u. n ∷ []) (λ u. Unit {0})
 unfolding known_at
@@ -43,25 +44,25 @@ known_field n = record {
 upper_takes : (p q : Place) (x : Option ℤ) → IsBytes p.rest → upper_at p ≡ Ok (x, q) → Takes p.rest (upper_code x) q.rest × IfSome x IsUpper
 unfolding upper_at
 upper_takes p q x fits e =
-    let a = bind_ok (flag_at p) (λ (flag : Bool × Place). i64_at flag.1 >>= λ upper. test (is_upper flag.0 upper.0) (BadValue flag.1.at) >>= λ u. Ok (upper_of flag.0 upper.0, upper.1)) (x, q) e in
-    let b = bind_ok (i64_at a.0.1) (λ (upper : ℤ × Place). test (is_upper a.0.0 upper.0) (BadValue a.0.1.at) >>= λ u. Ok (upper_of a.0.0 upper.0, upper.1)) (x, q) a.2 in
+    let a = bind_ok (flag_at p) (λ (flag : Bool × Place). i64_at One flag.1 >>= λ upper. test (is_upper flag.0 upper.0) (BadValue flag.1.at) >>= λ u. Ok (upper_of flag.0 upper.0, upper.1)) (x, q) e in
+    let b = bind_ok (i64_at One a.0.1) (λ (upper : ℤ × Place). test (is_upper a.0.0 upper.0) (BadValue a.0.1.at) >>= λ u. Ok (upper_of a.0.0 upper.0, upper.1)) (x, q) a.2 in
     let t = test_ok (is_upper a.0.0 b.0.0) (BadValue a.0.1.at) (Ok (upper_of a.0.0 b.0.0, b.0.1)) (x, q) b.2 in
     let flag = flag_field.takes p a.0.1 a.0.0 fits a.1 in
-    let upper = i64_field.takes a.0.1 b.0.1 b.0.0 flag.0.rest_fits b.1 in
+    let upper = (i64_field One).takes a.0.1 b.0.1 b.0.0 flag.0.rest_fits b.1 in
     let s = spelled_upper a.0.0 b.0.0 t.0 in
-    let both = Takes-then p.rest (flag_code a.0.0) a.0.1.rest (i64_code b.0.0) b.0.1.rest flag.0 upper.0 in
+    let both = Takes-then p.rest (flag_code a.0.0) a.0.1.rest (i64_code One b.0.0) b.0.1.rest flag.0 upper.0 in
     let taken : Takes p.rest (upper_code (upper_of a.0.0 b.0.0)) b.0.1.rest = subst (λ (y : List ℕ). Takes p.rest y b.0.1.rest) (sym s.0) both in
     ok_then (λ (y : Option ℤ × Place). Takes p.rest (upper_code y.0) y.1.rest × IfSome y.0 IsUpper) (upper_of a.0.0 b.0.0, b.0.1) (x, q) t.1 (taken, s.1)
 
 upper_again : (x : Option ℤ) (place : ℕ) (rest : List ℕ) → IfSome x IsUpper → (to : ℕ) × (upper_at (at_place place (upper_code x ++ rest)) ≡ Ok (x, at_place to rest))
 unfolding upper_at
 upper_again None place rest is =
-    let flag = flag_field.again false place (i64_code (pos 0) ++ rest) tt in
-    let upper = i64_field.again (pos 0) flag.0 rest (record { sfits = omega arith }) in
+    let flag = flag_field.again false place (i64_code One (pos 0) ++ rest) tt in
+    let upper = (i64_field One).again (pos 0) flag.0 rest (record { sfits = omega arith }) in
     (upper.0, rw (flag.1, upper.1) refl)
 upper_again (Some z) place rest is =
-    let flag = flag_field.again true place (i64_code z ++ rest) tt in
-    let upper = i64_field.again z flag.0 rest (upper_fits z is) in
+    let flag = flag_field.again true place (i64_code One z ++ rest) tt in
+    let upper = (i64_field One).again z flag.0 rest (upper_fits z is) in
     let low : int_le (pos 0) z ≡ true = grind (arith, ints) in
     let high : int_le z (pos largest_bound) ≡ true = grind (arith, ints) in
     (upper.0, rw (flag.1, upper.1, low, high) refl)

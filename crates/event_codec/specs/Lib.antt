@@ -1,9 +1,11 @@
+pub mod Varints
 pub mod Codes
 pub mod Types
 pub mod Places
 pub mod ReadResults
 pub mod Reading
 pub mod Models
+pub mod Upgrades
 pub mod Groups
 pub mod Laws
 pub mod Lemmas

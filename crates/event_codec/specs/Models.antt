@@ -1,8 +1,9 @@
--- The first payload of a journal: the text of the model, and the upper bound for columns that lack one, if one was given.
+-- The first payload of a journal: the text of the model, and the upper bound for columns that lack one, if one was given. It has one encoding.
 use Rattle.std.specs.Prelude.{◌≡◌, ℕ, ℤ, pos, ◌≤ℤ◌, int_le, Bool, ◌&&◌, ◌==◌, if◌then◌else◌, List, ◌∷◌, ◌++◌, Option, Some, None, Result, Ok, Err}
 use Rattle.std.specs.Ordering.{int_eq}
 use Rattle.event_codec.specs.declared.fault.CodecFault.{CodecFault}
 use Rattle.event_codec.specs.declared.fault.CodecFault.TheVariants.{BadTag, BadValue}
+use Rattle.event_codec.specs.declared.enc.Enc.TheVariants.{One}
 use Rattle.event_codec.specs.declared.model.ModelRecord.{ModelRecord}
 use Rattle.event_codec.specs.Places.{Place, beginning}
 use Rattle.event_codec.specs.Codes.{i64_code}
@@ -16,8 +17,8 @@ IsUpper z = (pos 0 ≤ℤ z) × (z ≤ℤ pos largest_bound)
 
 -- a flag whether there is a bound, and the bound or 0
 abbrev pub upper_code : Option ℤ → List ℕ
-upper_code None = 0 ∷ i64_code (pos 0)
-upper_code (Some z) = 1 ∷ i64_code z
+upper_code None = 0 ∷ i64_code One (pos 0)
+upper_code (Some z) = 1 ∷ i64_code One z
 
 -- tag, format, upper bound, and the text to the end
 abbrev pub model_code : List ℕ → Option ℤ → List ℕ
@@ -40,7 +41,7 @@ is_upper flag z = if flag then int_le (pos 0) z && int_le z (pos largest_bound) 
 unfoldable pub upper_at : Place → Read (Option ℤ)
 upper_at p = do
   flag ← flag_at p
-  upper ← i64_at flag.1
+  upper ← i64_at One flag.1
   _ ← test (is_upper flag.0 upper.0) (BadValue flag.1.at)
   Ok ((if flag.0 then Some upper.0 else None), upper.1)
 

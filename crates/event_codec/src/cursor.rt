@@ -6,7 +6,9 @@ ghost use Rattle.event_codec.specs.Places.{beginning};
 ghost use Rattle.event_codec.specs.ReadResults.{Reads};
 ghost use Rattle.event_codec.specs.Reading.{bytes_at, byte_at, u32_at, i64_at, i128_at, flag_at};
 
+use crate::enc::Enc;
 use crate::fault::CodecFault;
+use crate::varint::{from_wide_zigzag, from_zigzag, varint, wide_varint};
 use std::marker::Model;
 
 /// A place in a payload, with the bytes from there on. Each field that is read moves it behind the field.
@@ -85,7 +87,7 @@ impl<'a> Cursor<'a> {
     /// The next bytes. They are borrowed: an array within a result is copied in odd pieces, which is slow to read again.
     #[inline(always)]
     #[tactic(auto, unfolding(crate::specs::Reading::bytes_at))]
-    fn bytes(&mut self, count: usize) -> Result<&'a [u8], CodecFault>
+    pub(crate) fn bytes(&mut self, count: usize) -> Result<&'a [u8], CodecFault>
         ensures found { IfOk result (λ b. bytes_at count self.old ≡ Ok (b.now, self.new)) }
         ensures size { IfOk result (λ b. length b.now ≡ count) }
         ensures short { IfErr result (λ f. bytes_at count self.old ≡ Err f) }
@@ -109,30 +111,48 @@ impl<'a> Cursor<'a> {
     }
 
     /// A number of 32 bits.
+    #[inline(always)]
     #[tactic(auto, unfolding(crate::specs::Reading::u32_at))]
-    pub(crate) fn u32(&mut self) -> Result<u32, CodecFault>
-        ensures { Reads result self.new (u32_at self.old) }
+    pub(crate) fn u32(&mut self, enc: Enc) -> Result<u32, CodecFault>
+        ensures { Reads result self.new (u32_at enc self.old) }
     {
-        let bytes = self.bytes(4)?;
-        Ok(u32::from_le_bytes(array(bytes)))
+        match enc {
+            Enc::One => {
+                let bytes = self.bytes(4)?;
+                Ok(u32::from_le_bytes(array(bytes)))
+            }
+            Enc::Two => Ok(varint(self, u64::from(u32::MAX))? as u32),
+        }
     }
 
     /// A signed number of 64 bits.
+    #[inline(always)]
     #[tactic(auto, unfolding(crate::specs::Reading::i64_at))]
-    pub(crate) fn i64(&mut self) -> Result<i64, CodecFault>
-        ensures { Reads result self.new (i64_at self.old) }
+    pub(crate) fn i64(&mut self, enc: Enc) -> Result<i64, CodecFault>
+        ensures { Reads result self.new (i64_at enc self.old) }
     {
-        let bytes = self.bytes(8)?;
-        Ok(i64::from_le_bytes(array(bytes)))
+        match enc {
+            Enc::One => {
+                let bytes = self.bytes(8)?;
+                Ok(i64::from_le_bytes(array(bytes)))
+            }
+            Enc::Two => Ok(from_zigzag(varint(self, u64::MAX)?)),
+        }
     }
 
     /// A signed number of 128 bits.
+    #[inline(always)]
     #[tactic(auto, unfolding(crate::specs::Reading::i128_at))]
-    pub(crate) fn i128(&mut self) -> Result<i128, CodecFault>
-        ensures { Reads result self.new (i128_at self.old) }
+    pub(crate) fn i128(&mut self, enc: Enc) -> Result<i128, CodecFault>
+        ensures { Reads result self.new (i128_at enc self.old) }
     {
-        let bytes = self.bytes(16)?;
-        Ok(two_words(bytes).cast_signed())
+        match enc {
+            Enc::One => {
+                let bytes = self.bytes(16)?;
+                Ok(two_words(bytes).cast_signed())
+            }
+            Enc::Two => Ok(from_wide_zigzag(wide_varint(self)?)),
+        }
     }
 
     /// A flag: 0 is false, and 1 is true.

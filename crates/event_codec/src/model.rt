@@ -6,6 +6,7 @@ ghost use Rattle.event_codec.specs.ReadResults.{Reads};
 ghost use Rattle.event_codec.specs.Models.{model_code, IsUpper, is_upper, known_at, upper_at, model_of, GivesModel};
 
 use crate::cursor::Cursor;
+use crate::enc::Enc;
 use crate::fault::CodecFault;
 use crate::put::{put_flag, put_i64};
 use crate::tags::MODEL;
@@ -35,11 +36,11 @@ pub fn encode_model(alloc: Global, text: &[u8], upper: Option<i64>) -> Result<Ve
     match upper {
         None => {
             put_flag(&mut out, false)?;
-            put_i64(&mut out, 0)?;
+            put_i64(&mut out, Enc::One, 0)?;
         }
         Some(upper) => {
             put_flag(&mut out, true)?;
-            put_i64(&mut out, upper)?;
+            put_i64(&mut out, Enc::One, upper)?;
         }
     }
     out.extend_from_slice(text)?;
@@ -76,7 +77,7 @@ fn upper(cursor: &mut Cursor<'_>) -> Result<Option<i64>, CodecFault>
 {
     let flag = cursor.flag()?;
     let at = cursor.at();
-    let upper = cursor.i64()?;
+    let upper = cursor.i64(Enc::One)?;
     if !is_upper(flag, upper) {
         return Err(CodecFault::BadValue { at });
     }

@@ -8,6 +8,8 @@ ghost use Rattle.std.specs.List.{AllByRecursion};
 ghost use Rattle.fraction.specs.Fits.{FitsFraction};
 ghost use Rattle.event_codec.specs.Types.{FitsU32, IsMult, IsPoint};
 
+use crate::enc::Enc;
+use crate::varint::{put_varint, put_wide_varint, wide_zigzag, zigzag};
 use fraction::Frac;
 use node_events::{Mult, RationalPoint};
 use problem::{Point, Term};
@@ -15,31 +17,46 @@ use std::alloc::AllocError;
 
 /// A number of 32 bits.
 #[tactic(auto, unfolding(crate::specs::Codes::u32_code))]
-pub(crate) fn put_u32(out: &mut Vec<u8>, number: u32) -> Result<(), AllocError>
-    ensures spelled { OnOk result (out.new.items ≡ out.old.items ++ u32_code number) }
+pub(crate) fn put_u32(out: &mut Vec<u8>, enc: Enc, number: u32) -> Result<(), AllocError>
+    ensures spelled { OnOk result (out.new.items ≡ out.old.items ++ u32_code enc number) }
     ensures typed { FitsU32 number }
 {
-    out.extend_from_slice(&number.to_le_bytes())?;
-    Ok(())
+    match enc {
+        Enc::One => {
+            out.extend_from_slice(&number.to_le_bytes())?;
+            Ok(())
+        }
+        Enc::Two => put_varint(out, u64::from(number)),
+    }
 }
 
 /// A signed number of 64 bits.
 #[tactic(auto, unfolding(crate::specs::Codes::i64_code))]
-pub(crate) fn put_i64(out: &mut Vec<u8>, number: i64) -> Result<(), AllocError>
-    ensures spelled { OnOk result (out.new.items ≡ out.old.items ++ i64_code number) }
+pub(crate) fn put_i64(out: &mut Vec<u8>, enc: Enc, number: i64) -> Result<(), AllocError>
+    ensures spelled { OnOk result (out.new.items ≡ out.old.items ++ i64_code enc number) }
     ensures typed { FitsSigned w64 number }
 {
-    out.extend_from_slice(&number.to_le_bytes())?;
-    Ok(())
+    match enc {
+        Enc::One => {
+            out.extend_from_slice(&number.to_le_bytes())?;
+            Ok(())
+        }
+        Enc::Two => put_varint(out, zigzag(number)),
+    }
 }
 
 /// A signed number of 128 bits.
 #[tactic(auto, unfolding(crate::specs::Codes::i128_code))]
-fn put_i128(out: &mut Vec<u8>, number: i128) -> Result<(), AllocError>
-    ensures { OnOk result (out.new.items ≡ out.old.items ++ i128_code number) }
+fn put_i128(out: &mut Vec<u8>, enc: Enc, number: i128) -> Result<(), AllocError>
+    ensures { OnOk result (out.new.items ≡ out.old.items ++ i128_code enc number) }
 {
-    out.extend_from_slice(&number.to_le_bytes())?;
-    Ok(())
+    match enc {
+        Enc::One => {
+            out.extend_from_slice(&number.to_le_bytes())?;
+            Ok(())
+        }
+        Enc::Two => put_wide_varint(out, wide_zigzag(number)),
+    }
 }
 
 /// A flag.
@@ -51,63 +68,67 @@ pub(crate) fn put_flag(out: &mut Vec<u8>, flag: bool) -> Result<(), AllocError>
 }
 
 /// A fraction.
-fn put_fraction(out: &mut Vec<u8>, fraction: Frac) -> Result<(), AllocError>
-    ensures spelled { OnOk result (out.new.items ≡ out.old.items ++ fraction_code fraction) }
+fn put_fraction(out: &mut Vec<u8>, enc: Enc, fraction: Frac) -> Result<(), AllocError>
+    ensures spelled { OnOk result (out.new.items ≡ out.old.items ++ fraction_code enc fraction) }
     ensures typed { FitsFraction fraction }
 {
     fraction.limits_hold();
-    put_i128(out, fraction.numer())?;
-    put_i128(out, fraction.denom() as i128)
+    put_i128(out, enc, fraction.numer())?;
+    put_i128(out, enc, fraction.denom() as i128)
 }
 
 /// A row with its factor.
-fn put_factor(out: &mut Vec<u8>, term: &Term) -> Result<(), AllocError>
-    ensures spelled { OnOk result (out.new.items ≡ out.old.items ++ factor_code term.now) }
+fn put_factor(out: &mut Vec<u8>, enc: Enc, term: &Term) -> Result<(), AllocError>
+    ensures spelled { OnOk result (out.new.items ≡ out.old.items ++ factor_code enc term.now) }
     ensures typed { OnOk result (FitsU32 term.now.0 × FitsFraction term.now.1) }
 {
-    put_u32(out, term.column())?;
-    put_fraction(out, term.coefficient())
+    put_u32(out, enc, term.column())?;
+    put_fraction(out, enc, term.coefficient())
 }
 
 /// Multipliers.
 #[tactic(auto, unfolding(crate::specs::Codes::list_code))]
-pub(crate) fn put_mult(out: &mut Vec<u8>, mult: &Mult) -> Result<(), AllocError>
+pub(crate) fn put_mult(out: &mut Vec<u8>, enc: Enc, mult: &Mult) -> Result<(), AllocError>
     requires { IsShort mult.now }
-    ensures spelled { OnOk result (out.new.items ≡ out.old.items ++ mult_code mult.now) }
+    ensures spelled { OnOk result (out.new.items ≡ out.old.items ++ mult_code enc mult.now) }
     ensures typed { OnOk result (IsMult mult.now) }
 {
-    put_u32(out, mult.len() as u32)?;
+    put_u32(out, enc, mult.len() as u32)?;
     for term in mult.as_slice() {
-        put_factor(out, term)?;
+        put_factor(out, enc, term)?;
     }
     Ok(())
 }
 
 /// A point.
 #[tactic(auto, unfolding(crate::specs::Codes::list_code))]
-pub(crate) fn put_point(out: &mut Vec<u8>, point: &Point) -> Result<(), AllocError>
+pub(crate) fn put_point(out: &mut Vec<u8>, enc: Enc, point: &Point) -> Result<(), AllocError>
     requires { IsShort point.now }
-    ensures spelled { OnOk result (out.new.items ≡ out.old.items ++ list_code i64_code point.now) }
+    ensures spelled { OnOk result (out.new.items ≡ out.old.items ++ list_code enc (i64_code enc) point.now) }
     ensures typed { OnOk result (IsPoint point.now) }
 {
     let numbers = point.as_slice();
-    put_u32(out, numbers.len() as u32)?;
+    put_u32(out, enc, numbers.len() as u32)?;
     for number in numbers {
-        put_i64(out, *number)?;
+        put_i64(out, enc, *number)?;
     }
     Ok(())
 }
 
 /// A point of fractions.
 #[tactic(auto, unfolding(crate::specs::Codes::list_code))]
-pub(crate) fn put_rational_point(out: &mut Vec<u8>, point: &RationalPoint) -> Result<(), AllocError>
+pub(crate) fn put_rational_point(
+    out: &mut Vec<u8>,
+    enc: Enc,
+    point: &RationalPoint,
+) -> Result<(), AllocError>
     requires { IsShort point.now }
-    ensures spelled { OnOk result (out.new.items ≡ out.old.items ++ list_code fraction_code point.now) }
+    ensures spelled { OnOk result (out.new.items ≡ out.old.items ++ list_code enc (fraction_code enc) point.now) }
     ensures typed { OnOk result (AllByRecursion FitsFraction point.now) }
 {
-    put_u32(out, point.len() as u32)?;
+    put_u32(out, enc, point.len() as u32)?;
     for column in 0..point.len() {
-        put_fraction(out, point.get(column))?;
+        put_fraction(out, enc, point.get(column))?;
     }
     Ok(())
 }

@@ -17,12 +17,14 @@ use std::alloc::AllocError;
 /// A disk has fewer bytes than this.
 const SIZE_LIMIT: u64 = 1 << 63;
 
-/// Makes a buffer the length, the payload and a closed gate.
+/// Makes a buffer the length, the payload and a closed gate. The room for all three is made at once: a byte that is pushed behind a full buffer
+/// would double it.
 fn stage(frame: &mut Vec<u8>, payload: &[u8]) -> Result<(), AllocError>
     requires { length payload.now < 2 ^ 32 }
     ensures { OnOk result (frame.new.items ≡ tail_of payload.now) }
 {
     frame.clear();
+    frame.reserve(payload.len() + 5)?;
     frame.extend_from_slice(&(payload.len() as u32).to_le_bytes())?;
     frame.extend_from_slice(payload)?;
     frame.push(0)?;

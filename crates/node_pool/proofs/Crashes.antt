@@ -1,5 +1,5 @@
 -- What crashes leave of a pool's journal.
-use Rattle.std.specs.Prelude.{◌≡◌, ◌≤◌, ℕ, List, [], ◌∷◌, ◌++◌, length, take, Option, Some, None, Ok, refl}
+use Rattle.std.specs.Prelude.{◌≡◌, ◌≤◌, ℕ, true, List, [], ◌∷◌, ◌++◌, length, take, Option, Some, None, Ok, refl}
 use Rattle.std.proofs.Common.{sym, ap, ◌∙◌, subst, inl, inr, arith, ⊎_elim, length-take}
 use Rattle.std.proofs.lemmas.List.{take_all}
 use Rattle.outside.specs.Images.{IsImage, Leaves, LeavesOnly, NoMomentPasses}
@@ -8,6 +8,7 @@ use Rattle.outside.specs.declared.moment.Moment.{Moment}
 use Rattle.node_events.specs.declared.event.Event.{Event}
 use Rattle.event_core.specs.declared.entry.Entry.{Entry}
 use Rattle.event_core.specs.Histories.{journaled}
+use Rattle.event_codec.specs.declared.enc.Enc.TheVariants.{Two}
 use Rattle.event_codec.specs.Groups.{group_of}
 use Rattle.node_journal.specs.Appends.{IsWithOrWithout}
 use Rattle.node_journal.specs.History.{first_of, count_of, BeginsWith, IsPrefixOf, Keeps, EachFrom, KeepsHistory}
@@ -16,8 +17,8 @@ use Rattle.node_journal.specs.Whole.{payloads_in}
 use Rattle.node_journal.specs.Lemmas.Histories.{get_seam}
 use Rattle.node_pool.specs.declared.halt.Halt.{Halt}
 use Rattle.node_pool.specs.declared.halt.Halt.TheVariants as halt
-use Rattle.node_pool.specs.Payloads.{events_given, model_in, journal_entries, IsJournalOf, IsJournalAfter, IsBeginningOf, LeavesBeginnings}
-use Rattle.node_pool.proofs.Spelling.{journal_more, beginning_sound, beginning_failed, model_stays}
+use Rattle.node_pool.specs.Payloads.{is_upgraded, events_given, model_in, journal_entries, IsJournalOf, IsJournalAfter, IsBeginningOf, LeavesBeginnings}
+use Rattle.node_pool.proofs.Spelling.{journal_more, upgraded_more, beginning_sound, beginning_failed, model_stays}
 
 -- ---- since the journal was opened
 -- while the journal is sound, each crash leaves a beginning of what stands on the disk
@@ -26,12 +27,12 @@ pub leaves_sound : (from : ℕ) (past : List Moment) (now : Moment) (history : L
 leaves_sound from past now history h kept stands given i m c ge at is = beginning_sound (payloads_in now) history h (records c) stands given (kept.prefixes refl i m c ge at is)
 
 -- where the disk failed while events were added, perhaps with all of them
-pub leaves_failed : (from : ℕ) (now : Moment) (past' : List Moment) (now' : Moment) (history : List Entry) (n : ℕ) (es : List Event) (payload : List ℕ) → group_of payload ≡ Ok es → IsJournalOf (payloads_in now) history
+pub leaves_failed : (from : ℕ) (now : Moment) (past' : List Moment) (now' : Moment) (history : List Entry) (n : ℕ) (es : List Event) (payload : List ℕ) → is_upgraded (payloads_in now) ≡ true → group_of Two payload ≡ Ok es → IsJournalOf (payloads_in now) history
     → model_in (payloads_in now') ≡ model_in (payloads_in now) → EachFrom from (past' ++ now' ∷ []) (λ c. IsPrefixOf (payloads_in now ++ payload ∷ []) (records c))
     → LeavesBeginnings from past' now' history (Some (halt.Disk n es))
-leaves_failed from now past' now' history n es payload read stands same since i m c ge at is =
+leaves_failed from now past' now' history n es payload upgraded read stands same since i m c ge at is =
     subst (λ (model : List ℕ). IsBeginningOf model history (Some (halt.Disk n es)) (records c)) (sym same)
-    (beginning_failed (payloads_in now) payload history es (Some (halt.Disk n es)) stands read refl (records c) (since i m c ge at is))
+    (beginning_failed (payloads_in now) payload history es (Some (halt.Disk n es)) upgraded stands read refl (records c) (since i m c ge at is))
 
 -- no moment went by
 pub leaves_stands : (from : ℕ) (past : List Moment) (now : Moment) (past' : List Moment) (now' : Moment) (es : List Entry) (h : Option Halt) → NoMomentPasses past now past' now' → LeavesBeginnings from past now es h
@@ -92,10 +93,19 @@ module _ (past : List Moment) (now : Moment) (past' : List Moment) (now' : Momen
       (run_last past now past' now' (IsWithOrWithout (payloads_in now) p) run now'.seen is)
 
   -- the disk failed while the payload was added
-  pub stands_failed : (n : ℕ) (es : List Event) → group_of p ≡ Ok es → LeavesOnly past now past' now' (IsWithOrWithout (payloads_in now) p) → IsImage now' now'.seen
+  pub stands_failed : (n : ℕ) (es : List Event) → is_upgraded (payloads_in now) ≡ true → group_of Two p ≡ Ok es → LeavesOnly past now past' now' (IsWithOrWithout (payloads_in now) p) → IsImage now' now'.seen
       → IsJournalAfter (payloads_in now') history (Some (halt.Disk n es))
   unfolding payloads_in
-  stands_failed n es read run is = ∣ ⊎_elim
+  stands_failed n es upgraded read run is = ∣ ⊎_elim
       (λ old. inl (ap (λ (r : Records). journal_entries (payloads_held r)) old ∙ stands))
-      (λ new. inr (ap (λ (r : Records). journal_entries (payloads_held r)) new ∙ journal_more (payloads_in now) p (journaled history) es stands read))
+      (λ new. inr (ap (λ (r : Records). journal_entries (payloads_held r)) new ∙ journal_more (payloads_in now) p (journaled history) es upgraded stands read))
       (run_last past now past' now' (IsWithOrWithout (payloads_in now) p) run now'.seen is) ∣₁
+
+-- What a read gives has the record of the upgrade still.
+pub upgraded_kept : (past : List Moment) (now : Moment) (past' : List Moment) (now' : Moment) (p : List ℕ) → is_upgraded (payloads_in now) ≡ true
+    → LeavesOnly past now past' now' (IsWithOrWithout (payloads_in now) p) → IsImage now' now'.seen → is_upgraded (payloads_in now') ≡ true
+unfolding payloads_in
+upgraded_kept past now past' now' p upgraded run is = ⊎_elim
+    (λ old. ap (λ (r : Records). is_upgraded (payloads_held r)) old ∙ upgraded)
+    (λ new. ap (λ (r : Records). is_upgraded (payloads_held r)) new ∙ upgraded_more (payloads_in now) p upgraded)
+    (run_last past now past' now' (IsWithOrWithout (payloads_in now) p) run now'.seen is)

@@ -1,24 +1,32 @@
 -- What payloads spell, as they come one after another, and what the first of them spell.
-use Rattle.std.specs.Prelude.{◌≡◌, ◌≤◌, ◌<◌, ℕ, zero, suc, Bool, true, false, cond, List, [], ◌∷◌, ◌++◌, length, take, drop, Option, Some, None, Ok, unwrap_or, refl}
-use Rattle.std.specs.List.{AllByRecursion}
+use Rattle.std.specs.Prelude.{◌≡◌, ◌≤◌, ◌<◌, ℕ, zero, suc, Bool, true, false, cond, ◌||◌, List, [], ◌∷◌, ◌++◌, length, take, drop, Option, Some, None, Ok, unwrap_or, refl}
+use Rattle.std.specs.List.{AllByRecursion, list_any}
 use Rattle.std.proofs.Common.{sym, ap, ◌∙◌, subst, inl, inr, arith, length-append, length-take}
 use Rattle.std.proofs.lemmas.Bool.{cases_lt}
 use Rattle.std.proofs.lemmas.List.{take_all, take-append-le, take-append-drop}
+use Rattle.std.proofs.lemmas.List.Folds.{list_any-append}
 use Rattle.node_events.specs.declared.event.Event.{Event}
 use Rattle.event_core.specs.declared.entry.Entry.{Entry}
 use Rattle.event_core.specs.Histories.{is_journaled, journaled, entries_by}
+use Rattle.event_codec.specs.declared.enc.Enc.TheVariants.{One, Two}
 use Rattle.event_codec.specs.Groups.{group_of}
+use Rattle.event_codec.specs.Upgrades.{is_upgrade}
 use Rattle.node_journal.specs.Records.{Records, Intact}
 use Rattle.node_journal.specs.History.{IsPrefixOf, count_of, first_of}
 use Rattle.node_pool.specs.declared.halt.Halt.{Halt}
-use Rattle.node_pool.specs.Lemmas.Groups.{entries_one, entries_append, entries_split}
-use Rattle.node_pool.specs.Payloads.{entries_in, model_in, journal_entries, IsJournalOf, events_given, entries_held, count_held, IsBeginningOf}
+use Rattle.node_pool.specs.Lemmas.Groups.{entries_more, entries_split}
+use Rattle.node_pool.specs.Payloads.{entries_in, model_in, journal_entries, is_upgraded, IsJournalOf, events_given, entries_held, count_held, IsBeginningOf}
 
--- ---- one payload more
-pub journal_more : (ps : List (List ℕ)) (p : List ℕ) (before : List Entry) (es : List Event) → journal_entries ps ≡ Some before → group_of p ≡ Ok es
+-- ---- one payload more, behind the record of the upgrade
+pub journal_more : (ps : List (List ℕ)) (p : List ℕ) (before : List Entry) (es : List Event) → is_upgraded ps ≡ true → journal_entries ps ≡ Some before → group_of Two p ≡ Ok es
     → journal_entries (ps ++ p ∷ []) ≡ Some (before ++ entries_by None es)
-journal_more [] p before es h g = cc
-journal_more (m ∷ ps) p before es h g = entries_append ps (p ∷ []) before (entries_by None es) h (entries_one p es g)
+journal_more [] p before es upgraded h g = cc
+journal_more (m ∷ ps) p before es upgraded h g = entries_more ps p before es upgraded h g
+
+-- the record stays
+pub upgraded_more : (ps : List (List ℕ)) (p : List ℕ) → is_upgraded ps ≡ true → is_upgraded (ps ++ p ∷ []) ≡ true
+upgraded_more [] p upgraded = cc
+upgraded_more (m ∷ ps) p upgraded = list_any-append is_upgrade ps (p ∷ []) ∙ ap (λ (b : Bool). b || list_any is_upgrade (p ∷ [])) upgraded
 
 -- the first payload stays the first
 pub model_stays : (ps : List (List ℕ)) (p : List ℕ) (before : List Entry) → journal_entries ps ≡ Some before → model_in (ps ++ p ∷ []) ≡ model_in ps
@@ -55,10 +63,10 @@ pub journaled-all : (es : List Entry) (w : Option ℕ) (fs : List Event) → Are
 journaled-all es w fs all = journaled-append es (entries_by w fs) ∙ ap (λ (l : List Entry). journaled es ++ l) (journaled-these w fs all)
 
 -- the journal of a history, and of one with these events more
-pub journal_push : (ps qs : List (List ℕ)) (p : List ℕ) (es : List Entry) (w : Option ℕ) (fs : List Event) → AreJournaledEvents fs → IsJournalOf ps es → group_of p ≡ Ok fs → qs ≡ ps ++ p ∷ []
+pub journal_push : (ps qs : List (List ℕ)) (p : List ℕ) (es : List Entry) (w : Option ℕ) (fs : List Event) → AreJournaledEvents fs → is_upgraded ps ≡ true → IsJournalOf ps es → group_of Two p ≡ Ok fs → qs ≡ ps ++ p ∷ []
     → IsJournalOf qs (es ++ entries_by w fs)
-journal_push ps qs p es w fs all is read more =
-    ap (λ (l : List (List ℕ)). journal_entries l) more ∙ journal_more ps p (journaled es) fs is read ∙ ap Some (sym (journaled-all es w fs all))
+journal_push ps qs p es w fs all upgraded is read more =
+    ap (λ (l : List (List ℕ)). journal_entries l) more ∙ journal_more ps p (journaled es) fs upgraded is read ∙ ap Some (sym (journaled-all es w fs all))
 
 -- ---- the first payloads
 take_front : {A : Type 0} (xs ys : List A) → take (length xs) (xs ++ ys) ≡ xs
@@ -72,7 +80,7 @@ pub record HoldsFirst (model : List ℕ) (all : List Entry) (r : Records) : Type
 
 held_first : (m : List ℕ) (ps : List (List ℕ)) (k : ℕ) (all : List Entry) → entries_in ps ≡ Some all → HoldsFirst m all (Intact (m ∷ take k ps))
 held_first m ps k all h =
-    let f = entries_split (take k ps) (drop k ps) all (ap entries_in (take-append-drop k ps) ∙ h) in
+    let f = entries_split One (take k ps) (drop k ps) all (ap entries_in (take-append-drop k ps) ∙ h) in
     let size : count_held (Intact (m ∷ take k ps)) ≡ length f.front = ap (λ (o : Option (List Entry)). length (unwrap_or o [])) f.first in
     record {
       model_first = refl;
@@ -106,14 +114,14 @@ beginning_sound ps history h r is given prefix =
     }
 
 -- where these payloads and one more were given
-module _ (ps : List (List ℕ)) (p : List ℕ) (history : List Entry) (es : List Event) (h : Option Halt) (is : IsJournalOf ps history) (read : group_of p ≡ Ok es)
+module _ (ps : List (List ℕ)) (p : List ℕ) (history : List Entry) (es : List Event) (h : Option Halt) (upgraded : is_upgraded ps ≡ true) (is : IsJournalOf ps history) (read : group_of Two p ≡ Ok es)
     (given : events_given history h ≡ journaled history ++ entries_by None es) where
   all_there : (r : Records) → r ≡ Intact (ps ++ p ∷ []) → count_held r ≡ length (events_given history h)
-  all_there r e = ap count_held e ∙ counted (ps) is
+  all_there r e = ap count_held e ∙ counted ps upgraded is
     where
-      counted : (qs : List (List ℕ)) → journal_entries qs ≡ Some (journaled history) → count_held (Intact (qs ++ p ∷ [])) ≡ length (events_given history h)
-      counted [] j = cc
-      counted (m ∷ qs) j = ap (λ (o : Option (List Entry)). length (unwrap_or o [])) (entries_append qs (p ∷ []) (journaled history) (entries_by None es) j (entries_one p es read)) ∙ ap (λ (l : List Entry). length l) (sym given)
+      counted : (qs : List (List ℕ)) → is_upgraded qs ≡ true → journal_entries qs ≡ Some (journaled history) → count_held (Intact (qs ++ p ∷ [])) ≡ length (events_given history h)
+      counted [] there j = cc
+      counted (m ∷ qs) there j = ap (λ (o : Option (List Entry)). length (unwrap_or o [])) (entries_more qs p (journaled history) es there j read) ∙ ap (λ (l : List Entry). length l) (sym given)
 
   pub beginning_failed : (r : Records) → IsPrefixOf (ps ++ p ∷ []) r → IsBeginningOf (model_in ps) history h r
   beginning_failed r prefix = record {
@@ -123,7 +131,7 @@ module _ (ps : List (List ℕ)) (p : List ℕ) (history : List Entry) (es : List
   }
     where
       b : HoldsFirst (model_in (ps ++ p ∷ [])) (journaled history ++ entries_by None es) r
-      b = begins (ps ++ p ∷ []) (journaled history ++ entries_by None es) r (journal_more ps p (journaled history) es is read) prefix
+      b = begins (ps ++ p ∷ []) (journaled history ++ entries_by None es) r (journal_more ps p (journaled history) es upgraded is read) prefix
 
       whole : length (journaled history) < count_held r → count_held r ≡ length (events_given history h)
       whole more = elim (cases_lt (length ps) (count_of r)) [

@@ -1,5 +1,5 @@
 -- What a pool's journal stands for, after a halt by the disk too, over plain values.
-use Rattle.std.specs.Prelude.{◌≡◌, ◌⊎◌, ℕ, List, Option, Some, None}
+use Rattle.std.specs.Prelude.{◌≡◌, ℕ, List, Option, Some, None}
 use Rattle.std.proofs.Common.{sym, ap, ◌∙◌, refl, inl, inr, ⊎_elim}
 use Rattle.std.proofs.Props.{props}
 use Rattle.std.proofs.Math.Logic.{∥∥₁_elim, ∥∥₁_map}

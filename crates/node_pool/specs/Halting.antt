@@ -9,7 +9,7 @@ use Rattle.event_core.specs.Judging.{judged}
 use Rattle.event_core.specs.Histories.{is_journaled, entries_by, state_from, AreLegalFrom}
 use Rattle.event_core.specs.Laws.{unheld}
 use Rattle.event_core.specs.Frames.{is_split}
-use Rattle.event_codec.specs.Groups.{group_code, group_of}
+use Rattle.node_pool.specs.Payloads.{IsReadBack}
 use Rattle.node_pool.specs.declared.halt.Halt.{Halt}
 use Rattle.node_pool.specs.declared.halt.Halt.TheVariants as halt
 use Rattle.node_pool.specs.declared.answers.Receipt.{Receipt}
@@ -41,7 +41,7 @@ pub record IsDiskHalt (faults budget count : ℕ) (fault : Option ℕ) (s : Stat
   pub counted : count ≡ n
   pub rose : Rose faults n
   pub next : AreLegalFrom (unheld s) (entries_by None es)
-  pub read : group_of (group_code es) ≡ Ok es
+  pub read : IsReadBack es
   pub few : length (state_from (unheld s) (entries_by None es)).nodes ≤ max budget (length s.nodes)
 
 -- this split would pass the budget

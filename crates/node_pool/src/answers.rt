@@ -17,7 +17,7 @@ pub enum Claim {
 /// What was acknowledged.
 #[derive(Clone, Copy, Debug, PartialEq, Eq, Drop)]
 pub struct Receipt {
-    /// The number in the journal of the payload that has the events; the model's record has number 0.
+    /// The number in the journal of the payload that has the events. The model's record has number 0, and the record of the upgrade has a number too.
     pub first: u64,
     /// How many events there are.
     pub count: u32,

@@ -5,13 +5,13 @@ ghost use Rattle.outside.specs.Images.{LeavesOnly};
 ghost use Rattle.event_core.specs.Histories.{is_journaled, entries_by, AreLegalFrom};
 ghost use Rattle.event_core.specs.Rooms.{AreReady, split_count};
 ghost use Rattle.event_core.specs.Made.{made_for_each};
-ghost use Rattle.event_codec.specs.Groups.{most_group_events, group_code, group_of};
+ghost use Rattle.event_codec.specs.Groups.{most_group_events};
 ghost use Rattle.node_journal.specs.Appends.{IsWithOrWithout};
 ghost use Rattle.node_journal.specs.History.{ExtendsMoments};
 ghost use Rattle.node_journal.specs.Whole.{payloads_in};
 ghost use Rattle.node_pool.specs.Free.{SplitsAlone};
 ghost use Rattle.node_pool.specs.Halting.{passes_budget, spends, halt_after, fails_by_disk};
-ghost use Rattle.node_pool.specs.Payloads.{model_in};
+ghost use Rattle.node_pool.specs.Payloads.{model_in, group_payload, IsReadBack};
 ghost use Rattle.node_pool.specs.Applied.{AppliesAll, AppliesNothing};
 ghost use Rattle.node_pool.specs.Releases.{history_at};
 ghost use Rattle.node_tree.specs.Limits.{most_nodes};
@@ -60,9 +60,9 @@ impl<D: Disk> Pool<D> {
         requires few { length events.now ≤ most_group_events }
         requires journaled { All (λ e. is_journaled e ≡ true) events.now }
         requires numbers { length self.old.state.state.nodes + 2 * split_count events.now ≤ most_nodes }
-        ensures spelled { IfOk result (λ p. p.0.items ≡ group_code events.now) }
+        ensures spelled { IfOk result (λ p. p.0.items ≡ group_payload events.now) }
         ensures small { IfOk result (λ p. length p.0.items < 2 ^ 32) }
-        ensures read { OnOk result (group_of (group_code events.now) ≡ Ok events.now) }
+        ensures read { OnOk result (IsReadBack events.now) }
         ensures ready { OnOk result (AreReady self.new.state events.now) }
         ensures made { IfOk result (λ p. p.1.items ≡ made_for_each self.old.state.state.problem self.old.state.state.cuts events.now) }
         ensures room { OnOk result (length self.new.state.state.nodes + 2 * split_count events.now ≤ vec_capacity self.new.free) }
@@ -97,22 +97,22 @@ impl<D: Disk> Pool<D> {
         requires ready { AreReady self.old.state events.items }
         requires made { made.items ≡ made_for_each self.old.state.state.problem self.old.state.state.cuts events.items }
         requires room { length self.old.state.state.nodes + 2 * split_count events.items ≤ vec_capacity self.old.free }
-        requires spelled { payload.now ≡ group_code events.items }
+        requires spelled { payload.now ≡ group_payload events.items }
         requires small { length payload.now < 2 ^ 32 }
-        requires read { group_of (group_code events.items) ≡ Ok events.items }
+        requires read { IsReadBack events.items }
         requires alone { SplitsAlone events.items }
         requires within { spends self.old.budget (length self.old.state.state.nodes) events.items ≡ false }
         ensures applied { OnOk result (AppliesAll self.old.state (Some worker) events.items self.new.state) }
         ensures number { IfOk result (λ r. r.first ≡ self.old.journal.count) }
         ensures count { IfOk result (λ r. r.count ≡ length events.items) }
-        ensures added { D.tells ≡ true → OnOk result (payloads_in (D.now self.new.journal.disk) ≡ payloads_in (D.now self.old.journal.disk) ++ group_code events.items ∷ []) }
+        ensures added { D.tells ≡ true → OnOk result (payloads_in (D.now self.new.journal.disk) ≡ payloads_in (D.now self.old.journal.disk) ++ group_payload events.items ∷ []) }
         ensures unchanged { OnErr result (AppliesNothing self.old.state self.new.state) }
         ensures unhalted { ¬ IsErrOf result CommitFault.Halted }
         ensures unspent { ¬ IsErrOf result CommitFault.Budget }
         ensures halt { self.new.halt ≡ halt_after self.old.halt result events.items (D.count self.new.journal.disk) }
         ensures at_halt { self.new.at_halt.value.history ≡ history_at self.old.halt self.new.halt self.old.at_halt.value.history self.old.state.history }
         ensures cause { Counts (D.count self.old.journal.disk) (D.count self.new.journal.disk) (fails_by_disk result) }
-        ensures any_moment { D.tells ≡ true → LeavesOnly (D.past self.old.journal.disk) (D.now self.old.journal.disk) (D.past self.new.journal.disk) (D.now self.new.journal.disk) (IsWithOrWithout (payloads_in (D.now self.old.journal.disk)) (group_code events.items)) }
+        ensures any_moment { D.tells ≡ true → LeavesOnly (D.past self.old.journal.disk) (D.now self.old.journal.disk) (D.past self.new.journal.disk) (D.now self.new.journal.disk) (IsWithOrWithout (payloads_in (D.now self.old.journal.disk)) (group_payload events.items)) }
         ensures continued { D.tells ≡ true → ExtendsMoments (D.past self.old.journal.disk ++ D.now self.old.journal.disk ∷ []) (D.past self.new.journal.disk ++ D.now self.new.journal.disk ∷ []) }
         ensures model { D.tells ≡ true → model_in (payloads_in (D.now self.new.journal.disk)) ≡ model_in (payloads_in (D.now self.old.journal.disk)) }
         ensures opened { self.new.journal.opened ≡ self.old.journal.opened }
@@ -161,7 +161,7 @@ impl<D: Disk> Pool<D> {
         // The payload's number is that of all payloads before it, and it is the last one on the disk.
         ensures number { IfOk result (λ r. r.first ≡ self.old.journal.count) }
         ensures count { IfOk result (λ r. r.count ≡ length events.items) }
-        ensures added { D.tells ≡ true → OnOk result (payloads_in (D.now self.new.journal.disk) ≡ payloads_in (D.now self.old.journal.disk) ++ group_code events.items ∷ []) }
+        ensures added { D.tells ≡ true → OnOk result (payloads_in (D.now self.new.journal.disk) ≡ payloads_in (D.now self.old.journal.disk) ++ group_payload events.items ∷ []) }
         ensures unchanged { OnErr result (AppliesNothing self.old.state self.new.state) }
         // `Halted` comes exactly where the pool was halted, and else `Budget` exactly where there is a split that passes the budget.
         ensures halted { IsErrOf result CommitFault.Halted ↔ IsSome self.old.halt }
@@ -171,7 +171,7 @@ impl<D: Disk> Pool<D> {
         // The count of faults rises exactly where the answer is `Disk`.
         ensures cause { Counts (D.count self.old.journal.disk) (D.count self.new.journal.disk) (fails_by_disk result) }
         // A crash at any moment of the call leaves the payloads from before, or with the one of all these events.
-        ensures any_moment { D.tells ≡ true → self.old.halt ≡ None → LeavesOnly (D.past self.old.journal.disk) (D.now self.old.journal.disk) (D.past self.new.journal.disk) (D.now self.new.journal.disk) (IsWithOrWithout (payloads_in (D.now self.old.journal.disk)) (group_code events.items)) }
+        ensures any_moment { D.tells ≡ true → self.old.halt ≡ None → LeavesOnly (D.past self.old.journal.disk) (D.now self.old.journal.disk) (D.past self.new.journal.disk) (D.now self.new.journal.disk) (IsWithOrWithout (payloads_in (D.now self.old.journal.disk)) (group_payload events.items)) }
         ensures continued { D.tells ≡ true → ExtendsMoments (D.past self.old.journal.disk ++ D.now self.old.journal.disk ∷ []) (D.past self.new.journal.disk ++ D.now self.new.journal.disk ∷ []) }
         ensures model { D.tells ≡ true → model_in (payloads_in (D.now self.new.journal.disk)) ≡ model_in (payloads_in (D.now self.old.journal.disk)) }
         ensures opened { self.new.journal.opened ≡ self.old.journal.opened }

@@ -4,7 +4,7 @@ ghost use Rattle.node_journal.specs.History.{KeepsHistory};
 ghost use Rattle.node_journal.specs.Whole.{payloads_in};
 ghost use Rattle.node_pool.specs.Free.{AreFreeNodes};
 ghost use Rattle.node_pool.specs.Halting.{IsHalt};
-ghost use Rattle.node_pool.specs.Payloads.{IsJournalOf, IsJournalAfter, LeavesBeginnings};
+ghost use Rattle.node_pool.specs.Payloads.{IsJournalOf, IsJournalAfter, LeavesBeginnings, is_upgraded};
 ghost use Rattle.node_pool.specs.Releases.{OnlyReleases, history_at};
 ghost use Rattle.node_pool.specs.Lemmas.Props.{IsHalt-prop};
 ghost use Rattle.node_tree.specs.Limits.{most_nodes};
@@ -35,13 +35,15 @@ pub struct Pool<D: Disk> {
     ghost room: { length state.state.nodes ≤ vec_capacity free },
     ghost few: { budget ≤ most_nodes },
     ghost stands: { D.tells ≡ true → IsJournalAfter (payloads_in (D.now journal.disk)) state.history halt },
+    // So each payload that the pool adds is in encoding 2.
+    ghost upgraded: { D.tells ≡ true → is_upgraded (payloads_in (D.now journal.disk)) ≡ true },
     ghost crashes: { D.tells ≡ true → LeavesBeginnings journal.opened (D.past journal.disk) (D.now journal.disk) state.history halt },
     ghost halts: { IsHalt faults budget (D.count journal.disk) journal.fault state.state halt } by { IsHalt-prop faults budget (D.count journal.disk) journal.fault state.state halt },
     ghost released: { is_some halt ≡ true → OnlyReleases at_halt.value.history state.history },
 }
 
 impl<D: Disk> Pool<D> {
-    /// A pool of a state and the journal that stands for its history, by the model's record and the events that a journal has. The budget is how many nodes the tree may have. At want of memory, the one error, state and journal come back.
+    /// A pool of a state and the journal that stands for its history, by the model's record and the events that a journal has, and has the record of the upgrade. The budget is how many nodes the tree may have. At want of memory, the one error, state and journal come back.
     pub fn make(
         alloc: Global,
         state: State,
@@ -52,6 +54,7 @@ impl<D: Disk> Pool<D> {
         requires unheld { state.state.holds ≡ [] }
         requires sound { journal.fault ≡ None }
         requires stands { D.tells ≡ true → IsJournalOf (payloads_in (D.now journal.disk)) state.history }
+        requires upgraded { D.tells ≡ true → is_upgraded (payloads_in (D.now journal.disk)) ≡ true }
         ensures state { IfOk result (λ p. p.state ≡ state) }
         ensures journal { IfOk result (λ p. p.journal ≡ journal) }
         ensures halt { IfOk result (λ p. p.halt ≡ None) }
@@ -97,7 +100,7 @@ impl<D: Disk> Pool<D> {
         self.budget
     }
 
-    /// How many payloads were given to the journal and acknowledged: the model's record, and one for the events of each call.
+    /// How many payloads were given to the journal and acknowledged: the records of the model and of the upgrade, and one for the events of each call.
     pub fn payloads(&self) -> u64
         ensures { result ≡ self.now.journal.count }
     {
@@ -126,6 +129,7 @@ impl<D: Disk> Pool<D> {
         ensures stands_after { D.tells ≡ true → IsJournalAfter (payloads_in (D.now self.now.journal.disk)) self.now.state.history self.now.halt }
         // While the journal is sound, it has none but those of the history.
         ensures stands { D.tells ≡ true → self.now.journal.fault ≡ None → IsJournalOf (payloads_in (D.now self.now.journal.disk)) self.now.state.history }
+        ensures upgraded { D.tells ≡ true → is_upgraded (payloads_in (D.now self.now.journal.disk)) ≡ true }
         // Each crash since the journal was opened leaves a beginning of them, perhaps with all events in whose call the disk failed.
         ensures crashes { D.tells ≡ true → LeavesBeginnings self.now.journal.opened (D.past self.now.journal.disk) (D.now self.now.journal.disk) self.now.state.history self.now.halt }
         ensures halted { IsHalt self.now.faults self.now.budget (D.count self.now.journal.disk) self.now.journal.fault self.now.state.state self.now.halt }
@@ -147,6 +151,7 @@ impl<D: Disk> Pool<D> {
         ensures halt { result.2 ≡ self.halt }
         ensures stands_after { D.tells ≡ true → IsJournalAfter (payloads_in (D.now result.1.disk)) result.0.history result.2 }
         ensures stands { D.tells ≡ true → result.1.fault ≡ None → IsJournalOf (payloads_in (D.now result.1.disk)) result.0.history }
+        ensures upgraded { D.tells ≡ true → is_upgraded (payloads_in (D.now result.1.disk)) ≡ true }
         ensures crashes { D.tells ≡ true → LeavesBeginnings result.1.opened (D.past result.1.disk) (D.now result.1.disk) result.0.history result.2 }
         ensures halted { IsHalt self.faults self.budget (D.count result.1.disk) result.1.fault result.0.state result.2 }
         ensures released { is_some result.2 ≡ true → OnlyReleases self.at_halt.value.history result.0.history }

@@ -1,9 +1,9 @@
 pub mod Applying
 pub mod Differences
-pub mod Groups
 pub mod KeptHistories
 pub mod Models
 pub mod OneRefusal
+pub mod Prefixes
 pub mod Recovering
 pub mod Refusing
 pub mod Replaying

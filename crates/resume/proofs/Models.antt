@@ -7,6 +7,7 @@ use Rattle.std.proofs.lemmas.Int.{ints, to_z-of_z}
 use Rattle.std.specs.Int.{w64, cast_unsigned, cast_signed}
 use Rattle.problem.specs.Problem.{Problem}
 use Rattle.problem.specs.Limits.{largest_bound}
+use Rattle.event_codec.specs.declared.enc.Enc.TheVariants.{One}
 use Rattle.event_codec.specs.Codes.{i64_code}
 use Rattle.event_codec.specs.Models.{Model, IsUpper, upper_code, model_code}
 use Rattle.event_codec.specs.declared.fault.CodecFault.{CodecFault}
@@ -63,7 +64,7 @@ is_model payload text upper bound p written bounded same reads = record {
 pub own_model : (payload text : List ℕ) (upper : Option ℤ) (p : Problem) → payload ≡ model_code text upper → IsTextOf text upper p → IsModelOf payload p
 own_model payload text upper p written is = record { text = text; upper = upper; written = written; is = is }
 
-pub length-i64_code : (z : ℤ) → length (i64_code z) ≡ 8
+pub length-i64_code : (z : ℤ) → length (i64_code One z) ≡ 8
 unfolding i64_code
 length-i64_code z = refl
 

@@ -1,24 +1,21 @@
 -- What is refused is refused for one reason.
-use Rattle.std.specs.Prelude.{◌≡◌, ◌⊎◌, ℕ, zero, suc, ◌<◌, true, List, [], ◌∷◌, take, slice_get, slice_index, slice_index_or, Some, refl}
-use Rattle.std.proofs.Common.{arith, sym, ◌∙◌, ap, subst, inl, inr, length-take}
+use Rattle.std.specs.Prelude.{◌≡◌, ◌⊎◌, ℕ, zero, suc, ◌<◌, true, List, [], ◌∷◌, take, slice_get, slice_index, Some, refl}
+use Rattle.std.proofs.Common.{arith, sym, ◌∙◌, ap, subst, inl, inr}
 use Rattle.std.proofs.lemmas.Bool.{cases_order}
 use Rattle.std.proofs.lemmas.List.{take-take}
 use Rattle.std.proofs.lemmas.Option.{same_Some}
-use Rattle.problem.specs.Problem.{Problem}
 use Rattle.event_codec.specs.Laws.{RecordsTellApart}
-use Rattle.event_core.specs.declared.entry.Entry.{Entry}
-use Rattle.event_core.specs.Histories.{state_of}
 use Rattle.node_journal.specs.Frames.{places_from}
 use Rattle.node_journal.specs.Records.{Records, Intact, Foreign, BrokenAt, records}
 use Rattle.node_pool.specs.Payloads.{entries_in, model_in}
 use Rattle.resume.specs.declared.fault.ResumeFault.{ResumeFault}
 use Rattle.resume.specs.declared.fault.ResumeFault.TheVariants as fault
 use Rattle.resume.specs.Models.{IsModelOf, IsOtherModel, DiffersFirstAt}
-use Rattle.resume.specs.Events.{IsNoGroup}
 use Rattle.resume.specs.Journals.{StandsFor, IsDamagedAt, IsDamagedModel, IsDamagedEvent}
 use Rattle.resume.specs.Refusals.{is_refusal, IsDamagedFor, Refuses, RefusesPayloads, RefusesPayloadsFor}
 use Rattle.resume.specs.Laws.{StandsForOne, OneRefusal}
 use Rattle.resume.specs.Lemmas.OneModel.{one_model}
+use Rattle.resume.proofs.Prefixes.{model_of_front}
 use Rattle.resume.proofs.Unrefused.{same_payloads, no_other, none_inside, damaged_at}
 
 -- ---- one search
@@ -29,13 +26,6 @@ stands_for_one law ps p q es fs a b =
     (one_model law (model_in ps) p q a.model b.model, same_Some es fs (sym a.read.written ∙ subst (λ (l : List (List ℕ)). entries_in l ≡ Some fs) rest b.read.written))
 
 -- ---- the first of a list
-index_take : (xs : List (List ℕ)) (m n : ℕ) → n < m → slice_index_or (take m xs) n [] ≡ slice_index_or xs n []
-index_take [] zero n lt = refl
-index_take [] (suc m) n lt = refl
-index_take (x ∷ xs) zero n lt = absurd (omega (arith, lt))
-index_take (x ∷ xs) (suc m) zero lt = refl
-index_take (x ∷ xs) (suc m) (suc n) lt = index_take xs m n (omega (arith, lt))
-
 get_take : (xs : List ℕ) (m n : ℕ) → n < m → slice_get (take m xs) n ≡ slice_get xs n
 get_take [] zero n lt = refl
 get_take [] (suc m) n lt = refl
@@ -54,19 +44,14 @@ one_difference a b at at2 x y = elim (cases_order at at2) [
 ]
 
 -- ---- one damaged payload
-first_of_front : (ps : List (List ℕ)) (n : ℕ) (p : Problem) (es : List Entry) → StandsFor p (take n ps) es → model_in (take n ps) ≡ model_in ps
-first_of_front ps zero p es stands = let h : [] ≡ model_in (take 0 ps) ∷ stands.rest = stands.parts in absurd cc
-first_of_front [] (suc n) p es stands = refl
-first_of_front (x ∷ xs) (suc n) p es stands = refl
-
 model_or_event : (ps : List (List ℕ)) (at at2 : ℕ) → IsDamagedModel ps at → IsDamagedEvent ps at2 → ⊥
-model_or_event ps at at2 m e = m.none e.problem (subst (λ (l : List ℕ). IsModelOf l e.problem) (first_of_front ps e.number e.problem e.events e.before) e.before.model)
+model_or_event ps at at2 m e = m.none e.problem (subst (λ (l : List ℕ). IsModelOf l e.problem) (model_of_front ps e.number e.problem e.events e.before) e.before.model)
 
 no_earlier_event : RecordsTellApart → (ps : List (List ℕ)) (at at2 : ℕ) (e : IsDamagedEvent ps at) (f : IsDamagedEvent ps at2) → e.number < f.number → ⊥
 no_earlier_event law ps at at2 e f lt =
-    damaged_at law f.problem e.problem (take f.number ps) f.events e.events e.number f.before (omega (arith, lt, f.inside, length-take f.number ps))
+    damaged_at law f.problem e.problem (take f.number ps) f.events e.events e.number f.before
     (subst (λ (l : List (List ℕ)). StandsFor e.problem l e.events) (sym (take-take e.number f.number ps (omega (arith, lt)))) e.before)
-    (subst (λ (l : List ℕ). IsNoGroup (state_of e.problem e.events) l) (sym (index_take ps f.number e.number lt)) e.none)
+    (λ gs stands. e.none gs (subst (λ (l : List (List ℕ)). StandsFor e.problem l gs) (take-take (suc e.number) f.number ps (omega (arith, lt))) stands))
 
 one_event : RecordsTellApart → (ps : List (List ℕ)) (at at2 : ℕ) → IsDamagedEvent ps at → IsDamagedEvent ps at2 → at ≡ at2
 one_event law ps at at2 e f = elim (cases_order e.number f.number) [

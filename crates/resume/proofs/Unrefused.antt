@@ -1,26 +1,19 @@
 -- What stands for a problem is not refused.
-use Rattle.std.specs.Prelude.{◌≡◌, ◌⊎◌, ℕ, zero, suc, ◌≤◌, ◌<◌, true, List, [], ◌∷◌, ◌++◌, length, take, get_or, Some, slice_get, slice_index_or, refl}
+use Rattle.std.specs.Prelude.{◌≡◌, ◌⊎◌, ℕ, suc, ◌<◌, true, List, [], length, take, slice_get, refl}
 use Rattle.std.proofs.Common.{arith, sym, ◌∙◌, ap, subst, inl, inr}
-use Rattle.std.proofs.lemmas.Option.{same_Some}
 use Rattle.problem.specs.Problem.{Problem}
 use Rattle.event_codec.specs.Laws.{RecordsTellApart}
 use Rattle.event_core.specs.declared.entry.Entry.{Entry}
-use Rattle.event_core.specs.States.{State, first_state}
-use Rattle.event_core.specs.Histories.{state_from, state_of, AreLegal, AreLegalFrom}
-use Rattle.event_core.specs.Lemmas.Frames.{nodes_from}
-use Rattle.event_core.specs.Lemmas.Running.{state_from-append, legal_back, legal_prefix}
 use Rattle.node_journal.specs.Records.{Records, Intact, payloads_held, records}
-use Rattle.node_pool.specs.Payloads.{entries_in, model_in}
-use Rattle.node_tree.specs.Limits.{most_nodes}
+use Rattle.node_pool.specs.Payloads.{model_in}
 use Rattle.resume.specs.declared.fault.ResumeFault.{ResumeFault}
 use Rattle.resume.specs.declared.fault.ResumeFault.TheVariants as fault
-use Rattle.resume.specs.Models.{IsOtherModel}
-use Rattle.resume.specs.Events.{read_entries, IsReadAs, IsNextGroup, IsNoGroup}
+use Rattle.resume.specs.Models.{IsModelOf, IsOtherModel}
 use Rattle.resume.specs.Journals.{StandsFor, StandsOnDisk, IsFreshOrOf, IsDamagedModel, IsDamagedEvent}
 use Rattle.resume.specs.Refusals.{is_refusal, Refuses, RefusesPayloads, RefusesPayloadsFor}
 use Rattle.resume.specs.Laws.{StandingIsNotRefused}
 use Rattle.resume.specs.Lemmas.OneModel.{one_model}
-use Rattle.resume.proofs.Groups.{IsGroupAt, group_at}
+use Rattle.resume.proofs.Prefixes.{some_parts, model_of_front, stands_front}
 
 -- ---- payloads that stand for a problem
 pub same_payloads : (ps qs : List (List ℕ)) (r : Records) → r ≡ Intact ps → r ≡ Intact qs → qs ≡ ps
@@ -35,48 +28,17 @@ no_other model first at same h = h.differs.differs (ap (λ (l : List ℕ). slice
 pub none_inside : (ps : List (List ℕ)) (n : ℕ) → ps ≡ [] → n < length ps → ⊥
 none_inside ps n none lt = omega (arith, lt, ap length none)
 
-some_parts : (p : Problem) (ps : List (List ℕ)) (es : List Entry) → StandsFor p ps es → ps ≡ [] → ⊥
-some_parts p ps es stands none = let h : [] ≡ model_in ps ∷ stands.rest = sym none ∙ stands.parts in cc
-
 -- ---- a payload of such a journal
--- the events of one of the payloads may come next behind those before it
-next_there : (p : Problem) (xs : List (List ℕ)) (k : ℕ) (es : List Entry) → IsReadAs p xs es → (g : IsGroupAt xs k es) → IsNextGroup (state_of p g.before) (get_or xs k []) g.events
-next_there p xs k es read g = record { read = g.read; legal = legal_prefix there (read_entries g.events) g.behind legal_there; few = omega (arith, nodes_from (state_from there (read_entries g.events)) g.behind, few_there) }
-  where
-    there : State
-    there = state_of p g.before
-
-    legal_there : AreLegalFrom there (read_entries g.events ++ g.behind)
-    legal_there = legal_back (first_state p) g.before (read_entries g.events ++ g.behind) (subst (λ (l : List Entry). AreLegal p l) g.parts read.legal)
-
-    few_there : length (state_from (state_from there (read_entries g.events)) g.behind).nodes ≤ most_nodes
-    few_there =
-        subst (λ (s : State). length s.nodes ≤ most_nodes)
-        (ap (λ (l : List Entry). state_of p l) g.parts ∙ state_from-append (first_state p) g.before (read_entries g.events ++ g.behind) ∙ state_from-append there (read_entries g.events) g.behind) read.few
-
-damaged_behind : RecordsTellApart → (p o : Problem) (x : List ℕ) (xs : List (List ℕ)) (es fs : List Entry) (k : ℕ) → StandsFor p (x ∷ xs) es → k < length xs → StandsFor o (x ∷ take k xs) fs
-    → IsNoGroup (state_of o fs) (get_or xs k []) → ⊥
-damaged_behind law p o x xs es fs k stands lt before none =
-    let whole : x ∷ xs ≡ x ∷ stands.rest = stands.parts in
-    let part : x ∷ take k xs ≡ x ∷ before.rest = before.parts in
-    let rest : stands.rest ≡ xs = cc in
-    let some : before.rest ≡ take k xs = cc in
-    let read : IsReadAs p xs es = subst (λ (l : List (List ℕ)). IsReadAs p l es) rest stands.read in
-    let written : entries_in (take k xs) ≡ Some fs = subst (λ (l : List (List ℕ)). entries_in l ≡ Some fs) some before.read.written in
-    let g = group_at xs k es lt read.written in
-    let events : g.before ≡ fs = same_Some g.before fs (sym g.first ∙ written) in
-    let problem : p ≡ o = one_model law x p o stands.model before.model in
-    none g.events
-    (subst (λ (l : List Entry). IsNextGroup (state_of o l) (get_or xs k []) g.events) events
-    (subst (λ (y : Problem). IsNextGroup (state_of y g.before) (get_or xs k []) g.events) problem (next_there p xs k es read g)))
-
-pub damaged_at : RecordsTellApart → (p o : Problem) (ps : List (List ℕ)) (es fs : List Entry) (n : ℕ) → StandsFor p ps es → n < length ps → StandsFor o (take n ps) fs → IsNoGroup (state_of o fs) (slice_index_or ps n []) → ⊥
-damaged_at law p o [] es fs n stands lt before none = omega (arith, lt)
-damaged_at law p o (x ∷ xs) es fs zero stands lt before none = let h : [] ≡ model_in (take 0 (x ∷ xs)) ∷ before.rest = before.parts in absurd cc
-damaged_at law p o (x ∷ xs) es fs (suc k) stands lt before none = damaged_behind law p o x xs es fs k stands (omega (arith, lt)) before none
+-- with none of the payloads the first ones stand for no events
+pub damaged_at : RecordsTellApart → (p o : Problem) (ps : List (List ℕ)) (es fs : List Entry) (n : ℕ) → StandsFor p ps es → StandsFor o (take n ps) fs → ((gs : List Entry) → StandsFor o (take (suc n) ps) gs → ⊥) → ⊥
+damaged_at law p o ps es fs n stands before none =
+    let front = stands_front p ps es (suc n) (omega arith) stands in
+    let model : IsModelOf (model_in ps) o = subst (λ (l : List ℕ). IsModelOf l o) (model_of_front ps n o fs before) before.model in
+    let problem : p ≡ o = one_model law (model_in ps) p o stands.model model in
+    none front.0 (subst (λ (q : Problem). StandsFor q (take (suc n) ps) front.0) problem front.1)
 
 no_damaged_event : RecordsTellApart → (p : Problem) (ps : List (List ℕ)) (es : List Entry) (at : ℕ) → StandsFor p ps es → IsDamagedEvent ps at → ⊥
-no_damaged_event law p ps es at stands h = damaged_at law p h.problem ps es h.events h.number stands h.inside h.before h.none
+no_damaged_event law p ps es at stands h = damaged_at law p h.problem ps es h.events h.number stands h.before h.none
 
 -- ---- of a command that opens its journal whatever its model is
 stands_unrefused : RecordsTellApart → (p : Problem) (r : Records) (ps : List (List ℕ)) (es : List Entry) → r ≡ Intact ps → StandsFor p ps es → (f : ResumeFault) → is_refusal f ≡ true → Refuses RefusesPayloads f r → ⊥

@@ -1,14 +1,14 @@
 -- What the payloads of a journal stand for, and what is wrong with them.
-use Rattle.std.specs.Prelude.{◌≡◌, ◌⊎◌, ℕ, ◌<◌, List, [], ◌∷◌, length, take, slice_index, slice_index_or}
+use Rattle.std.specs.Prelude.{◌≡◌, ◌⊎◌, ℕ, suc, ◌<◌, List, [], ◌∷◌, length, take, slice_index}
 use Rattle.problem.specs.Problem.{Problem}
 use Rattle.event_core.specs.declared.entry.Entry.{Entry}
 use Rattle.event_core.specs.Histories.{state_of}
 use Rattle.event_core.specs.Rooms.{Recorded}
 use Rattle.node_journal.specs.Frames.{places_from}
 use Rattle.node_journal.specs.Records.{Intact, records}
-use Rattle.node_pool.specs.Payloads.{model_in}
+use Rattle.node_pool.specs.Payloads.{model_in, with_upgrade}
 use Rattle.resume.specs.Models.{IsModelOf, IsNoModel}
-use Rattle.resume.specs.Events.{IsReadAs, IsNoGroup}
+use Rattle.resume.specs.Events.{IsReadAs}
 
 -- the payloads are the record of a model of the problem, and behind it those that spell these events
 pub record StandsFor (p : Problem) (ps : List (List ℕ)) (es : List Entry) : Type 0 where
@@ -47,14 +47,14 @@ pub record IsDamagedModel (ps : List (List ℕ)) (at : ℕ) : Type 0 where
   pub none : IsNoModel (model_in ps)
   pub place : at ≡ 8
 
--- The payloads up to one stand for a problem and its events, and that one spells no events that may come next. Its gate stands at this place.
+-- The payloads up to one stand for a problem and its events, and with that one they stand for no events of the problem. Its gate stands at this place.
 pub record IsDamagedEvent (ps : List (List ℕ)) (at : ℕ) : Type 0 where
   pub number : ℕ
   pub inside : number < length ps
   pub problem : Problem
   pub events : List Entry
   pub before : StandsFor problem (take number ps) events
-  pub none : IsNoGroup (state_of problem events) (slice_index_or ps number [])
+  pub none : (es : List Entry) → StandsFor problem (take (suc number) ps) es → ⊥
   pub place : at ≡ slice_index (places_from 8 ps) number
 
 -- the journal is damaged by the payload behind the gate at this place
@@ -66,3 +66,11 @@ pub record IsReplayed (ps : List (List ℕ)) (c : Recorded) : Type 0 where
   pub stands : StandsFor c.state.problem ps c.history
   pub state : c.state ≡ state_of c.state.problem c.history
   pub unheld : c.state.holds ≡ []
+
+-- What a disk held before it was opened, and the payloads that it holds then: those that stand for the problem and these events, and now with the record of the
+-- upgrade as the last one where it wasn't there.
+pub record WasOpened (c : List ℕ) (p : Problem) (es : List Entry) (now : List (List ℕ)) : Type 0 where
+  pub payloads : List (List ℕ)
+  pub held : records c ≡ Intact payloads
+  pub stands : StandsFor p payloads es
+  pub is_now : now ≡ with_upgrade payloads

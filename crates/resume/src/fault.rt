@@ -10,7 +10,8 @@ pub enum ResumeFault {
     /// The disk holds more than 9 bytes, which don't begin with the mark of a journal.
     NotAJournal,
     /// The frame behind the open gate at this place isn't whole, or its payload isn't what may stand there: the first is no record of a model, or
-    /// a later one spells no events, or not each of them is legal after those before it, or by them the tree has more than `MOST_NODES` nodes.
+    /// a later one is neither the record of the upgrade, where that may stand, nor spells events, or not each of them is legal after those before it, or
+    /// by them the tree has more than `MOST_NODES` nodes.
     Damaged { at: u64 },
     /// The first payload is the record of a model, but not of the one that was asked for: at this place of the payload the two first differ.
     OtherModel { at: u64 },

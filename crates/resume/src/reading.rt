@@ -2,7 +2,7 @@
 ghost use Rattle.std.specs.Prelude.{◌≡◌, ◌<◌, ◌≢◌, [], IfOk, IfErr, length};
 ghost use Rattle.node_journal.specs.Views.{payloads_of};
 ghost use Rattle.resume.specs.Models.{IsModelOf};
-ghost use Rattle.node_pool.specs.Payloads.{model_in};
+ghost use Rattle.node_pool.specs.Payloads.{model_in, is_upgraded};
 ghost use Rattle.resume.specs.Journals.{IsReplayed};
 ghost use Rattle.resume.specs.Refusals.{RefusesFirst, RefusesPayloads, RefusesPayloadsFor};
 
@@ -19,13 +19,14 @@ use std::hash::BuildHasher;
 /// The place of the first gate, behind the mark.
 const FIRST_GATE: u64 = 8;
 
-/// The state to which a journal leads, of whatever model it is.
+/// The state to which a journal leads, of whatever model it is, and whether it has the record of the upgrade.
 pub fn read_search<B: BuildHasher + Drop>(
     alloc: Global,
     keys: B,
     scanned: &Scanned,
-) -> Result<State, ResumeFault>
-    ensures read { IfOk result (IsReplayed (payloads_of scanned.now)) }
+) -> Result<(State, bool), ResumeFault>
+    ensures read { IfOk result (λ r. IsReplayed (payloads_of scanned.now) r.0) }
+    ensures upgraded { IfOk result (λ r. r.1 ≡ is_upgraded (payloads_of scanned.now)) }
     ensures refused { IfErr result (λ e. RefusesPayloads e (payloads_of scanned.now)) }
 {
     if scanned.count() == 0 {
@@ -56,19 +57,20 @@ fn other_model<B: BuildHasher + Drop>(
     }
 }
 
-/// The state to which a journal leads that begins with this record of a model of this problem.
+/// The state to which a journal leads that begins with this record of a model of this problem, and whether it has the record of the upgrade.
 pub fn read_search_of<B: BuildHasher + Drop>(
     alloc: Global,
     keys: B,
     scanned: &Scanned,
     model: &[u8],
     problem: Problem,
-) -> Result<State, ResumeFault>
+) -> Result<(State, bool), ResumeFault>
     requires some { 0 < length (payloads_of scanned.now) }
     requires model { IsModelOf model.now problem }
-    ensures problem { IfOk result (λ s. s.state.problem ≡ problem) }
-    ensures model { IfOk result (λ s. model_in (payloads_of scanned.now) ≡ model.now) }
-    ensures read { IfOk result (IsReplayed (payloads_of scanned.now)) }
+    ensures problem { IfOk result (λ r. r.0.state.problem ≡ problem) }
+    ensures model { IfOk result (λ r. model_in (payloads_of scanned.now) ≡ model.now) }
+    ensures read { IfOk result (λ r. IsReplayed (payloads_of scanned.now) r.0) }
+    ensures upgraded { IfOk result (λ r. r.1 ≡ is_upgraded (payloads_of scanned.now)) }
     ensures refused { IfErr result (λ e. RefusesPayloadsFor model.now e (payloads_of scanned.now)) }
 {
     let first = scanned.payload(0);

@@ -1,5 +1,5 @@
 // The payloads of a journal are applied as events.
-ghost use Rattle.std.specs.Prelude.{◌≡◌, ◌+◌, ◌≤◌, ◌<◌, ◌++◌, ◌∷◌, [], true, None, All, IfOk, IfErr, OnOk, IsErrOf, IsTrue, ◌↔◌, length};
+ghost use Rattle.std.specs.Prelude.{◌≡◌, ◌+◌, ◌≤◌, ◌<◌, ◌++◌, ◌∷◌, [], if◌then◌else◌, true, None, All, IfOk, IfErr, OnOk, IsErrOf, IsTrue, ◌↔◌, length};
 ghost use Rattle.dual_simplex.specs.Prepared.{IsKept};
 ghost use Rattle.event_core.specs.declared.admit.Admit.TheVariants.{Yes};
 ghost use Rattle.event_core.specs.Judging.{judged};
@@ -8,8 +8,10 @@ ghost use Rattle.event_core.specs.Histories.{is_journaled, state_from, IsLegal, 
 ghost use Rattle.event_core.specs.Rooms.{HasNumbers};
 ghost use Rattle.node_journal.specs.Views.{payloads_of};
 ghost use Rattle.resume.specs.Models.{IsModelOf};
-ghost use Rattle.resume.specs.Events.{read_entries, IsNoGroup, IsApplied};
-ghost use Rattle.node_pool.specs.Payloads.{model_in};
+ghost use Rattle.resume.specs.Events.{read_entries, IsNoPayload, IsApplied};
+ghost use Rattle.event_codec.specs.Groups.{group_of};
+ghost use Rattle.event_codec.specs.Upgrades.{is_upgrade};
+ghost use Rattle.node_pool.specs.Payloads.{model_in, is_upgraded, spelled, in_encoding};
 ghost use Rattle.resume.specs.Journals.{IsReplayed};
 ghost use Rattle.resume.specs.Refusals.{RefusesEvents};
 ghost use Rattle.node_tree.specs.Limits.{most_nodes};
@@ -17,7 +19,7 @@ ghost use Rattle.node_tree.specs.Limits.{most_nodes};
 use crate::ResumeFault;
 use crate::fault::PayloadFault;
 use dual_simplex::KeptRelaxation;
-use event_codec::{CodecError, decode_group};
+use event_codec::{CodecError, Enc, decode_group, is_upgrade};
 use event_core::{Admit, State};
 use node_events::Event;
 use node_journal::Scanned;
@@ -103,10 +105,11 @@ fn apply_events(
     Ok(())
 }
 
-/// Applies the events of a payload to a state in which nobody holds a node. `Damaged`: the payload spells no events, or not all of them may come next.
-/// The state is then of no more use.
-fn apply_payload(
+/// Applies the events of a group, by its payload in an encoding, to a state in which nobody holds a node. `Damaged`: the payload is no group, or not all of its
+/// events may come next. The state is then of no more use.
+fn apply_group(
     alloc: Global,
+    enc: Enc,
     state: &mut State,
     kept: &mut KeptRelaxation,
     payload: &[u8],
@@ -114,33 +117,66 @@ fn apply_payload(
     requires kept { IsKept state.old.state.problem state.old.state.cuts kept.old }
     requires unheld { state.old.state.holds ≡ [] }
     requires few { length state.old.state.nodes ≤ most_nodes }
-    ensures applied { OnOk result (IsApplied state.old payload.now state.new) }
+    requires group { spelled enc payload.now ≡ in_encoding enc (group_of enc payload.now) }
+    ensures applied { OnOk result (IsApplied enc state.old payload.now state.new enc) }
     ensures kept { OnOk result (IsKept state.new.state.problem state.new.state.cuts kept.new) }
-    ensures damaged { IsErrOf result PayloadFault.Damaged → IsNoGroup state.old.state payload.now }
+    ensures damaged { IsErrOf result PayloadFault.Damaged → IsNoPayload enc state.old.state payload.now }
 {
-    match decode_group(alloc, payload) {
+    match decode_group(alloc, enc, payload) {
         Ok(events) => apply_events(alloc, state, kept, events),
         Err(CodecError::Fault(_)) => Err(PayloadFault::Damaged),
         Err(CodecError::Memory) => Err(PayloadFault::Memory),
     }
 }
 
-/// The state to which the payloads behind the first one lead, which is the record of a model of this problem. `Damaged` has the place of the gate
-/// of the first that spells no events which may come next.
-pub fn replay(alloc: Global, scanned: &Scanned, problem: Problem) -> Result<State, ResumeFault>
+/// Applies the events of a payload in an encoding, and answers the encoding of the payloads behind it. The record of the upgrade has no events, and is read in
+/// encoding 1 alone. The rest is as of `apply_group`.
+fn apply_payload(
+    alloc: Global,
+    enc: Enc,
+    state: &mut State,
+    kept: &mut KeptRelaxation,
+    payload: &[u8],
+) -> Result<Enc, PayloadFault>
+    requires kept { IsKept state.old.state.problem state.old.state.cuts kept.old }
+    requires unheld { state.old.state.holds ≡ [] }
+    requires few { length state.old.state.nodes ≤ most_nodes }
+    ensures applied { IfOk result (IsApplied enc state.old payload.now state.new) }
+    ensures next { IfOk result (λ next. next ≡ (if is_upgrade payload.now then Enc.Two else enc)) }
+    ensures kept { OnOk result (IsKept state.new.state.problem state.new.state.cuts kept.new) }
+    ensures damaged { IsErrOf result PayloadFault.Damaged → IsNoPayload enc state.old.state payload.now }
+{
+    if enc == Enc::One && is_upgrade(payload) {
+        return Ok(Enc::Two);
+    }
+    apply_group(alloc, enc, state, kept, payload)?;
+    Ok(enc)
+}
+
+/// The state to which the payloads behind the first one lead, which is the record of a model of this problem, and whether the record of the upgrade is among
+/// them. `Damaged` has the place of the gate of the first with which they stand for no search.
+pub fn replay(
+    alloc: Global,
+    scanned: &Scanned,
+    problem: Problem,
+) -> Result<(State, bool), ResumeFault>
     requires some { 0 < length (payloads_of scanned.now) }
     requires model { IsModelOf (model_in (payloads_of scanned.now)) problem }
-    ensures problem { IfOk result (λ s. s.state.problem ≡ problem) }
-    ensures read { IfOk result (IsReplayed (payloads_of scanned.now)) }
+    ensures problem { IfOk result (λ r. r.0.state.problem ≡ problem) }
+    ensures read { IfOk result (λ r. IsReplayed (payloads_of scanned.now) r.0) }
+    ensures upgraded { IfOk result (λ r. r.1 ≡ is_upgraded (payloads_of scanned.now)) }
     ensures refused { IfErr result (λ e. RefusesEvents e (payloads_of scanned.now)) }
 {
     let mut state = State::new(alloc, problem)?;
     let mut kept = KeptRelaxation::none();
+    let mut enc = Enc::One;
     for number in 1..scanned.count() {
-        match apply_payload(alloc, &mut state, &mut kept, scanned.payload(number)) {
-            Ok(()) => {}
+        match apply_payload(alloc, enc, &mut state, &mut kept, scanned.payload(number)) {
+            Ok(next) => {
+                enc = next;
+            }
             Err(fault) => return Err(fault.behind(scanned.place(number))),
         }
     }
-    Ok(state)
+    Ok((state, enc == Enc::Two))
 }

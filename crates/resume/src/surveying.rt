@@ -27,7 +27,7 @@ pub fn survey<B: BuildHasher + Drop, D: Disk>(
     ensures cause { Counts (D.count disk.old) (D.count disk.new) (disk_failed result) }
 {
     let scanned = scan(alloc, disk)?;
-    let state = read_search(alloc, keys, &scanned)?;
+    let (state, _) = read_search(alloc, keys, &scanned)?;
     Ok(Survey {
         events: state.history().len(),
         nodes: state.tree().len(),

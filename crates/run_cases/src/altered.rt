@@ -26,14 +26,19 @@ enum Left {
     AsItWas,
 }
 
-/// Changes behind which no record of the model counts, and the search begins anew; behind which that record alone counts; and which are refused.
-const SOLVED: [(&str, Change, Left); 9] = [
+/// Changes behind which no record of the model counts, and the search begins anew; behind which that record alone counts, or it and the upgrade; and which
+/// are refused.
+const SOLVED: [(&str, Change, Left); 13] = [
     ("cut to 9 bytes", Change::Cut(9), Left::Whole),
     ("byte 8 set to 00", Change::Set(8, 0), Left::Whole),
     ("cut to 150 bytes", Change::Cut(150), Left::Whole),
     ("cut to 151 bytes", Change::Cut(151), Left::Whole),
     ("byte 150 set to 37", Change::Set(150, 0x37), Left::Whole),
     ("cut to 100 bytes", Change::Cut(100), Left::AsItWas),
+    ("cut to 156 bytes", Change::Cut(156), Left::AsItWas),
+    ("cut to 157 bytes", Change::Cut(157), Left::Whole),
+    ("cut to 158 bytes", Change::Cut(158), Left::Whole),
+    ("byte 157 set to 37", Change::Set(157, 0x37), Left::Whole),
     ("cut to 160 bytes", Change::Cut(160), Left::AsItWas),
     ("byte 155 set to ff", Change::Set(155, 0xff), Left::AsItWas),
     ("byte 0 set to 58", Change::Set(0, 0x58), Left::AsItWas),

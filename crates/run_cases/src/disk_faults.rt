@@ -1,6 +1,8 @@
-//! Searches by one worker and by two whose disk fails at each call in turn, once or from then on, and that are run again on what a crash might leave.
+//! Searches by one worker and by two, and from older journals, whose disk fails at each call in turn, once or from then on, and that are run again on what
+//! a crash might leave.
 
 use crate::command::{Answered, Command, usual};
+use crate::groups::with_frames;
 use crate::models::{ODD, ONE};
 use crate::workers::work_on;
 use anyhow::Result;
@@ -51,6 +53,19 @@ const SEARCHES: [(&str, &str, &str, Fault); 8] = [
     ),
 ];
 
+/// Frames of the search of the model `ONE`, as a program that had no upgrade left them: its offer alone, and the whole search, to which the upgrade alone
+/// is added.
+const OLDER: [(&str, &[u8]); 2] = [
+    (
+        "an older offer",
+        b"\x01\x0d\0\0\0\x03\x01\0\0\0\x02\0\0\0\0\0\0\0\0",
+    ),
+    (
+        "an older search",
+        b"\x01\x1a\0\0\0\x06\x02\x03\x01\0\0\0\x02\0\0\0\0\0\0\0\x05\0\0\0\0\x01\0\0\0\0\0\0",
+    ),
+];
+
 /// What a crash is wished to leave.
 #[derive(Clone, Copy)]
 enum Wish {
@@ -72,7 +87,7 @@ const WISHES: [Wish; 5] = [
     Wish::Nothing,
 ];
 
-/// A search on an empty disk, and what it answers where no call fails.
+/// A search on its disk, and what it answers where no call fails.
 #[derive(Clone, Copy)]
 struct Whole<'a> {
     command: &'a Command<'a>,
@@ -111,11 +126,16 @@ impl Counts {
     }
 }
 
-/// An empty disk that fails at this call.
-fn failing_disk(alloc: Global, fault: Fault, call: u64) -> Result<MemDisk, AllocError> {
+/// A disk with these bytes that fails at this call.
+fn failing_disk(
+    alloc: Global,
+    bytes: &[u8],
+    fault: Fault,
+    call: u64,
+) -> Result<MemDisk, AllocError> {
     match fault {
-        Fault::Once => MemDisk::failing(alloc, b"", &[call]),
-        Fault::FromThen => MemDisk::stopping_at(alloc, b"", call),
+        Fault::Once => MemDisk::failing(alloc, bytes, &[call]),
+        Fault::FromThen => MemDisk::stopping_at(alloc, bytes, call),
     }
 }
 
@@ -160,14 +180,14 @@ fn run_over<R: Threads + Wait + Sync + Alloc<A = Global>>(
     work_on(rt, rt.alloc(), command, disk, &NoHold)
 }
 
-/// What a command answers on an empty disk that fails at this call.
+/// What a command answers on its disk that fails at this call.
 fn run_failing<R: Threads + Wait + Sync + Alloc<A = Global>>(
     rt: &R,
     command: &Command<'_>,
     fault: Fault,
     call: u64,
 ) -> Result<Answered> {
-    let disk = failing_disk(rt.alloc(), fault, call)?;
+    let disk = failing_disk(rt.alloc(), command.bytes, fault, call)?;
     work_on(rt, rt.alloc(), command, disk, &NoHold)
 }
 
@@ -253,7 +273,7 @@ fn counts_of<R: Threads + Wait + Sync + Alloc<A = Global>>(
     command: &Command<'_>,
     fault: Fault,
 ) -> Result<Counts> {
-    let answered = run_over(rt, command, b"")?;
+    let answered = run_over(rt, command, command.bytes)?;
     let whole = Whole {
         command,
         answered: &answered,
@@ -288,10 +308,44 @@ fn show_search<R: Threads + Wait + Sync + Print + Alloc<A = Global>>(
     Ok(show_counts(rt, title, fault, counts)?)
 }
 
+/// Prints how often the disk failed of a search that goes on from this journal, and how it went on.
+fn show_gone_on<R: Threads + Wait + Sync + Print + Alloc<A = Global>>(
+    rt: &R,
+    title: &str,
+    bytes: &[u8],
+) -> Result<()> {
+    let command = Command {
+        bytes,
+        ..usual("solve m j c", ONE)
+    };
+    for fault in &[Fault::Once, Fault::FromThen] {
+        show_search(rt, title, &command, *fault)?;
+    }
+    Ok(())
+}
+
+/// Prints how often the disks failed of searches that go on from older journals, whose beginning is that of this one, and how they went on.
+fn show_older<R: Threads + Wait + Sync + Print + Alloc<A = Global>>(
+    rt: &R,
+    journal: &[u8],
+) -> Result<()> {
+    for (title, frames) in &OLDER {
+        let bytes = with_frames(rt.alloc(), journal, frames)?;
+        show_gone_on(rt, title, &bytes)?;
+    }
+    Ok(())
+}
+
+/// Prints how often the disks failed of searches that go on from older journals.
+fn show_all_older<R: Threads + Wait + Sync + Print + Alloc<A = Global>>(rt: &R) -> Result<()> {
+    let finished = Answered::run(rt.alloc(), &usual("solve m j c", ONE))?;
+    show_older(rt, finished.disk.bytes())
+}
+
 /// Prints how often the disks of searches failed, and how they went on.
 pub(crate) fn show<R: Threads + Wait + Sync + Print + Alloc<A = Global>>(rt: &R) -> Result<()> {
     for (title, line, model, fault) in &SEARCHES {
         show_search(rt, title, &usual(line, model), *fault)?;
     }
-    Ok(())
+    show_all_older(rt)
 }

@@ -1,4 +1,4 @@
-//! Commands over journals whose events stand in groups, each alone as older programs wrote them, or in groups that are refused.
+//! Commands over journals whose events stand in groups, and in groups that are refused.
 
 use crate::command::{Answered, Command, usual};
 use crate::models::ONE;
@@ -10,15 +10,8 @@ use std::io;
 /// Where the gate behind the record of the model stands.
 const BEHIND_MODEL: usize = 150;
 
-/// The search of the model as older programs wrote it: an offer, and a close.
-const OLDER: &[u8] =
-    b"\x01\x0d\0\0\0\x03\x01\0\0\0\x02\0\0\0\0\0\0\0\x01\x0b\0\0\0\x05\0\0\0\0\x01\0\0\0\0\0\0";
-
-/// The offer alone, as an older program left it that was stopped.
-const OFFERED: &[u8] = b"\x01\x0d\0\0\0\x03\x01\0\0\0\x02\0\0\0\0\0\0\0\0";
-
 /// Frames with groups that are refused as a whole.
-const REFUSED: [(&str, &[u8]); 6] = [
+const REFUSED: [(&str, &[u8]); 12] = [
     (
         "a group of none",
         b"\x01\x1a\0\0\0\x06\0\x03\x01\0\0\0\x02\0\0\0\0\0\0\0\x05\0\0\0\0\x01\0\0\0\0\0\0",
@@ -43,10 +36,38 @@ const REFUSED: [(&str, &[u8]); 6] = [
         "a group in a group",
         b"\x01\x11\0\0\0\x06\x02\x06\x02\x03\x01\0\0\0\x02\0\0\0\0\0\0\0\0",
     ),
+    (
+        "a group of none behind the upgrade",
+        b"\x01\x02\0\0\0\x07\x02\x01\x0a\0\0\0\x06\0\x03\x01\x04\x05\0\x01\0\0\0",
+    ),
+    (
+        "a group of one behind the upgrade",
+        b"\x01\x02\0\0\0\x07\x02\x01\x05\0\0\0\x06\x01\x03\x01\x04\0",
+    ),
+    (
+        "a group of 65 behind the upgrade",
+        b"\x01\x02\0\0\0\x07\x02\x01\x0a\0\0\0\x06\x41\x03\x01\x04\x05\0\x01\0\0\0",
+    ),
+    (
+        "a group that is cut behind the upgrade",
+        b"\x01\x02\0\0\0\x07\x02\x01\x09\0\0\0\x06\x02\x03\x01\x04\x05\0\x01\0\0",
+    ),
+    (
+        "a third event that isn't legal behind the upgrade",
+        b"\x01\x02\0\0\0\x07\x02\x01\x0f\0\0\0\x06\x03\x03\x01\x04\x05\0\x01\0\0\x05\0\x01\0\0\0",
+    ),
+    (
+        "a group in a group behind the upgrade",
+        b"\x01\x02\0\0\0\x07\x02\x01\x07\0\0\0\x06\x02\x06\x02\x03\x01\x04\0",
+    ),
 ];
 
 /// The beginning of a journal up to the gate behind the record of its model, and these frames behind it.
-fn with_frames(alloc: Global, journal: &[u8], frames: &[u8]) -> Result<Vec<u8>, AllocError> {
+pub(crate) fn with_frames(
+    alloc: Global,
+    journal: &[u8],
+    frames: &[u8],
+) -> Result<Vec<u8>, AllocError> {
     let end = journal.len().min(BEHIND_MODEL);
     let mut made = journal[..end].to_vec(alloc)?;
     made.extend_from_slice(frames)?;
@@ -62,7 +83,7 @@ fn show_behind_model<R: Print>(rt: &R, journal: &[u8]) -> io::Result<()> {
 }
 
 /// Prints what a command answers over a journal with these frames, and whether the disk is as it was.
-fn show_framed<R: Print + Alloc<A = Global>>(
+pub(crate) fn show_framed<R: Print + Alloc<A = Global>>(
     rt: &R,
     title: &str,
     line: &str,
@@ -86,19 +107,10 @@ fn show_refused<R: Print + Alloc<A = Global>>(rt: &R, journal: &[u8]) -> Result<
     Ok(())
 }
 
-/// Journals as older programs wrote them: of a finished search, and of one that stopped between the two events of a settlement.
-fn show_older<R: Print + Alloc<A = Global>>(rt: &R, journal: &[u8]) -> Result<()> {
-    show_framed(rt, "each event alone", "show j", journal, OLDER)?;
-    show_framed(rt, "each event alone", "solve m j c", journal, OLDER)?;
-    show_framed(rt, "the offer alone", "show j", journal, OFFERED)?;
-    show_framed(rt, "the offer alone", "resume j c", journal, OFFERED)
-}
-
 /// The journal of a finished search, byte by byte, and those with other groups.
 pub(crate) fn show<R: Print + Alloc<A = Global>>(rt: &R) -> Result<()> {
     let finished = Answered::run(rt.alloc(), &usual("solve m j c", ONE))?;
     let journal = finished.journal(rt.alloc())?;
     show_behind_model(rt, &journal)?;
-    show_older(rt, &journal)?;
     show_refused(rt, &journal)
 }

@@ -1,4 +1,4 @@
-//! Whole runs in pieces, runs whose source, sink or disk fails, commands over journals, their groups and changed copies, and commands with several
+//! Whole runs in pieces, runs whose source, sink or disk fails, commands over journals, their groups, upgrades and changed copies, and commands with several
 //! workers.
 //! The gate compares what it prints with `stdout`.
 #![tactic(auto)]
@@ -13,6 +13,7 @@ mod kinds;
 mod models;
 mod runs;
 mod shown;
+mod upgrades;
 mod workers;
 
 use anyhow::Result;
@@ -22,6 +23,7 @@ fn main(rt: HostRuntime) -> Result<()> {
     journals::show_first(&rt)?;
     journals::show_others(&rt)?;
     groups::show(&rt)?;
+    upgrades::show(&rt)?;
     altered::show(&rt)?;
     faults::show(&rt)?;
     disk_faults::show(&rt)?;

@@ -19,15 +19,15 @@ use Rattle.node_journal.specs.Records.{Records, Intact, Foreign, BrokenAt, paylo
 use Rattle.node_journal.specs.History.{Anything, BeginsWith, EachFrom, IsHistory, IsPrefixOf, KeepsHistory}
 use Rattle.node_journal.specs.Lemmas.Histories.{continued, get_seam, history_begins, remains_stands, run_each, some_stands}
 use Rattle.node_journal.specs.Whole.{payloads_in}
-use Rattle.node_pool.specs.Payloads.{model_in}
-use Rattle.resume.specs.Crashes.{IsAsBefore, IsAsBeforeOrBegun}
+use Rattle.node_pool.specs.Payloads.{model_in, with_upgrade}
+use Rattle.resume.specs.Crashes.{upgraded, IsAsBefore, IsAsBeforeOrBegun}
 use Rattle.resume.specs.Lemmas.Histories.{histories_joined, keeps_joined}
 use Rattle.resume.specs.Models.{bound_of, IsTextOf, IsModelOf}
-use Rattle.resume.specs.Journals.{StandsFor, StandsForSome, IsFreshOrOf, IsFreshOrStands}
+use Rattle.resume.specs.Journals.{StandsFor, StandsForSome, WasOpened, IsFreshOrOf, IsFreshOrStands}
 use Rattle.resume.specs.declared.fault.ResumeFault.{ResumeFault}
 use Rattle.resume.specs.declared.fault.ResumeFault.TheVariants as fault
 use Rattle.resume.specs.Refusals.{is_disk, is_refusal}
-use Rattle.resume.specs.Lemmas.Standing.{stands_alone}
+use Rattle.resume.specs.Lemmas.Standing.{model_upgraded, stands_alone, stands_upgraded, upgraded_is}
 use Rattle.solve_top.specs.Statuses.{refusal_of}
 use Rattle.solve_top.specs.declared.request.Request.{Request}
 use Rattle.solve_top.specs.declared.request.Request.TheVariants.{Solve, Resume, Show, Drill}
@@ -51,22 +51,27 @@ pub is_model : (text : List ℕ) (upper : Option ℕ) (p : Problem) → IsModest
 is_model text upper p modest reads = record { text = text; upper = option_map pos upper; written = refl; is = is_text text upper p modest reads }
 
 -- ---- what crashes leave while it is opened
-stands_same : (p : Problem) (b c : List ℕ) → records c ≡ records b → IsFreshOrStands p b → IsFreshOrStands p c
-stands_same p b c same (inl fresh) = inl (same ∙ fresh)
-stands_same p b c same (inr s) = inr (s.0, s.1, same ∙ s.2, s.3)
+-- What was fresh or stood for the problem, does so with the record of the upgrade.
+stands_same : (p : Problem) (r : Records) (c : List ℕ) → IsAsBefore r c → (r ≡ Intact []) ⊎ ((ps : List (List ℕ)) × (es : List Entry) × (r ≡ Intact ps) × StandsFor p ps es) → IsFreshOrStands p c
+stands_same p r c (inl same) (inl fresh) = inl (same ∙ fresh)
+stands_same p r c (inl same) (inr s) = inr (s.0, s.1, same ∙ s.2, s.3)
+stands_same p r c (inr more) (inl fresh) = inl (more ∙ ap upgraded fresh)
+stands_same p r c (inr more) (inr s) = inr (with_upgrade s.0, s.1, more ∙ ap upgraded s.2 ∙ upgraded_is p s.0 s.1 s.3, stands_upgraded p s.0 s.1 s.3)
 
 stands_before : (p : Problem) (b model c : List ℕ) → IsModelOf model p → IsFreshOrStands p b → IsAsBeforeOrBegun (records b) model c → IsFreshOrStands p c
-stands_before p b model c is stands (inl same) = stands_same p b c same stands
-stands_before p b model c is stands (inr begun) = inr (model ∷ [], [], begun.1, stands_alone p model is)
+stands_before p b model c is stands (inl same) = stands_same p (records b) c same stands
+stands_before p b model c is stands (inr begun) = stands_same p (Intact (model ∷ [])) c begun.1 (inr (model ∷ [], [], refl, stands_alone p model is))
 
 -- the same, by this record of the model
-of_same : (p : Problem) (b c model : List ℕ) → records c ≡ records b → IsFreshOrOf model p b → IsFreshOrOf model p c
-of_same p b c model same (inl fresh) = inl (same ∙ fresh)
-of_same p b c model same (inr s) = inr (s.0, s.1, same ∙ s.2, s.3, s.4)
+of_same : (p : Problem) (r : Records) (c model : List ℕ) → IsAsBefore r c → (r ≡ Intact []) ⊎ ((ps : List (List ℕ)) × (es : List Entry) × (r ≡ Intact ps) × (model_in ps ≡ model) × StandsFor p ps es) → IsFreshOrOf model p c
+of_same p r c model (inl same) (inl fresh) = inl (same ∙ fresh)
+of_same p r c model (inl same) (inr s) = inr (s.0, s.1, same ∙ s.2, s.3, s.4)
+of_same p r c model (inr more) (inl fresh) = inl (more ∙ ap upgraded fresh)
+of_same p r c model (inr more) (inr s) = inr (with_upgrade s.0, s.1, more ∙ ap upgraded s.2 ∙ upgraded_is p s.0 s.1 s.4, model_upgraded p s.0 s.1 s.4 ∙ s.3, stands_upgraded p s.0 s.1 s.4)
 
 begun_before : (p : Problem) (b model c : List ℕ) → IsModelOf model p → IsFreshOrOf model p b → IsAsBeforeOrBegun (records b) model c → IsFreshOrOf model p c
-begun_before p b model c is held (inl same) = of_same p b c model same held
-begun_before p b model c is held (inr begun) = inr (model ∷ [], [], begun.1, refl, stands_alone p model is)
+begun_before p b model c is held (inl same) = of_same p (records b) c model same held
+begun_before p b model c is held (inr begun) = of_same p (Intact (model ∷ [])) c model begun.1 (inr (model ∷ [], [], refl, refl, stands_alone p model is))
 
 -- ---- payloads that begin those of a moment
 first_held : (ps : List (List ℕ)) (r : Records) → BeginsWith ps r → take (length ps) (payloads_held r) ≡ ps
@@ -218,7 +223,7 @@ module _ {D : Type 0} (tells : Bool) (past : D → List Moment) (now : D → Mom
 pub begins_untouched : (model : List ℕ) (d : DiskChange) → IsUntouched d → AtRest d.now_before → BeginsAtMost model d
 begins_untouched model d none rests =
     stays_on d.past_before d.past_before d.past_after d.now_before d.now_before d.now_after (IsAsBeforeOrBegun (records d.now_before.seen) model)
-    (started d.past_before d.now_before (IsAsBeforeOrBegun (records d.now_before.seen) model) (λ c is. inl (ap records (rests c is)))) none
+    (started d.past_before d.now_before (IsAsBeforeOrBegun (records d.now_before.seen) model) (λ c is. inl (inl (ap records (rests c is))))) none
 
 pub no_new_event : (q : Request) (m : SourceChange) (d : DiskChange) → IsUntouched d → HasNoNewEvent q m d
 no_new_event (Solve limits upper) m d none = λ told tells rests. begins_untouched (record_of m.text upper) d none rests
@@ -227,8 +232,12 @@ no_new_event Show m d none = none
 no_new_event (Drill seed limits) m d none = none
 
 -- ---- by the clauses of its opening
-pub same_model : (a b : Moment) → records a.seen ≡ Intact (payloads_in b) → model_in (payloads_in b) ≡ model_in (payloads_in a)
-same_model a b held = ap model_in (sym (held_payloads a (payloads_in b) held))
+-- the record of the model stays
+pub same_before : (p : Problem) (es : List Entry) (a b : Moment) (was : WasOpened a.seen p es (payloads_in b)) → model_in was.payloads ≡ model_in (payloads_in a)
+same_before p es a b was = ap model_in (sym (held_payloads a was.payloads was.held))
+
+pub same_model : (p : Problem) (es : List Entry) (a b : Moment) → WasOpened a.seen p es (payloads_in b) → model_in (payloads_in b) ≡ model_in (payloads_in a)
+same_model p es a b was = ap model_in was.is_now ∙ model_upgraded p was.payloads es was.stands ∙ same_before p es a b was
 
 pub before_or_begun : (past : List Moment) (now : Moment) (past' : List Moment) (now' : Moment) (before : Records) (model : List ℕ) → LeavesOnly past now past' now' (IsAsBefore before)
     → LeavesOnly past now past' now' (IsAsBeforeOrBegun before model)
@@ -238,13 +247,12 @@ pub not_by_disk : (b : Bool) (x y : ℕ) → Counts x y b → ¬ Rose x y → b 
 not_by_disk true x y h calm = absurd (calm h.1)
 not_by_disk false x y h calm = refl
 
-pub record_is : (text items : List ℕ) (u : Option ℤ) (upper : Option ℕ) → text ≡ items → u ≡ option_map pos upper → model_code text u ≡ record_of items upper
-record_is text items u upper a b = ap (λ (t : List ℕ). model_code t u) a ∙ ap (λ (v : Option ℤ). model_code items v) b
+pub record_is : (text : List ℕ) (u : Option ℤ) (upper : Option ℕ) → u ≡ option_map pos upper → model_code text u ≡ record_of text upper
+record_is text u upper same = ap (λ (v : Option ℤ). model_code text v) same
 
-pub held_events : (model : List ℕ) (p : Problem) (es : List Entry) (b : List ℕ) (ps : List (List ℕ)) → (records b ≡ Intact ps) ⊎ ((records b ≡ Intact []) × (es ≡ [])) → model_in ps ≡ model
-    → StandsFor p ps es → IsFreshOrWith model p es b
-held_events model p es b ps (inl held) of_model stands = inr (ps, held, of_model, stands)
-held_events model p es b ps (inr fresh) of_model stands = inl fresh
+pub held_events : (model : List ℕ) (p : Problem) (es : List Entry) (b : List ℕ) (ps : List (List ℕ)) → WasOpened b p es ps ⊎ ((records b ≡ Intact []) × (es ≡ [])) → model_in ps ≡ model → IsFreshOrWith model p es b
+held_events model p es b ps (inl was) of_model = inr (was.payloads, was.held, sym (model_upgraded p was.payloads es was.stands) ∙ ap model_in (sym was.is_now) ∙ of_model, was.stands)
+held_events model p es b ps (inr fresh) of_model = inl fresh
 
 -- an empty disk held none
 pub none_held : (model : List ℕ) (p : Problem) (es : List Entry) (b : List ℕ) → b ≡ [] → IsFreshOrWith model p es b → es ≡ []

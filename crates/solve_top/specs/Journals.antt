@@ -75,7 +75,7 @@ pub record IsKeptUnopened (model : List ℕ) (d : DiskChange) : Type 0 where
   pub any_moment : LeavesOnly d.past_before d.now_before d.past_after d.now_after (IsAsBeforeOrBegun (records d.now_before.seen) model)
   pub rests : ¬ Rises d.faults → AtRest d.now_after
 
--- Each crash leaves what the disk held before the call, or where it held no payload, the record of this model alone.
+-- Each crash leaves what the disk held before the call, or where it held no payload, the record of this model; each perhaps with the record of the upgrade.
 abbrev pub BeginsAtMost : List ℕ → DiskChange → Type 0
 BeginsAtMost model d = LeavesOnly d.past_before d.now_before d.past_after d.now_after (IsAsBeforeOrBegun (records d.now_before.seen) model)
 
@@ -106,7 +106,7 @@ LeavesAlone (Resume limits) m d = d.tells ≡ true → IsUntouched d ⊎ StandsF
 LeavesAlone Show m d = IsUntouched d
 LeavesAlone (Drill seed limits) m d = IsUntouched d × Stays d.faults
 
--- The disk holds the record of the command's model and the events of the search, and nothing more. A drill doesn't touch it.
+-- The disk holds the record of the command's model and the events of the search, and nothing else but the record of the upgrade. A drill doesn't touch it.
 abbrev pub HoldsSearch : Request → SourceChange → DiskChange → Search → Type 0
 HoldsSearch (Solve limits upper) m d s =
     d.tells ≡ true → StandsFor s.problem (payloads_in d.now_after) (journaled s.history) × (m.tells ≡ true → model_in (payloads_in d.now_after) ≡ record_of m.text upper)

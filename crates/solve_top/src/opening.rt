@@ -55,7 +55,7 @@ pub fn open_of<B: BuildHasher + Drop, D: Disk>(
     ensures spared { D.tells ≡ true → IfErr result (λ e. IsUntouched (disk_change D.tells D.past D.now D.count disk e.1) ⊎ IsFreshOrOf (record_of model.text.items upper) model.problem (D.now disk).seen) }
 {
     let Model { text, problem } = model;
-    match open_pool(alloc, keys, disk, &text, problem, recorded(upper), nodes) {
+    match open_pool(alloc, keys, disk, text, problem, recorded(upper), nodes) {
         Ok(pool) => {
             pool.history_holds();
             Ok(pool)

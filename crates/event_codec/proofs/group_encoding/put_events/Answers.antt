@@ -13,7 +13,7 @@ loop-event-preserved c =
     let before = c.args.out.now.items in
     let e = c.event-item.result in
     record {
-      spelled = c.in_ok-put_event.ensures.spelled ∙ ap (λ (x : List ℕ). x ++ code e) c.loop-event.invariant.spelled ∙ append_assoc before (flat_map code (take i events)) (code e)
-          ∙ ap (λ (x : List ℕ). before ++ x) (sym (one_more_at code events i e e c.loop-event-test.true c.event-item.is));
+      spelled = c.in_ok-put_event.ensures.spelled ∙ ap (λ (x : List ℕ). x ++ code c.args.enc e) c.loop-event.invariant.spelled ∙ append_assoc before (flat_map (code c.args.enc) (take i events)) (code c.args.enc e)
+          ∙ ap (λ (x : List ℕ). before ++ x) (sym (one_more_at (code c.args.enc) events i e e c.loop-event-test.true c.event-item.is));
       typed = All-more IsEvent events i e c.loop-event-test.true c.loop-event.invariant.typed (subst IsEvent c.event-item.is c.in_ok-put_event.ensures.typed);
     }

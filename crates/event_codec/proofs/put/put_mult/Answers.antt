@@ -15,8 +15,8 @@ loop-term-preserved c =
     let here : t ≡ get_or xs i t = c.term-item.is ∙ ap (λ (s : List (ℕ × ℚ)). get_or s i t) c.as_slice-term-items.ensures.items in
     let within : i < length xs = subst (λ (s : List (ℕ × ℚ)). i < length s) c.as_slice-term-items.ensures.items c.loop-term-test.true in
     record {
-      spelled = grown c.loop-term.out.items c.args.out.now.items (u32_code (length xs)) (flat_map factor_code (take i xs)) (factor_code t) c.put_factor.new.out.items c.in_ok-put_factor.ensures.spelled c.loop-term.invariant.spelled
-          ∙ ap (λ (x : List ℕ). c.args.out.now.items ++ (u32_code (length xs) ++ x)) (sym (one_more_at factor_code xs i t t within here));
+      spelled = grown c.loop-term.out.items c.args.out.now.items (u32_code c.args.enc (length xs)) (flat_map (factor_code c.args.enc) (take i xs)) (factor_code c.args.enc t) c.put_factor.new.out.items c.in_ok-put_factor.ensures.spelled c.loop-term.invariant.spelled
+          ∙ ap (λ (x : List ℕ). c.args.out.now.items ++ (u32_code c.args.enc (length xs) ++ x)) (sym (one_more_at (factor_code c.args.enc) xs i t t within here));
       typed = All-more HasTypes xs i t within c.loop-term.invariant.typed (subst HasTypes here c.in_ok-put_factor.ensures.typed);
     }
 

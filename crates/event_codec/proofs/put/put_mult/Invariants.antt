@@ -8,6 +8,6 @@ use Rattle.event_codec.proofs.put.put_mult.Given as goal
 -- how many there are, and the elements so far
 abbrev pub invariant-loop-term : goal.invariant-loop-term
 invariant-loop-term l = record {
-  spelled : l.out.items ≡ l.fn.out.items ++ (u32_code (length l.mult) ++ flat_map factor_code (take l.term-index l.mult));
+  spelled : l.out.items ≡ l.fn.out.items ++ (u32_code l.enc (length l.mult) ++ flat_map (factor_code l.enc) (take l.term-index l.mult));
   typed : All (λ t. FitsU32 t.0 × FitsFraction t.1) (take l.term-index l.mult);
 }

@@ -18,12 +18,12 @@ loop-number-preserved c =
     let out = c.loop-number.out.items in
     let z = get_or items i (pos 0) in
     let fits : FitsSigned w64 z = search rules in
-    let spelled : c.put_i64.new.out.items ≡ out ++ i64_code z = c.in_ok-put_i64.ensures.spelled ∙ ap (λ (n : ℤ). out ++ i64_code n) (to_z-of_z w64 z fits) in
+    let spelled : c.put_i64.new.out.items ≡ out ++ i64_code c.args.enc z = c.in_ok-put_i64.ensures.spelled ∙ ap (λ (n : ℤ). out ++ i64_code c.args.enc n) (to_z-of_z w64 z fits) in
     let here : z ≡ get_or xs i (pos 0) = ap (λ (s : List ℤ). get_or s i (pos 0)) c.as_slice-numbers.ensures in
     let within : i < length xs = subst (λ (s : List ℤ). i < length s) c.as_slice-numbers.ensures c.loop-number-test.true in
     record {
-      spelled = grown out c.args.out.now.items (u32_code (length xs)) (flat_map i64_code (take i xs)) (i64_code z) c.put_i64.new.out.items spelled c.loop-number.invariant.spelled
-          ∙ ap (λ (y : List ℕ). c.args.out.now.items ++ (u32_code (length xs) ++ y)) (sym (one_more_at i64_code xs i (pos 0) z within here));
+      spelled = grown out c.args.out.now.items (u32_code c.args.enc (length xs)) (flat_map (i64_code c.args.enc) (take i xs)) (i64_code c.args.enc z) c.put_i64.new.out.items spelled c.loop-number.invariant.spelled
+          ∙ ap (λ (y : List ℕ). c.args.out.now.items ++ (u32_code c.args.enc (length xs) ++ y)) (sym (one_more_at (i64_code c.args.enc) xs i (pos 0) z within here));
       typed = All-more (λ n. FitsSigned w64 n) xs i (pos 0) within c.loop-number.invariant.typed (subst (λ n. FitsSigned w64 n) here fits);
     }
 

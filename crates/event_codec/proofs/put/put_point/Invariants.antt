@@ -8,6 +8,6 @@ use Rattle.event_codec.proofs.put.put_point.Given as goal
 -- how many there are, and the elements so far
 abbrev pub invariant-loop-number : goal.invariant-loop-number
 invariant-loop-number l = record {
-  spelled : l.out.items ≡ l.fn.out.items ++ (u32_code (length l.point) ++ flat_map i64_code (take l.number-index l.point));
+  spelled : l.out.items ≡ l.fn.out.items ++ (u32_code l.enc (length l.point) ++ flat_map (i64_code l.enc) (take l.number-index l.point));
   typed : All (λ z. FitsSigned w64 z) (take l.number-index l.point);
 }

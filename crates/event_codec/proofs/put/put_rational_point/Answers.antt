@@ -15,7 +15,7 @@ loop-column-preserved c =
     let within = slice_get_within xs i x c.get.ensures in
     let here : x ≡ get_or xs i x = sym (get_or_from_slice_get xs i x x c.get.ensures) in
     record {
-      spelled = grown c.loop-column.out.items c.args.out.now.items (u32_code (length xs)) (flat_map fraction_code (take i xs)) (fraction_code x) c.put_fraction.new.out.items c.in_ok-put_fraction.ensures.spelled c.loop-column.invariant.spelled
-          ∙ ap (λ (y : List ℕ). c.args.out.now.items ++ (u32_code (length xs) ++ y)) (sym (one_more_at fraction_code xs i x x within here));
+      spelled = grown c.loop-column.out.items c.args.out.now.items (u32_code c.args.enc (length xs)) (flat_map (fraction_code c.args.enc) (take i xs)) (fraction_code c.args.enc x) c.put_fraction.new.out.items c.in_ok-put_fraction.ensures.spelled c.loop-column.invariant.spelled
+          ∙ ap (λ (y : List ℕ). c.args.out.now.items ++ (u32_code c.args.enc (length xs) ++ y)) (sym (one_more_at (fraction_code c.args.enc) xs i x x within here));
       typed = All-more FitsFraction xs i x within c.loop-column.invariant.typed (subst FitsFraction here c.in_ok-put_fraction.ensures.typed);
     }

@@ -7,6 +7,6 @@ use Rattle.event_codec.proofs.put.put_rational_point.Given as goal
 -- how many there are, and the elements so far
 abbrev pub invariant-loop-column : goal.invariant-loop-column
 invariant-loop-column l = record {
-  spelled : l.out.items ≡ l.fn.out.items ++ (u32_code (length l.point) ++ flat_map fraction_code (take l.column l.point));
+  spelled : l.out.items ≡ l.fn.out.items ++ (u32_code l.enc (length l.point) ++ flat_map (fraction_code l.enc) (take l.column l.point));
   typed : All FitsFraction (take l.column l.point);
 }

@@ -5,4 +5,4 @@ use Rattle.event_codec.proofs.Loops.{with_front}
 use Rattle.event_codec.proofs.read_lists.fractions.Given as goal
 
 abbrev pub invariant-loop : goal.invariant-loop
-invariant-loop l = with_front l.point (elements_at (fraction_at is_small) (l.count - l.counter) l.cursor) ≡ elements_at (fraction_at is_small) l.count l.fn.cursor
+invariant-loop l = with_front l.point (elements_at (fraction_at l.enc is_small) (l.count - l.counter) l.cursor) ≡ elements_at (fraction_at l.enc is_small) l.count l.fn.cursor

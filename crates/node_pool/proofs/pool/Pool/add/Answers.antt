@@ -8,7 +8,8 @@ use Rattle.event_core.specs.Histories.{is_journaled}
 use Rattle.node_journal.specs.History.{KeepsHistory, EachFrom, IsPrefixOf}
 use Rattle.node_journal.specs.Records.{records}
 use Rattle.node_journal.specs.Whole.{payloads_in}
-use Rattle.event_codec.specs.Groups.{group_of, group_code}
+use Rattle.event_codec.specs.declared.enc.Enc.TheVariants.{Two}
+use Rattle.event_codec.specs.Groups.{group_of}
 use Rattle.outside.specs.Faults.{Rose}
 use Rattle.problem.specs.Problem.{Problem}
 use Rattle.event_core.specs.Laws.{unheld, JournalsAreLegal}
@@ -18,14 +19,14 @@ use Rattle.node_pool.specs.declared.halt.Halt.TheVariants as halt
 use Rattle.node_pool.specs.Halting.{IsDiskHalt}
 use Rattle.event_core.specs.Rooms.{Recorded, split_count}
 use Rattle.node_pool.specs.Free.{children_of_all}
-use Rattle.node_pool.specs.Payloads.{IsJournalOf, IsJournalAfter, LeavesBeginnings, events_given}
+use Rattle.node_pool.specs.Payloads.{IsJournalOf, IsJournalAfter, LeavesBeginnings, events_given, is_upgraded, group_payload}
 use Rattle.node_pool.proofs.Budgets.{within_budget}
 use Rattle.node_pool.proofs.FreeNodes.{listed_below, added_listed, nodes_added}
 use Rattle.node_pool.proofs.RisingLists.{fewer, missing}
-use Rattle.node_pool.proofs.Spelling.{AreJournaledEvents, journal_push}
+use Rattle.node_pool.proofs.Spelling.{AreJournaledEvents, journal_push, upgraded_more}
 use Rattle.node_pool.proofs.Standing.{journal_sound, after_sound}
 use Rattle.node_pool.proofs.Next.{next_events}
-use Rattle.node_pool.proofs.Crashes.{leaves_sound, leaves_failed, leaves_stands, model_kept, stands_failed}
+use Rattle.node_pool.proofs.Crashes.{leaves_sound, leaves_failed, leaves_stands, model_kept, stands_failed, upgraded_kept}
 use Rattle.node_pool.proofs.Keeping.{unfailed, halts_none}
 use Rattle.node_pool.proofs.Releasing.{unhalted_since, none_since, history_now, history_kept}
 use Rattle.node_pool.proofs.pool.Pool.add.Goals as goal
@@ -54,7 +55,7 @@ invariant_of-self g c =
     let qs = payloads_in (g.D.Disk.now journal.disk) in
     let stood = λ (told : g.D.Disk.tells ≡ true). journal_sound old.faults old.budget (g.D.Disk.count old.journal.disk) old.journal.fault s before sound.sound ps old.halt old.halts (old.stands told) in
     let stands = λ (told : g.D.Disk.tells ≡ true). subst (λ (l : List Entry). IsJournalOf qs l) (sym c.apply_all.ensures.history)
-    (journal_push ps qs (group_code es) before (Some w) es journaled (stood told) c.requires.read (c.in-Ok.ensures.added told ∙ ap (λ (p : List ℕ). ps ++ p ∷ []) c.requires.spelled)) in
+    (journal_push ps qs (group_payload es) before (Some w) es journaled (old.upgraded told) (stood told) c.requires.read (c.in-Ok.ensures.added told ∙ ap (λ (p : List ℕ). ps ++ p ∷ []) c.requires.spelled)) in
     record {
       listed = added_listed s.problem before s new.state w es old.free.items c.add_children.new.free.items c.len-number.result c.conditions_hold.ensures.state c.conditions_hold.ensures.legal c.requires.legal journaled old.listed
           c.apply_all.ensures.state (c.len-number.ensures ∙ ap (λ (ns : List Node). length ns) c.tree-tree.ensures.nodes)
@@ -62,6 +63,8 @@ invariant_of-self g c =
       room = omega (arith, c.requires.room, c.add_children.ensures.capacity, ap (λ (t : State). length t.nodes) c.apply_all.ensures.state, nodes_added s (Some w) es);
       few = old.few;
       stands = λ told. after_sound qs after old.halt (stands told);
+      upgraded = λ told.
+          ap (λ (l : List (List ℕ)). is_upgraded l) (c.in-Ok.ensures.added told ∙ ap (λ (p : List ℕ). ps ++ p ∷ []) c.requires.spelled) ∙ upgraded_more ps (group_payload es) (old.upgraded told);
       crashes = λ told. leaves_sound journal.opened (g.D.Disk.past journal.disk) (g.D.Disk.now journal.disk) after old.halt
           (subst (λ (f : Option ℕ). KeepsHistory journal.opened (g.D.Disk.past journal.disk) (g.D.Disk.now journal.disk) qs f) c.in-Ok.ensures.sound.1 (journal.kept told)) (stands told)
           (ap (λ (h : Option Halt). events_given after h) c.requires.sound);
@@ -87,6 +90,7 @@ invariant_of-self-in-Err-Memory g c =
       room = old.room;
       few = old.few;
       stands = λ told. subst (λ (m : Moment). IsJournalAfter (payloads_in m) es old.halt) (sym none.same) (old.stands told);
+      upgraded = λ told. subst (λ (m : Moment). is_upgraded (payloads_in m) ≡ true) (sym none.same) (old.upgraded told);
       crashes = λ told. subst (λ n. LeavesBeginnings n (past journal.disk) (now journal.disk) es old.halt) (sym c.in-Err-Memory.ensures.opened)
           (leaves_stands old.journal.opened (past old.journal.disk) (now old.journal.disk) (past journal.disk) (now journal.disk) es old.halt none (old.crashes told));
       halts = halts_none old.faults old.budget (g.D.Disk.count journal.disk) journal.fault s old.halt c.requires.sound
@@ -122,7 +126,7 @@ invariant_of-self-in-Err-Disk g c =
     let failed = c.in-Err-Disk.ensures.fails before.sound (search rules) in
     let counted : count journal.disk ≡ n = ap (λ d. count d) (sym c.disk.ensures) ∙ sym c.faults-faults.ensures in
     let cause = rw c.in-Err-Disk.field-0-is at (c.in-Err-Disk.ensures.cause before.sound) in
-    let payload : group_of c.args.payload.now ≡ Ok es = ap group_of c.requires.spelled ∙ c.requires.read in
+    let payload : group_of Two c.args.payload.now ≡ Ok es = ap (group_of Two) c.requires.spelled ∙ c.requires.read in
     let halted : IsDiskHalt old.faults old.budget (count journal.disk) journal.fault s n es = record {
       failed = failed ∙ ap Some counted;
       counted = counted;
@@ -136,10 +140,12 @@ invariant_of-self-in-Err-Disk g c =
       room = old.room;
       few = old.few;
       stands = λ told. subst (λ (l : List Event). IsJournalAfter (payloads_in (now journal.disk)) history (Some (halt.Disk n l))) (sym c.of-events.ensures)
-          (stands_failed (past old.journal.disk) (now old.journal.disk) (past journal.disk) (now journal.disk) history c.args.payload.now (stood told) n es payload (c.append.ensures.any_moment told before.sound)
+          (stands_failed (past old.journal.disk) (now old.journal.disk) (past journal.disk) (now journal.disk) history c.args.payload.now (stood told) n es (old.upgraded told) payload (c.append.ensures.any_moment told before.sound)
           (g.met.D.Disk.seen_is_image journal.disk told));
+      upgraded = λ told. upgraded_kept (past old.journal.disk) (now old.journal.disk) (past journal.disk) (now journal.disk) c.args.payload.now (old.upgraded told) (c.append.ensures.any_moment told before.sound)
+          (g.met.D.Disk.seen_is_image journal.disk told);
       crashes = λ told. subst (λ (l : List Event). LeavesBeginnings journal.opened (past journal.disk) (now journal.disk) history (Some (halt.Disk n l))) (sym c.of-events.ensures)
-          (leaves_failed journal.opened (now old.journal.disk) (past journal.disk) (now journal.disk) history n es c.args.payload.now payload (stood told)
+          (leaves_failed journal.opened (now old.journal.disk) (past journal.disk) (now journal.disk) history n es c.args.payload.now (old.upgraded told) payload (stood told)
           (model_kept (past old.journal.disk) (now old.journal.disk) (past journal.disk) (now journal.disk) history c.args.payload.now (stood told) (c.append.ensures.any_moment told before.sound) (g.met.D.Disk.seen_is_image journal.disk told))
           (subst (λ k. EachFrom k (past journal.disk ++ now journal.disk ∷ []) (λ b. IsPrefixOf (payloads_in (now old.journal.disk) ++ c.args.payload.now ∷ []) (records b))) (sym c.in-Err-Disk.ensures.opened) (c.in-Err-Disk.ensures.since told before.sound)));
       halts = subst (λ (l : List Event). IsDiskHalt old.faults old.budget (count journal.disk) journal.fault s n l) (sym c.of-events.ensures) halted;

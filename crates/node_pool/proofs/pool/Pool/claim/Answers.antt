@@ -23,6 +23,7 @@ invariant_of-self-2 g c =
       room = omega (arith, old.room, c.pop.ensures.capacity, ap (λ (s : State). length s.nodes) c.apply.ensures.state);
       few = old.few;
       stands = λ told. after_given ps old.state.history new.history old.halt old.halt same (given_same old.state.history new.history old.halt same) (old.stands told);
+      upgraded = old.upgraded;
       crashes = λ told. same_leaves old.state.state new.state old.state.history new.history (Some c.args.worker) (event.Claim node) refl c.apply.ensures.state c.apply.ensures.history old.journal.opened (g.D.Disk.past disk) (g.D.Disk.now disk) old.halt (old.crashes told);
       halts = halts_other old.faults old.budget (g.D.Disk.count disk) old.journal.fault old.state.state new.state old.halt (Some c.args.worker) (event.Claim node) refl c.apply.ensures.state old.halts;
       released = unhalted_since old.halt _ _ (none_if old.halt (sym c.is_some.ensures ∙ c.if-is_some.false));

@@ -10,13 +10,12 @@ use Rattle.event_core.specs.Rooms.{Recorded, split_count}
 use Rattle.node_pool.proofs.Budgets.{split_taken, within_budget}
 use Rattle.outside.specs.Images.{LeavesOnly}
 use Rattle.event_core.specs.Laws.{JournalsAreLegal}
-use Rattle.event_codec.specs.Groups.{group_code}
 use Rattle.node_journal.specs.Appends.{IsWithOrWithout}
 use Rattle.node_journal.specs.History.{ExtendsMoments}
 use Rattle.node_journal.specs.Whole.{payloads_in}
 use Rattle.node_pool.specs.declared.halt.Halt.{Halt}
 use Rattle.node_pool.specs.declared.halt.Halt.TheVariants as halt
-use Rattle.node_pool.specs.Payloads.{events_given}
+use Rattle.node_pool.specs.Payloads.{events_given, group_payload}
 use Rattle.node_pool.proofs.Next.{next_event}
 use Rattle.node_pool.proofs.Crashes.{none_added}
 use Rattle.node_pool.proofs.Keeping.{none_if, leaves_given, unfailed}
@@ -44,6 +43,7 @@ invariant_of-self g c =
       room = old.room;
       few = old.few;
       stands = λ told. after_given (payloads_in (g.D.Disk.now disk)) es es old.halt (Some (halt.Budget e)) refl given (old.stands told);
+      upgraded = old.upgraded;
       crashes = λ told. leaves_given old.journal.opened (g.D.Disk.past disk) (g.D.Disk.now disk) es es old.halt (Some (halt.Budget e)) refl given (old.crashes told);
       halts = record {
         sound = unfailed old.faults old.budget (g.D.Disk.count disk) old.journal.fault s old.halt none old.halts;
@@ -58,7 +58,7 @@ returns-then-spends-clause-any_moment g c told unhalted =
     let old = c.args.self.now in
     let disk = old.journal.disk in
     let sound = unfailed old.faults old.budget (g.D.Disk.count disk) old.journal.fault old.state.state old.halt unhalted old.halts in
-    none_added old.journal.opened (g.D.Disk.past disk) (g.D.Disk.now disk) old.journal.fault (group_code c.args.events.items) (old.journal.kept told) sound.sound (c.history_holds.ensures.held told sound.sound)
+    none_added old.journal.opened (g.D.Disk.past disk) (g.D.Disk.now disk) old.journal.fault (group_payload c.args.events.items) (old.journal.kept told) sound.sound (c.history_holds.ensures.held told sound.sound)
 
 pub returns-in-Err-clause-any_moment : goal.returns-in-Err-clause-any_moment
 returns-in-Err-clause-any_moment g c told unhalted =
@@ -66,8 +66,8 @@ returns-in-Err-clause-any_moment g c told unhalted =
     let disk = old.journal.disk in
     let sound = unfailed old.faults old.budget (g.D.Disk.count disk) old.journal.fault old.state.state old.halt unhalted old.halts in
     let same = ap (λ j. j.disk) c.prepare.ensures.journal in
-    subst (λ d. LeavesOnly (g.D.Disk.past disk) (g.D.Disk.now disk) (g.D.Disk.past d) (g.D.Disk.now d) (IsWithOrWithout (payloads_in (g.D.Disk.now disk)) (group_code c.args.events.items))) (sym same)
-    (none_added old.journal.opened (g.D.Disk.past disk) (g.D.Disk.now disk) old.journal.fault (group_code c.args.events.items) (old.journal.kept told) sound.sound (c.history_holds.ensures.held told sound.sound))
+    subst (λ d. LeavesOnly (g.D.Disk.past disk) (g.D.Disk.now disk) (g.D.Disk.past d) (g.D.Disk.now d) (IsWithOrWithout (payloads_in (g.D.Disk.now disk)) (group_payload c.args.events.items))) (sym same)
+    (none_added old.journal.opened (g.D.Disk.past disk) (g.D.Disk.now disk) old.journal.fault (group_payload c.args.events.items) (old.journal.kept told) sound.sound (c.history_holds.ensures.held told sound.sound))
 
 pub returns-in-Ok-clause-continued : goal.returns-in-Ok-clause-continued
 returns-in-Ok-clause-continued g c told =

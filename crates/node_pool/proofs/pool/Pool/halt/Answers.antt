@@ -21,6 +21,7 @@ invariant_of-self g c =
       room = old.room;
       few = old.few;
       stands = λ told. after_given (payloads_in (g.D.Disk.now disk)) es es old.halt (Some halt.Memory) refl given (old.stands told);
+      upgraded = old.upgraded;
       crashes = λ told. leaves_given old.journal.opened (g.D.Disk.past disk) (g.D.Disk.now disk) es es old.halt (Some halt.Memory) refl given (old.crashes told);
       halts = unfailed old.faults old.budget (g.D.Disk.count disk) old.journal.fault old.state.state old.halt none old.halts;
       released = λ halted. none_since _ _ (ap (λ (r : Recorded). r.history) c.of.ensures);

@@ -16,6 +16,7 @@ invariant_of-result g c =
       room = c.in-Ok.ensures.room;
       few = c.requires.few;
       stands = λ told. after_sound (payloads_in now) c.args.state.history None (c.requires.stands told);
+      upgraded = c.requires.upgraded;
       crashes = λ told.
           leaves_sound journal.opened past now c.args.state.history None (subst (λ (f : Option ℕ). KeepsHistory journal.opened past now (payloads_in now) f) c.requires.sound (journal.kept told)) (c.requires.stands told) refl;
       halts = record { sound = c.requires.sound; unchanged = ap (λ d. g.D.Disk.count d) (sym c.disk.ensures) ∙ sym c.faults-faults.ensures };

@@ -22,6 +22,7 @@ invariant_of-self-2 g c =
       room = omega (arith, old.room, c.reserve_for.ensures.capacity, ap (λ (s : State). length s.nodes) c.reserve_all.ensures.stays.state);
       few = old.few;
       stands = λ told. after_given ps old.state.history new.history old.halt old.halt same given (old.stands told);
+      upgraded = old.upgraded;
       crashes = λ told. leaves_given old.journal.opened (g.D.Disk.past disk) (g.D.Disk.now disk) old.state.history new.history old.halt old.halt same given (old.crashes told);
       halts = halts_same old.faults old.budget (g.D.Disk.count disk) old.journal.fault old.state.state new.state old.halt c.reserve_all.ensures.stays.state old.halts;
       released = λ halted. same_since _ _ _ c.reserve_all.ensures.stays.history (old.released halted);
