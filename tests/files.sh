@@ -97,11 +97,21 @@ echo 'refused journal NoModel' | text NoModel
 record "$texts/model" | text record
 { printf '\3'; number 1; number 2; number 0; } | text offer
 { printf '\5'; number 0; printf '\1\0'; number 0; } | text close
+printf '\7\2' | text upgrade
+printf '\6\2\3\1\4\5\0\1\0\0' | text short_group
 { printf 'BNCJRNL1'; frame record; printf '\0'; } | text begun
 { printf '\6\2'; cat "$texts/offer" "$texts/close"; } | text group
-{ printf 'BNCJRNL1'; frame record; frame group; printf '\0'; } | text journal
-# As programs wrote it before they wrote groups.
+{ printf 'BNCJRNL1'; frame record; frame upgrade; frame short_group; printf '\0'; } | text journal
+# As programs wrote it before they wrote groups, and before there was encoding 2; and what it is once a program has gone on from there.
 { printf 'BNCJRNL1'; frame record; frame offer; frame close; printf '\0'; } | text older
+{ printf 'BNCJRNL1'; frame record; frame offer; frame close; frame upgrade; printf '\0'; } | text older_upgraded
+{ printf 'BNCJRNL1'; frame record; frame group; printf '\0'; } | text grouped
+{ printf 'BNCJRNL1'; frame record; frame group; frame upgrade; printf '\0'; } | text grouped_upgraded
+# The same of 1,020 bytes, by a comment: with the record of the upgrade it is longer than 1,024.
+{ printf '*%0*d\n' $((1020 - 2 - $(wc -c <"$texts/grouped"))) 0; cat "$texts/model"; } | text long_model
+record "$texts/long_model" | text long_record
+{ printf 'BNCJRNL1'; frame long_record; frame group; printf '\0'; } | text long_grouped
+{ printf 'BNCJRNL1'; frame long_record; frame group; frame upgrade; printf '\0'; } | text long_upgraded
 printf '%s\n' 'events 0' 'nodes 1' 'cuts 0' 'open 1' 'best none' | text shown_begun
 printf '%s\n' 'events 2' 'nodes 1' 'cuts 0' 'open 0' 'best 6' | text shown
 echo 'earlier text' | text earlier
@@ -117,7 +127,7 @@ printf '%s\n' spent 'nodes 1' 'cuts 0' 'open 1' | text spent
 offer_at=$((13 + $(wc -c <"$texts/record")))
 close_at=$((offer_at + 18))
 cp "$texts/record" "$texts/foreign"
-head -c $((close_at - 1)) "$texts/journal" | text torn
+head -c $((close_at - 1)) "$texts/grouped" | text torn
 { printf 'BNCJRNL1\1'; number $((2 ** 32 - 1)); cat "$texts/record"; } | text endless
 { printf '\11'; tail -c +2 "$texts/offer"; } | text ninth
 { printf 'BNCJRNL1'; frame record; frame ninth; printf '\0'; } | text tag
@@ -131,6 +141,10 @@ head -c -1 "$texts/group" | text short
 { printf 'BNCJRNL1'; frame record; frame short; printf '\0'; } | text group_cut
 { printf '\6\3'; cat "$texts/offer" "$texts/close" "$texts/close"; } | text thrice
 { printf 'BNCJRNL1'; frame record; frame thrice; printf '\0'; } | text third_refused
+{ printf 'BNCJRNL1'; frame record; frame upgrade; frame upgrade; printf '\0'; } | text upgraded_twice
+{ printf 'BNCJRNL1'; frame record; frame upgrade; frame group; printf '\0'; } | text encoding_1_behind
+{ printf 'BNCJRNL1'; frame record; frame short_group; frame upgrade; printf '\0'; } | text encoding_2_before
+{ printf 'BNCJRNL1'; frame upgrade; frame record; printf '\0'; } | text upgrade_first
 printf 'BNCJRNL1\0\1\1' | text bare
 { cat "$texts/begun"; frame offer | tail -c +2 | head -c 9; } | text part
 sed 's/^\( FX .*\) 2$/\1 3/' "$texts/model" | text two
@@ -271,8 +285,10 @@ try 'a journal that is begun, resumed' 0 'cp "$texts/begun" j; bnc resume j c >o
 try 'a journal that is begun, shown' 0 'cp "$texts/begun" j; bnc show j >out' j=begun out=shown_begun
 try 'a finished journal, resumed' 0 'bnc resume j c >out' c=cert out=lines
 try 'a finished journal, shown' 0 'bnc show j >out' out=shown
-try 'a journal of single events, solved' 0 'cp "$texts/older" j; bnc solve one.mps j c >out' j=older c=cert out=lines
-try 'a journal of single events, resumed' 0 'cp "$texts/older" j; bnc resume j c >out' j=older c=cert out=lines
+try 'a journal of single events, solved' 0 'cp "$texts/older" j; bnc solve one.mps j c >out' j=older_upgraded c=cert out=lines
+try 'a journal of single events, resumed' 0 'cp "$texts/older" j; bnc resume j c >out' j=older_upgraded c=cert out=lines
+try 'a journal of encoding 1, solved' 0 'cp "$texts/grouped" j; bnc solve one.mps j c >out; bnc show j >told' j=grouped_upgraded c=cert out=lines told=shown
+try 'a journal of encoding 1, shown' 0 'cp "$texts/grouped" j; bnc show j >out' j=grouped out=shown
 try 'a journal of single events, shown' 0 'cp "$texts/older" j; bnc show j >out' j=older out=shown
 try 'a journal through a link' 0 'mv j there; ln -s there j; bnc solve one.mps j c >out' there=journal c=cert out=lines
 try 'a journal through a link to no file' 0 'ln -s new link; bnc solve one.mps link c >out' new=journal c=cert out=lines
@@ -305,6 +321,10 @@ no_record Damaged 8
 group_of_65 Damaged $offer_at
 group_cut Damaged $offer_at
 third_refused Damaged $offer_at
+upgraded_twice Damaged $((offer_at + 7))
+encoding_1_behind Damaged $((offer_at + 7))
+encoding_2_before Damaged $offer_at
+upgrade_first Damaged 8
 END
 try 'no model in it, shown' 4 'cp "$texts/bare" j; bnc show j >out' j=bare out=NoModel
 try 'no model in it, resumed' 4 'cp "$texts/bare" j; bnc resume j c >out' j=bare out=NoModel c=none
@@ -334,6 +354,10 @@ try 'the folder of a new journal may only be read' 6 'mkdir -m 555 d; bnc_as_use
 try 'the journal may only be read, and is shown' 0 'chmod 444 j; bnc_as_user show j >out' out=shown
 try 'the journal may only be read, and is finished' 0 'chmod 444 j; bnc_as_user solve one.mps j c >out' out=lines c=cert
 try 'the journal may only be read, is finished, and is resumed' 0 'chmod 444 j; bnc_as_user resume j c >out' out=lines c=cert
+try 'the journal may only be read, is of encoding 1, and is shown' 0 'cp "$texts/grouped" j; chmod 444 j; bnc_as_user show j >out' j=grouped out=shown
+for command in 'solve one.mps j c' 'resume j c'; do
+    try "the journal may only be read, is of encoding 1, and is finished: $command" 6 "cp \"\$texts/grouped\" j; chmod 444 j; bnc_as_user $command >out" out=disk c=none j=grouped
+done
 for name in begun part bare; do
     try "the journal may only be read: $name" 6 "cp \"\$texts/$name\" j; chmod 444 j; bnc_as_user solve one.mps j c >out" out=disk c=none j=$name
 done
@@ -355,6 +379,8 @@ try 'the certificate is the journal, which is renamed while the search goes on' 
 # The disk is full.
 try 'no file may get longer' 6 'set -o pipefail; (trap "" XFSZ; ulimit -f 0; bnc solve one.mps new c) | cat >out' out=disk new=empty c=none
 try 'no file may get longer, which ends the program' 153 '{ (ulimit -c 0; ulimit -f 0; "$scratch/bnc" solve one.mps new c; exit $?); } 2>/dev/null' new=empty c=none
+try 'no file may get longer, so that the record of the upgrade is written in part' 6 'cp "$texts/long_grouped" j; set -o pipefail; status=0; (trap "" XFSZ; ulimit -f 1; bnc resume j c) | cat >first || status=$?
+    bnc show j >told; bnc resume j c >out; exit $status' j=long_upgraded first=disk told=shown c=cert out=lines
 mkdir "$scratch/small"
 if mount -t tmpfs -o size=8k,mode=777 tmpfs "$scratch/small" 2>/dev/null; then
     trap 'umount "$scratch/small"; rm -rf "$scratch"' EXIT

@@ -18,7 +18,7 @@ import models
 import written
 from people import TOOLS, Skipped, Tests, example, inside, need
 from bnc_tools import report
-from bnc_tools.journal import read_search, records, single_events
+from bnc_tools.journal import encodings, read_search, records, single_events
 from bnc_tools.model import read_model
 
 FIRST = "a knapsack with its journal"
@@ -333,12 +333,12 @@ def journals(tests):
 
 
 def older_form(tests):
-    """a journal of which each record is one event, as it was before there were groups, tells the same search"""
+    """a journal in encoding 1 of which each record is one event, as it was before there were groups, tells the same search"""
     model, journal, certificate, _ = tests.solve("b", example("blend"))
     with open(journal, "rb") as file:
         payloads = [content for _, content in records(file, journal)]
-    singles = payloads[:1] + [code for payload in payloads[1:] for code in single_events(payload)]
-    need(len(singles) > len(payloads), "there is no group")
+    singles = payloads[:1] + [code for payload, encoding in encodings(payloads) for code in single_events(payload, encoding)]
+    need(len(singles) >= len(payloads), "there is no group")
     frames = b"".join(b"\x01" + len(payload).to_bytes(4, "little") + payload for payload in singles)
     other = tests.path("b.journal2", b"BNCJRNL1" + frames + b"\x00")
     one, two = inside("bnc-report", model, certificate, journal), inside("bnc-report", model, certificate, other)

@@ -11,6 +11,8 @@ from .model import Model
 
 MARK = b"BNCJRNL1"
 MODEL_TAG, CUT, OFFER, SPLIT, CLOSE, GROUP = 1, 2, 3, 4, 5, 6
+UPGRADE = bytes([7, 2])
+LONGEST_VARINT = 19  # groups of 7 bits for 128 bits
 
 
 class Damaged(Exception):
@@ -56,10 +58,10 @@ Event = Union[Cut, Offer, Split, Close]
 
 
 class Payload:
-    """The bytes of a record, read from left to right."""
+    """The bytes of a record, read from left to right. In encoding 2 numbers have as few bytes as they need."""
 
-    def __init__(self, content: bytes):
-        self.content, self.at = content, 0
+    def __init__(self, content: bytes, encoding: int = 1):
+        self.content, self.encoding, self.at = content, encoding, 0
 
     def take(self, count: int) -> bytes:
         if self.at + count > len(self.content):
@@ -70,14 +72,30 @@ class Payload:
     def whole(self, count: int, signed: bool = False) -> int:
         return int.from_bytes(self.take(count), "little", signed=signed)
 
+    def varint(self, limit: int) -> int:
+        groups = bytearray(self.take(1))
+        while groups[-1] & 128 and len(groups) < LONGEST_VARINT:
+            groups += self.take(1)
+        value = sum((group & 127) << 7 * at for at, group in enumerate(groups))
+        if groups[-1] & 128 or len(groups) > 1 and groups[-1] == 0 or value >= limit:
+            raise Damaged("a number is no number of its kind")
+        return value
+
+    def number(self, size: int, signed: bool = False) -> int:
+        """A number whose type has so many bytes."""
+        if self.encoding == 1:
+            return self.whole(size, signed)
+        value = self.varint(1 << 8 * size)
+        return value >> 1 ^ -(value & 1) if signed else value
+
     def fraction(self) -> Number:
-        above, below = self.whole(16, True), self.whole(16, True)
+        above, below = self.number(16, True), self.number(16, True)
         if below < 1:
             raise Damaged("a denominator is not above 0")
         return lowest(Fraction(above, below))
 
     def factors(self) -> dict[int, Number]:
-        return {self.whole(4): self.fraction() for _ in range(self.whole(4))}
+        return {self.number(4): self.fraction() for _ in range(self.number(4))}
 
     def end(self):
         if self.at != len(self.content):
@@ -90,7 +108,7 @@ class Payload:
         if tag == CUT:
             return Cut(self.factors())
         if tag == OFFER:
-            return Offer([self.whole(8, True) for _ in range(self.whole(4))])
+            return Offer([self.number(8, True) for _ in range(self.number(4))])
         if tag == SPLIT:
             return self.split()
         if tag == CLOSE:
@@ -98,14 +116,14 @@ class Payload:
         raise Damaged(f"it has the tag {tag}")
 
     def split(self) -> Split:
-        made = Split(self.whole(4), self.whole(4), self.whole(8, True), "")
+        made = Split(self.number(4), self.number(4), self.number(8, True), "")
         kind = self.whole(1)
-        self.take(4)
+        self.number(4)
         if kind == 0:
-            made.reason, made.point = "fractional", [self.fraction() for _ in range(self.whole(4))]
+            made.reason, made.point = "fractional", [self.fraction() for _ in range(self.number(4))]
         elif kind == 1:
             made.reason = "cramped"
-            self.take(4)
+            self.number(4)
         elif kind == 2:
             made.reason = "stalled"
         else:
@@ -113,14 +131,14 @@ class Payload:
         return made
 
     def close(self) -> Close:
-        node, kind = self.whole(4), self.whole(1)
+        node, kind = self.number(4), self.whole(1)
         if kind == 0:
             self.factors()
         elif kind == 1:
-            self.take(1)
+            self.whole(1)
             self.factors()
         elif kind == 2:
-            self.take(4)
+            self.number(4)
         else:
             raise Damaged(f"a proof has the tag {kind}")
         return Close(node, ("refute", "bound", "empty")[kind])
@@ -136,17 +154,43 @@ class Payload:
         return made
 
 
-def single_events(content: bytes) -> list[bytes]:
-    """The codes of the events of a record, each as the record of that event alone would have it."""
-    if content[:1] != bytes([GROUP]):
-        return [content]
-    payload, codes = Payload(content), []
-    payload.take(2)
-    for _ in range(content[1]):
-        begin = payload.at
+class Rewritten(Payload):
+    """A record that is read, and each field written as in encoding 1."""
+
+    def __init__(self, content: bytes, encoding: int):
+        super().__init__(content, encoding)
+        self.written = bytearray()
+
+    def whole(self, count: int, signed: bool = False) -> int:
+        value = super().whole(count, signed)
+        self.written += value.to_bytes(count, "little", signed=signed)
+        return value
+
+    def number(self, size: int, signed: bool = False) -> int:
+        value = super().number(size, signed)
+        if self.encoding == 2:
+            self.written += value.to_bytes(size, "little", signed=signed)
+        return value
+
+
+def single_events(content: bytes, encoding: int = 1) -> list[bytes]:
+    """The codes of the events of a record, each as the record of that event alone has it in encoding 1."""
+    payload, codes = Rewritten(content, encoding), []
+    for _ in range(payload.take(2)[1] if content[:1] == bytes([GROUP]) else 1):
+        payload.written = bytearray()
         payload.event()
-        codes.append(content[begin:payload.at])
+        codes.append(bytes(payload.written))
     return codes
+
+
+def encodings(payloads: list[bytes]) -> Iterator[tuple[bytes, int]]:
+    """The records behind that of the model, each with its encoding, without that of the upgrade."""
+    encoding = 1
+    for content in payloads[1:]:
+        if encoding == 1 and content == UPGRADE:
+            encoding = 2
+        else:
+            yield content, encoding
 
 
 # ---- records
@@ -304,11 +348,15 @@ def read_search(path: str, text: bytes, model: Model) -> Search:
     gate = len(MARK)
     with readable(path) as file:
         try:
+            encoding = 1
             for at, (gate, content) in enumerate(records(file, path)):
                 if at == 0:
                     search.upper = same_model(path, model_record(content), text)
                     continue
-                for event in Payload(content).events():
+                if encoding == 1 and content == UPGRADE:
+                    encoding = 2
+                    continue
+                for event in Payload(content, encoding).events():
                     if isinstance(event, Offer) and len(event.values) != len(model.columns):
                         raise Damaged("a point has another number of columns")
                     search.take(event)

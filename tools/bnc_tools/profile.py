@@ -9,11 +9,11 @@ from functools import lru_cache
 from .exact import decimal
 from .linear_model import Column, LinearModel, ModelError, Row, shown
 
-MOST_COLUMNS = 1000
-MOST_ROWS = 1000
+MOST_COLUMNS = 8000
+MOST_ROWS = 8000
 MOST_SIZE = 10**9
 MOST_PLACES = 15
-MOST_BYTES = 4_194_304
+MOST_BYTES = 33_554_432
 
 
 @dataclass
