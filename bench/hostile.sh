@@ -1,5 +1,5 @@
 #!/bin/sh
-# What the dearest texts cost that a model of near 4 MiB can have, section by section, beside a plain text of that size: the built program reads
+# What the dearest texts cost that a model of near 32 MiB can have, section by section, beside a plain text of that size: the built program reads
 # each with `--nodes 1`, and a text that is refused is read as far as to its fault. A line for each text: its bytes, how the run ended, the least
 # time of RUNS runs (3) and the peak of memory, and both beside those of the plain text. The 100,000 names that collide are chosen for the
 # hash of the runtime with a fixed key; the program's key is random where the system gives one, so they cost there what other names do. The

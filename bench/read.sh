@@ -1,5 +1,5 @@
 #!/bin/sh
-# How long the built program takes, and how much memory at most: on a model of 1,000 columns, and on one of near 4 MiB, the most that it
+# How long the built program takes, and how much memory at most: on a model of 8,000 columns, and on one of near 32 MiB, the most that it
 # reads. A line for each: the bytes of the model, the lines of the certificate, the least time of five runs and the peak of memory. Build
 # the program first, by `make test` or `make build`.
 . "$(dirname "$0")/common.sh"
@@ -11,8 +11,9 @@ import subprocess
 import sys
 import time
 
-COLUMNS = 1000  # as many as a model may have
-LIMIT = 4_194_304  # the bytes that it may have
+COLUMNS = ROWS = 8000  # as many as a model may have
+LIMIT = 33_554_432  # the bytes that it may have
+SHORTEST = 15  # the bytes of the shortest line of an entry
 RUNS = 5
 
 
@@ -21,7 +22,7 @@ def model(rows, entries):
     lines = ["NAME bench", "ROWS", " N cost"] + [f" G row{i}" for i in range(rows)]
     lines += ["COLUMNS", " mark 'MARKER' 'INTORG'"]
     for j in range(COLUMNS):
-        lines.append(f" column{j} cost {j - 500}")
+        lines.append(f" column{j} cost {j - COLUMNS // 2}")
         for k in range(entries):
             lines.append(f" column{j} row{(7 * j + k) % rows} {1 + (j + k) % 9}")
     lines += [" mark 'MARKER' 'INTEND'", "RHS"] + [f" rhs row{i} 1" for i in range(rows)]
@@ -31,7 +32,7 @@ def model(rows, entries):
 
 def largest(rows):
     """The model of this form with most entries that is within the limit."""
-    fits, beyond = 1, rows + 1
+    fits, beyond = 1, min(rows, LIMIT // (SHORTEST * COLUMNS)) + 1
     while beyond - fits > 1:
         middle = (fits + beyond) // 2
         fits, beyond = (middle, beyond) if len(model(rows, middle)) <= LIMIT else (fits, middle)
@@ -48,7 +49,7 @@ def measured(name):
         return seconds, int(file.read())
 
 
-for name, text in [("columns.mps", model(10, 1)), ("largest.mps", largest(1000))]:
+for name, text in [("columns.mps", model(10, 1)), ("largest.mps", largest(ROWS))]:
     with open(name, "w") as file:
         file.write(text)
     runs = [measured(name) for _ in range(RUNS)]

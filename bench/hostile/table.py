@@ -14,8 +14,9 @@ import sys
 import time
 
 FOLDER, PROGRAM, RUNS = sys.argv[1], sys.argv[2], int(sys.argv[3])
-LIMIT = 4_194_304  # the bytes that a model may have
-COLUMNS = ROWS = 1000  # as many as a model may have
+LIMIT = 33_554_432  # the bytes that a model may have
+COLUMNS = ROWS = 8000  # as many as a model may have
+SHORTEST = 15  # the bytes of the shortest line of an entry of the plain text
 FIELD = 255  # the bytes that a field may have
 COLLIDING = 100_000  # names that collide
 BITS = 14  # the last bits of the hash that they share: a table of so many names has 2^14 groups, and the last bits choose the first one
@@ -32,7 +33,7 @@ def plain(rows, entries):
     lines = ["NAME plain", "ROWS", " N cost"] + [f" G row{i}" for i in range(rows)]
     lines += ["COLUMNS", " mark 'MARKER' 'INTORG'"]
     for j in range(COLUMNS):
-        lines.append(f" column{j} cost {j - 500}")
+        lines.append(f" column{j} cost {j - COLUMNS // 2}")
         lines += [f" column{j} row{(7 * j + k) % rows} {1 + (j + k) % 9}" for k in range(entries)]
     lines += [" mark 'MARKER' 'INTEND'", "RHS"] + [f" rhs row{i} 1" for i in range(rows)]
     lines += ["BOUNDS"] + [f" FX box column{j} 3" for j in range(COLUMNS)] + ["ENDATA", ""]
@@ -41,7 +42,7 @@ def plain(rows, entries):
 
 def largest():
     """The plain text of this form with most entries that is within the limit."""
-    fits, beyond = 1, ROWS + 1
+    fits, beyond = 1, min(ROWS, LIMIT // (SHORTEST * COLUMNS)) + 1
     while beyond - fits > 1:
         middle = (fits + beyond) // 2
         fits, beyond = (middle, beyond) if len(plain(ROWS, middle)) <= LIMIT else (fits, middle)
@@ -67,7 +68,7 @@ def repeated(line, room=ROOM):
     return line * (room // len(line))
 
 
-def numbered(form, count=600_000):
+def numbered(form, count=4_800_000):
     return [form % number for number in range(count)]
 
 
@@ -78,15 +79,15 @@ def pairs(first, second, section):
 
 
 def longest_numbers():
-    """16 columns with an entry of the longest number in each of 900 rows."""
-    rows = "".join(f" G r{row}\n" for row in range(900))
-    columns = filled([f" c{column} r{row} {LONGEST}\n" for column in range(16) for row in range(900)][:14_000])
+    """16 columns with an entry of the longest number in each of 7,200 rows."""
+    rows = "".join(f" G r{row}\n" for row in range(7200))
+    columns = filled([f" c{column} r{row} {LONGEST}\n" for column in range(16) for row in range(7200)])
     return cut(around(rows=rows, columns=columns, bounds="".join(f" FX box c{column} 3\n" for column in range(16))))
 
 
 def longest_columns():
-    """900 columns whose names have 255 bytes, with entries in some rows."""
-    names = [str(column).rjust(FIELD, "c") for column in range(900)]
+    """7,200 columns whose names have 255 bytes, with entries in some rows."""
+    names = [str(column).rjust(FIELD, "c") for column in range(7200)]
     rows = "".join(f" G r{row}\n" for row in range(14))
     columns = "".join(f" {name} r{row} 1\n" for name in names for row in range(14))
     return cut(around(rows=rows, columns=columns, bounds="".join(f" FX box {name} 3\n" for name in names)))
@@ -127,15 +128,15 @@ def texts():
     yield "empty lines with CR", around(rows=repeated("\r\n"))
     yield "blanks", around(rows=" " * (ROOM - 1) + "\n")
     yield "ROWS: further N rows", around(rows=filled(numbered(" N %x\n")))
-    yield "ROWS: names of 255 bytes", around(rows=filled([f" N {name}\n" for name in (str(n).rjust(FIELD, "n") for n in range(20_000))]))
+    yield "ROWS: names of 255 bytes", around(rows=filled([f" N {name}\n" for name in (str(n).rjust(FIELD, "n") for n in range(160_000))]))
     yield OTHERS, further(others())
     yield COLLIDE, further(colliding())
-    yield "COLUMNS: entries of further N rows", pairs(" N %05x\n", " x %05x 1\n", "columns")
+    yield "COLUMNS: entries of further N rows", pairs(" N %06x\n", " x %06x 1\n", "columns")
     yield "COLUMNS: the longest numbers", longest_numbers()
     yield "COLUMNS: names of 255 bytes", longest_columns()
     yield "COLUMNS: markers", around(columns=repeated(" m 'MARKER' 'INTEND'\n m 'MARKER' 'INTORG'\n"))
-    yield "RHS: sides of further N rows", pairs(" N %05x\n", " rhs %05x 1\n", "sides")
-    yield "RANGES: ranges of further N rows", pairs(" N %05x\n", " rng %05x 1\n", "ranges")
+    yield "RHS: sides of further N rows", pairs(" N %06x\n", " rhs %06x 1\n", "sides")
+    yield "RANGES: ranges of further N rows", pairs(" N %06x\n", " rng %06x 1\n", "ranges")
     yield "BOUNDS: one bound again and again", around(bounds=repeated(" LO x 3\n"))
     yield "BOUNDS: the longest numbers", around(bounds=repeated(f" LO x {'3'.rjust(FIELD, '0')}\n"))
     yield "BOUNDS: a set's name of 255 bytes", around(bounds=repeated(f" LO {'s' * FIELD} x 3\n", ROOM - FIELD)).replace(" box ", f" {'s' * FIELD} ")

@@ -101,7 +101,7 @@ impl<'a> Reader<'a> {
             b"E" => Some(Sense::E),
             _ => return Err("BadFields"),
         };
-        if sense.is_some() && self.made.len() > 1000 {
+        if sense.is_some() && self.made.len() > 8000 {
             return Err("TooMany");
         }
         if self.rows.insert(name, self.made.len()).is_some() {
@@ -118,7 +118,7 @@ impl<'a> Reader<'a> {
             if self.columns.contains_key(column) {
                 return Err("Duplicate");
             }
-            if self.names.len() >= 1000 {
+            if self.names.len() >= 8000 {
                 return Err("TooMany");
             }
             self.columns.insert(column, self.names.len());

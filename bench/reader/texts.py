@@ -1,9 +1,10 @@
-# The texts that bench/reader.sh reads, each of near 4 MiB, the most that is read: python3 texts.py FOLDER
+# The texts that bench/reader.sh reads, each of near 32 MiB, the most that is read: python3 texts.py FOLDER
 import itertools
 import os
 import sys
 
-LIMIT = 4_194_304
+LIMIT = 33_554_432
+COLUMNS = ROWS = 8000
 VISIBLE = [chr(byte) for byte in range(0x21, 0x7F)]
 
 
@@ -26,22 +27,22 @@ def filled(head, lines, tail):
 
 
 def model():
-    """1,000 columns and 1,000 rows, names of 8 to 10 characters, two entries a line, values such as -12.25."""
+    """8,000 columns and 8,000 rows, names of 9 to 10 characters, two entries a line, values such as -12.25."""
     head = ["NAME model", "ROWS", " N objective"]
-    head += [f" {'GL'[i % 2]} row_{i:05}" for i in range(1000)]
+    head += [f" {'GL'[i % 2]} row_{i:05}" for i in range(ROWS)]
     head += ["COLUMNS", " marker 'MARKER' 'INTORG'"]
-    tail = ["RHS"] + [f" right row_{i:05} {i}.5" for i in range(1000)]
-    tail += ["BOUNDS"] + [f" UP bound column{j:03} {1 + j % 9}" for j in range(1000)] + ["ENDATA", ""]
+    tail = ["RHS"] + [f" right row_{i:05} {i}.5" for i in range(ROWS)]
+    tail += ["BOUNDS"] + [f" UP bound column{j:04} {1 + j % 9}" for j in range(COLUMNS)] + ["ENDATA", ""]
     room = LIMIT - sum(len(line) + 1 for line in head + tail)
-    per_column = room // 1000
+    per_column = room // COLUMNS
     columns = []
-    for j in range(1000):
+    for j in range(COLUMNS):
         left, k = per_column, 0
         while True:
-            i = (7 * j + 2 * k) % 1000
+            i = (7 * j + 2 * k) % ROWS
             value = (j * 31 + k * 17) % 4000 - 1999
-            line = f" column{j:03} row_{i:05} {value / 100 if value else 1.25} row_{(i + 1) % 1000:05} {value + 4000}.25"
-            if len(line) + 1 > left or k == 500:
+            line = f" column{j:04} row_{i:05} {value / 100 if value else 1.25} row_{(i + 1) % ROWS:05} {value + 4000}.25"
+            if len(line) + 1 > left or k == ROWS // 2:
                 break
             columns.append(line)
             left -= len(line) + 1
@@ -62,7 +63,7 @@ def dense(rows, columns, value, ranged=False):
 
 def small_rows():
     """As many rows of type N as there is room for."""
-    return filled(["ROWS"], (f" N {row}" for row in names(600_000, 3)), ["COLUMNS", "ENDATA"])
+    return filled(["ROWS"], (f" N {row}" for row in names(4_400_000, 3)), ["COLUMNS", "ENDATA"])
 
 
 def with_rows(count, length, heads):
@@ -83,51 +84,48 @@ def bounds(line, columns):
 
 
 def digits():
-    """One number of a million digits."""
-    return ("ROWS\n N o\nCOLUMNS\n x o " + "1" * 1_000_000 + "\n" + "\n" * LIMIT)[:LIMIT]
+    """One number of eight million digits."""
+    return ("ROWS\n N o\nCOLUMNS\n x o " + "1" * 8_000_000 + "\n" + "\n" * LIMIT)[:LIMIT]
 
 
 def sections():
     """Texts that are long in one section."""
     entry = [("COLUMNS\n m 'MARKER' 'INTORG'", " x ", "0")]
-    return {
-        "names": filled(["ROWS"], (f" N r{i}" for i in range(400_000)), []),
-        "short_names": small_rows(),
-        "columns": filled(["ROWS", " N o", "COLUMNS"], (f" x{i} o 1" for i in range(400_000)), []),
-        "row_named": with_rows(282_000, 3, entry),
-        "row_ones": with_rows(282_000, 3, [("COLUMNS\n m 'MARKER' 'INTORG'", " x ", "1")]),
-        "row_sides": with_rows(310_000, 3, [("COLUMNS\nRHS", " ", "0")]),
-        "row_both": with_rows(209_000, 3, [("COLUMNS\nRHS", " ", "1"), ("RANGES", " ", "1")]),
-        "dense": dense(1000, 590, "1"),
-        "dense_few": dense(590, 1000, "1"),
-        "dense_zero": dense(1000, 590, "0"),
-        "dense_fine": dense(1000, 370, "1e-15"),
-        "dense_wide": dense(1000, 150, "12345.678901234567891"),
-        "ranged": dense(500, 1000, "1", True),
-        "ranged_fine": dense(500, 740, "1e-15", True),
-        "ranged_wide": dense(500, 300, "12345.678901234567891", True),
-        "bounds_few": bounds(" UP {} 9", 3),
-        "bounds_many": bounds(" UP {} 9", 1000),
-        "bounds_free": bounds(" FR {}", 90),
-        "bounds_fine": bounds(" UP {} 1e-15", 1000),
-    }
+    yield "names", filled(["ROWS"], (f" N r{i}" for i in range(3_600_000)), [])
+    yield "short_names", small_rows()
+    yield "columns", filled(["ROWS", " N o", "COLUMNS"], (f" x{i} o 1" for i in range(3_200_000)), [])
+    yield "row_named", with_rows(2_120_000, 3, entry)
+    yield "row_ones", with_rows(2_120_000, 3, [("COLUMNS\n m 'MARKER' 'INTORG'", " x ", "1")])
+    yield "row_sides", with_rows(2_260_000, 3, [("COLUMNS\nRHS", " ", "0")])
+    yield "row_both", with_rows(1_560_000, 3, [("COLUMNS\nRHS", " ", "1"), ("RANGES", " ", "1")])
+    yield "dense", dense(ROWS, 590, "1")
+    yield "dense_few", dense(590, COLUMNS, "1")
+    yield "dense_zero", dense(ROWS, 590, "0")
+    yield "dense_fine", dense(ROWS, 370, "1e-15")
+    yield "dense_wide", dense(ROWS, 150, "12345.678901234567891")
+    # each row with a range counts twice
+    yield "ranged", dense(ROWS // 2, 1180, "1", True)
+    yield "ranged_fine", dense(ROWS // 2, 740, "1e-15", True)
+    yield "ranged_wide", dense(ROWS // 2, 300, "12345.678901234567891", True)
+    yield "bounds_few", bounds(" UP {} 9", 3)
+    yield "bounds_many", bounds(" UP {} 9", COLUMNS)
+    yield "bounds_free", bounds(" FR {}", 90)
+    yield "bounds_fine", bounds(" UP {} 1e-15", COLUMNS)
 
 
 def hostile():
     """Texts that are refused, or hold little, and are long in one way each."""
-    return {
-        "digits": digits(),
-        "line": "ROWS\n " + "N" * (LIMIT - 7) + "\n",
-        "fields": "ROWS\n " + "N " * (LIMIT // 2 - 4) + "\n",
-        "empty": "\n" * LIMIT,
-        "blank": " " * LIMIT,
-        "comments": ("*" * 63 + "\n") * (LIMIT // 64),
-        "stars": "*\n" * (LIMIT // 2),
-    }
+    yield "digits", digits()
+    yield "line", "ROWS\n " + "N" * (LIMIT - 7) + "\n"
+    yield "fields", "ROWS\n " + "N " * (LIMIT // 2 - 4) + "\n"
+    yield "empty", "\n" * LIMIT
+    yield "blank", " " * LIMIT
+    yield "comments", ("*" * 63 + "\n") * (LIMIT // 64)
+    yield "stars", "*\n" * (LIMIT // 2)
 
 
 folder = sys.argv[1]
-for name, text in [("model", model())] + sorted((sections() | hostile()).items()):
+for name, text in itertools.chain([("model", model())], sections(), hostile()):
     assert len(text) <= LIMIT, (name, len(text))
     with open(os.path.join(folder, name + ".mps"), "w") as file:
         file.write(text)

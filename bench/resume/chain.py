@@ -1,7 +1,8 @@
 """A journal whose tree is a chain: chain.py SPLITS [deepest | first] writes it to standard output.
 
 Each split is made in the right child of the one before, so the last nodes lie at the depth SPLITS. With `deepest` or `first` a point is offered
-behind the splits, and all leaves are closed: from the deepest one up, or from the first one down. `docs/JOURNAL.md` has the format.
+behind the splits, and all leaves are closed: from the deepest one up, or from the first one down. `docs/JOURNAL.md` has the format; the journal
+is in encoding 1, without the record of the upgrade.
 """
 
 import sys

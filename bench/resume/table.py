@@ -7,6 +7,11 @@ import subprocess
 import sys
 
 BENCH = os.path.dirname(os.path.dirname(os.path.abspath(__file__)))
+sys.dont_write_bytecode = True
+sys.path.append(os.path.join(os.path.dirname(BENCH), "tools"))
+
+from bnc_tools.journal import GROUP, MARK, SPLIT, Payload, encodings, records, single_events
+
 # kind, columns, rows, seed, budget of nodes, cuts: without cuts the journal has 50,002 events
 LONG = (
     ("knapsack", 50, 5, 2, 50_001, 0),
@@ -30,7 +35,7 @@ SPENT = 8
 
 folder, program = sys.argv[1:3]
 others = sys.argv[3:4]
-journal, copied, certificate = (os.path.join(folder, name) for name in ("journal", "copied", "certificate"))
+journal, older, copied, certificate = (os.path.join(folder, name) for name in ("journal", "older", "copied", "certificate"))
 
 
 def run(*words, status=0):
@@ -78,20 +83,34 @@ def make_large(columns, rows, bits):
     return path
 
 
+def payloads_of_journal():
+    with open(journal, "rb") as file:
+        return [content for _, content in records(file, journal)]
+
+
 def cramped_steps():
     """How many splits of the journal there are, and how many of these name a cramped run (docs/JOURNAL.md has the format)."""
-    with open(journal, "rb") as file:
-        content = file.read()
     splits = cramped = 0
-    gate = 8
-    while content[gate] == 1:
-        size = int.from_bytes(content[gate + 1 : gate + 5], "little")
-        payload = content[gate + 5 : gate + 5 + size]
-        if payload[0] == 4:
+    for payload, encoding in encodings(payloads_of_journal()):
+        if payload[0] == SPLIT:
             splits += 1
-            cramped += payload[17] == 1
-        gate += 5 + size
+            cramped += Payload(payload, encoding).events()[0].reason == "cramped"
     return splits, cramped
+
+
+def write_older():
+    """Writes the journal as a program that knows encoding 1 alone would have: the same events in each payload, and no record of the upgrade."""
+    payloads = payloads_of_journal()
+    with open(older, "wb") as file:
+        file.write(MARK)
+        for payload in payloads[:1] + [in_encoding_1(payload, encoding) for payload, encoding in encodings(payloads)]:
+            file.write(b"\x01" + len(payload).to_bytes(4, "little") + payload)
+        file.write(b"\x00")
+
+
+def in_encoding_1(payload, encoding):
+    codes = single_events(payload, encoding)
+    return b"".join([bytes([GROUP, len(codes)]) if len(codes) > 1 else b""] + codes)
 
 
 def number(lines, name):
@@ -125,22 +144,39 @@ def read_row(command, words, status, searched=None):
     print(f"{command:8} {events:,} events, {size / 1e6:.1f} MB: {least[0]:5.2f} s, {events / least[0]:9,.0f} events/s, peak {peak / size:.2f} times the journal{ratio}")
 
 
+def older_row():
+    """A line on the journal beside the same in encoding 1: their bytes, and the times of `show`."""
+    write_older()
+    size, older_size = os.path.getsize(journal), os.path.getsize(older)
+    seen = {path: [] for path in (journal, older)}
+    for _ in range(RUNS):
+        for path, runs in seen.items():
+            runs.append(run(program, "show", path))
+    if len({lines for runs in seen.values() for lines, _, _ in runs}) != 1:
+        sys.exit("show: other lines of the journal in encoding 1")
+    own, other = (min(seconds for _, seconds, _ in runs) for runs in seen.values())
+    print(f"in encoding 1 {older_size / 1e6:.1f} MB: the journal has {size / older_size:.3f} of its bytes, and is read in {own / other:.2f} of its time")
+
+
 for kind, columns, rows, seed, budget, cuts in LONG:
     print(f"{kind} {columns} x {rows}, {seed}, cuts {cuts}:")
     solve(make(kind, columns, rows, seed), budget, cuts)
     read_row("show", (), 0)
     read_row("resume", (certificate, "--cuts", cuts, "--nodes", budget), SPENT)
+    older_row()
 for name, coefficients, budget in DEEP:
     nodes, searched = solve(make_equality(name, coefficients), budget, 0)
     print(f"equality knapsack, {name}: {nodes:,} nodes searched in {searched:.2f} s")
     read_row("show", (), 0, searched)
     read_row("resume", (certificate, "--cuts", 0, "--nodes", budget), SPENT, searched)
+    older_row()
 for columns, rows, bits, budget in CRAMPED:
     nodes, searched = solve(make_large(columns, rows, bits), budget, 0)
     splits, cramped = cramped_steps()
     print(f"rows of large numbers, {columns} x {rows}: {nodes:,} nodes searched in {searched:.2f} s, {cramped:,} of {splits:,} splits name a cramped run")
     read_row("show", (), 0, searched)
     read_row("resume", (certificate, "--cuts", 0, "--nodes", budget), SPENT, searched)
+    older_row()
 for order in ("", "deepest", "first"):
     with open(journal, "wb") as file:
         subprocess.run([sys.executable, os.path.join(BENCH, "resume", "chain.py"), str(CHAIN), order], stdout=file, check=True)

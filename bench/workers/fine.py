@@ -42,7 +42,7 @@ def run_for(seconds, program, model, folder, workers):
     time.sleep(seconds)
     process.send_signal(signal.SIGKILL)
     _, _, usage = os.wait4(process.pid, 0)
-    return payloads(journal) - 1, (usage.ru_utime + usage.ru_stime) / seconds, usage.ru_nvcsw / seconds
+    return payloads(journal) - 2, (usage.ru_utime + usage.ru_stime) / seconds, usage.ru_nvcsw / seconds
 
 
 def fine(program, folder):
