@@ -136,18 +136,23 @@ fn odd_journal(alloc: Global, journal: &[u8], frames: &[u8]) -> Result<Vec<u8>, 
     Ok(made)
 }
 
-/// A search that an older program left whose budget was spent, and that goes on.
+/// A search that an older program left whose budget was spent, with these bytes, and that goes on, with the bytes that it leaves then.
+fn show_split<R: Print + Alloc<A = Global>>(rt: &R, bytes: &[u8], left: &[u8]) -> Result<()> {
+    show_line(rt, "an older split", SHOW, "", bytes)?;
+    let command = Command {
+        bytes,
+        ..usual(RESUME, "")
+    };
+    let more = More::Same("gone on with in encoding 2", left);
+    show_command(rt, "an older split", &command, more)
+}
+
+/// The same with its journals.
 fn show_older_split<R: Print + Alloc<A = Global>>(rt: &R) -> Result<()> {
     let whole = Answered::run(rt.alloc(), &usual("solve m j c --cuts 0", ODD))?;
     let bytes = odd_journal(rt.alloc(), whole.disk.bytes(), OLDER_SPLIT)?;
     let left = odd_journal(rt.alloc(), whole.disk.bytes(), GONE_ON)?;
-    show_line(rt, "an older split", SHOW, "", &bytes)?;
-    let command = Command {
-        bytes: &bytes,
-        ..usual(RESUME, "")
-    };
-    let more = More::Same("gone on with in encoding 2", &left);
-    show_command(rt, "an older split", &command, more)
+    show_split(rt, &bytes, &left)
 }
 
 /// Journals in which the upgrade stands where it may.
