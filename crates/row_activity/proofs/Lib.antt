@@ -1,3 +1,4 @@
 pub mod Steps
+pub mod IntegerSteps
 pub mod Rows
 pub mod First

@@ -1,5 +1,6 @@
 pub mod Activity
 pub mod Fitting
+pub mod IntegerSums
 pub mod Extremes
 pub mod Verdicts
 pub mod Meaning
