@@ -1,31 +1,52 @@
 //! Whether a worker is in the way of others.
 //!
 //! Where a node takes about as long as the turns that it needs, more workers gain nothing: they wait for one another, and the pool moves from core to
-//! core. Then a worker but the first sleeps for some milliseconds between two nodes. The others go on at full speed, and the sleeper comes back soon enough
-//! where nodes get dear again. All this is counted in turns, since no clock is at hand: the turns of others for which the worker waited, and those that ended while it
-//! worked on its own.
+//! core. Then a worker but the first rests between two nodes, and longer each time that it finds no room. The others go on at full speed, and the one
+//! that rests comes back where nodes get dear again. All this is counted in turns, since no clock is at hand: the turns of others for which the worker
+//! waited, and those that ended while it worked on its own.
 
 use turn_lock::Traffic;
-
-/// For how many crowded nodes more than others a worker of rank 1 stays.
-const PATIENCE: u32 = 8;
 
 /// How many turns of others have to end while a worker works on its own, for each turn for which it waits.
 const SHARE: u64 = 4;
 
-/// How long a worker sleeps, in microseconds: so long at first, twice as long each time, and no longer than this.
-const NAP: u64 = 1_000;
+/// For how many turns more than that a worker waits until it leaves, for each worker that is less patient, and itself. Turns for which it waited by
+/// chance are outweighed by those that end later. Where workers are in each other's way so many come together within a few nodes.
+const PATIENCE: u64 = 8;
 
-const LONGEST: u64 = 16_000;
+/// The same of a worker that rested, and tries whether the others leave room for it.
+const PATIENCE_OF_TRIAL: u64 = 2;
+
+/// For how many nodes such a worker tries.
+const TRIAL: u32 = 4;
+
+/// How long a worker rests, in microseconds: so long at first, and so many times as long where it finds no room, but no longer than this. A longer
+/// rest leaves workers out where nodes get dear, and by shorter ones those that come to look cost the others some percent of their speed.
+const NAP: u64 = 4_000;
+
+const GROWTH: u64 = 4;
+
+const LONGEST: u64 = 256_000;
+
+/// What a worker is to do before it claims the next node.
+#[derive(Clone, Copy, Debug, PartialEq, Eq)]
+pub(crate) enum Advice {
+    /// Nothing.
+    GoOn,
+    /// Tell the others that it is at work again: there is room for it.
+    Stay,
+    /// Rest for so many microseconds, since it is in the way of others.
+    Rest { nap: u64 },
+}
 
 /// What a worker does about the others.
 #[derive(Clone, Copy, Debug, PartialEq, Eq)]
 enum Stance {
-    /// It stays. So many more nodes were crowded than not.
-    Stays { crowded: u32 },
-    /// It slept, and has settled no node since.
-    Slept,
-    /// It slept, and tries for so many nodes more whether the others leave room for it.
+    /// It is at work.
+    Stays,
+    /// It rests, or has claimed no node since.
+    Rests,
+    /// It rested, and tries for so many nodes more whether the others leave room for it.
     Tries { nodes: u32 },
 }
 
@@ -33,76 +54,88 @@ enum Stance {
 #[derive(Clone, Copy, Debug, PartialEq, Eq)]
 pub(crate) struct Crowd {
     stance: Stance,
-    // The traffic at the last node, and of one who tries at the first node after the sleep.
+    // The traffic at the last node.
     since: Traffic,
-    // For how many crowded nodes the worker stays.
-    patience: u32,
+    // How many turns too many the worker waited for of late, times `SHARE`.
+    excess: u64,
+    // At how many it leaves, times `SHARE`.
+    patience: u64,
     nap: u64,
-}
-
-/// Whether the worker waited for too many turns between these two.
-fn is_crowded(since: Traffic, now: Traffic) -> bool {
-    let waited = now.waited().wrapping_sub(since.waited());
-    let passed = now.passed().wrapping_sub(since.passed());
-    waited.saturating_mul(SHARE) > passed
 }
 
 impl Crowd {
     /// Nothing seen yet. The rank is the number of workers that are less patient, and this one.
     pub(crate) fn new(rank: u32) -> Crowd {
         Crowd {
-            stance: Stance::Stays { crowded: 0 },
+            stance: Stance::Stays,
             since: Traffic::none(),
-            patience: rank.saturating_mul(PATIENCE),
+            excess: 0,
+            patience: u64::from(rank).saturating_mul(PATIENCE * SHARE),
             nap: NAP,
         }
     }
 
-    // How long the worker sleeps, from now on.
-    fn sleeps(&mut self) -> u64 {
-        let nap = self.nap;
-        self.nap = nap.saturating_mul(2).min(LONGEST);
-        self.stance = Stance::Slept;
-        nap
+    // Notes the turns of others since the last node.
+    fn note(&mut self, traffic: Traffic) {
+        let waited = traffic.waited().wrapping_sub(self.since.waited());
+        let passed = traffic.passed().wrapping_sub(self.since.passed());
+        self.since = traffic;
+        self.excess = self
+            .excess
+            .saturating_add(waited.saturating_mul(SHARE))
+            .saturating_sub(passed);
     }
 
-    /// Notes a node that was settled. Where the worker is in the way of others: how long it has to sleep, in microseconds.
-    ///
-    /// One who slept is judged by all nodes since, and so leaves soon where nothing has changed. What passed while it slept doesn't count.
-    pub(crate) fn leaves(&mut self, traffic: Traffic) -> Option<u64> {
-        let is_crowded = is_crowded(self.since, traffic);
+    /// The worker found no node to work on: the turns that it took to ask for one don't count.
+    pub(crate) fn forget(&mut self, traffic: Traffic) {
+        self.since = traffic;
+    }
+
+    /// The worker has claimed a node. Behind a rest it tries from now on: it may have waited for its claim, but what passed until then passed while it
+    /// slept.
+    pub(crate) fn claimed(&mut self, traffic: Traffic) {
+        if self.stance != Stance::Rests {
+            return;
+        }
+        let waited = traffic.waited().wrapping_sub(self.since.waited());
+        self.since = traffic;
+        self.excess = waited.saturating_mul(SHARE);
+        self.stance = Stance::Tries { nodes: TRIAL };
+    }
+
+    // The worker is in the way of others.
+    fn rest(&mut self) -> Advice {
+        let nap = self.nap;
+        self.nap = nap.saturating_mul(GROWTH).min(LONGEST);
+        self.stance = Stance::Rests;
+        Advice::Rest { nap }
+    }
+
+    // A node was settled by a worker that has to try for so many nodes, this one among them.
+    fn try_on(&mut self, nodes: u32) -> Advice {
+        if self.excess >= PATIENCE_OF_TRIAL * SHARE {
+            return self.rest();
+        }
+        if nodes > 1 {
+            self.stance = Stance::Tries { nodes: nodes - 1 };
+            return Advice::GoOn;
+        }
+        self.stance = Stance::Stays;
+        self.nap = NAP;
+        Advice::Stay
+    }
+
+    /// Notes a node that was settled, and says what the worker is to do.
+    pub(crate) fn advice(&mut self, traffic: Traffic) -> Advice {
+        self.note(traffic);
         match self.stance {
-            Stance::Stays { crowded } => {
-                self.since = traffic;
-                let crowded = if is_crowded {
-                    crowded.saturating_add(1)
-                } else {
-                    crowded.saturating_sub(1)
-                };
-                if crowded >= self.patience {
-                    return Some(self.sleeps());
+            Stance::Tries { nodes } => self.try_on(nodes),
+            _ => {
+                if self.excess >= self.patience {
+                    return self.rest();
                 }
-                self.stance = Stance::Stays { crowded };
-            }
-            Stance::Slept => {
-                self.since = traffic;
-                self.stance = Stance::Tries {
-                    nodes: self.patience,
-                };
-            }
-            Stance::Tries { nodes } => {
-                if is_crowded {
-                    return Some(self.sleeps());
-                }
-                if nodes > 1 {
-                    self.stance = Stance::Tries { nodes: nodes - 1 };
-                } else {
-                    self.since = traffic;
-                    self.stance = Stance::Stays { crowded: 0 };
-                    self.nap = NAP;
-                }
+                Advice::GoOn
             }
         }
-        None
     }
 }

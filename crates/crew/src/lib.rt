@@ -6,6 +6,7 @@ mod cuts;
 mod node_view;
 mod node_work;
 mod pause;
+mod roster;
 mod run;
 mod settings;
 mod side_by_side;

@@ -3,9 +3,10 @@ ghost use Rattle.std.specs.Prelude.{◌≡◌, ◌<◌, length};
 ghost use Rattle.crew.specs.Gates.{worker_at, IsReadyGate, EachAt, EachChange};
 ghost use Rattle.crew.specs.Lists.{Worked, IsOver};
 
+use crate::roster::Roster;
 use crate::settings::Settings;
 use crate::thread_count::threads_for;
-use crate::worker_loop::work;
+use crate::worker_loop::work_beside;
 use outside::Hold;
 use problem::Problem;
 use std::alloc::Global;
@@ -22,6 +23,7 @@ fn work_at<G: PoolGate, R: Wait, H: Hold>(
     problem: &Problem,
     settings: &Settings,
     hold: &H,
+    roster: &Roster,
 )
     requires place { index < settings.now.workers }
     requires ready { IsReadyGate problem.now (worker_at settings.now.workers index) (G.worker gate.old) (G.seen gate.old) }
@@ -31,7 +33,7 @@ fn work_at<G: PoolGate, R: Wait, H: Hold>(
     ensures over { IsOver (G.seen gate.new) }
 {
     let number = settings.workers - 1 - index as u32;
-    work(rt, alloc, number, gate, problem, settings, hold)
+    work_beside(rt, alloc, number, gate, problem, settings, hold, roster)
 }
 
 /// Each worker works at its gate, in a thread of its own where one can be made, else one after another. The gate of the worker of greatest number comes first, and that of worker 0 last.
@@ -51,11 +53,14 @@ pub(crate) fn work_each<G: PoolGate + Send, R: Threads + Wait + Sync, H: Hold + 
     ensures worked { EachChange (λ g h. Worked (G.worker g) (G.seen g) (G.seen h)) gates.old gates.new }
     ensures over { EachChange (λ g h. IsOver (G.seen h)) gates.old gates.new }
 {
+    let roster = Roster::new();
     let threads = threads_for(alloc, gates.len());
     for_each_mut(
         rt,
         gates,
         threads,
-        &|index: usize, gate: &mut G| { work_at(rt, alloc, index, gate, problem, settings, hold) },
+        &|index: usize, gate: &mut G| {
+            work_at(rt, alloc, index, gate, problem, settings, hold, &roster)
+        },
     );
 }

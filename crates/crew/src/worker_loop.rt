@@ -8,6 +8,7 @@ ghost use Rattle.crew.specs.Workers.{Knows};
 
 use crate::node_work::work_on;
 use crate::pause::Pauses;
+use crate::roster::Roster;
 use crate::settings::Settings;
 use crate::worker::Worker;
 use node_pool::Claim;
@@ -67,6 +68,7 @@ fn round<R: Wait, G: PoolGate>(
     problem: &Problem,
     worker: &mut Worker,
     limit: u32,
+    pauses: &mut Pauses<'_>,
 ) -> Progress
     requires opened { is_opened (G.seen gate.old) ≡ true }
     requires none { HoldsNone (G.worker gate.old) (G.seen gate.old) }
@@ -80,6 +82,7 @@ fn round<R: Wait, G: PoolGate>(
 {
     match take(rt, alloc, gate) {
         Taken::Node(node) => {
+            pauses.claimed(gate.traffic());
             if work_on(rt, alloc, gate, problem, worker, node, limit) {
                 Progress::Settled
             } else {
@@ -101,6 +104,7 @@ fn go_on<R: Wait, G: PoolGate, H: Hold>(
     settings: &Settings,
     number: u32,
     hold: &H,
+    roster: &Roster,
 )
     requires number { G.worker gate.old ≡ number }
     requires opened { is_opened (G.seen gate.old) ≡ true }
@@ -111,16 +115,59 @@ fn go_on<R: Wait, G: PoolGate, H: Hold>(
     ensures worked { Worked (G.worker gate.old) (G.seen gate.old) (G.seen gate.new) }
     ensures over { IsOver (G.seen gate.new) }
 {
-    let mut pauses = Pauses::new(number, settings.workers);
+    let mut pauses = Pauses::new(roster, settings.workers);
     for _ in rt.forever() {
         hold.asks(number);
-        match round(rt, alloc, gate, problem, worker, settings.cuts) {
+        match round(rt, alloc, gate, problem, worker, settings.cuts, &mut pauses) {
             Progress::Settled => pauses.settled(rt, gate.traffic()),
-            Progress::Idle => pauses.idle(rt),
+            Progress::Idle => pauses.idle(rt, gate.traffic()),
             Progress::Over => return,
         }
     }
     unreachable!()
+}
+
+/// The loop of a worker over any gate, until no node is open or the pool is halted. The gate is that of the worker of this number, and the problem that
+/// of the gate's pool.
+///
+/// Right before each claim the worker asks `hold`. It looks at its node outside the gate's calls, by its own copy of the cuts. Where it has no memory,
+/// or its events are refused, it gives its node back and halts the pool. However it ends, it holds no node.
+pub(crate) fn work_beside<R: Wait, G: PoolGate, H: Hold>(
+    rt: &R,
+    alloc: Global,
+    number: u32,
+    gate: &mut G,
+    problem: &Problem,
+    settings: &Settings,
+    hold: &H,
+    roster: &Roster,
+)
+    requires number { G.worker gate.old ≡ number }
+    requires opened { is_opened (G.seen gate.old) ≡ true }
+    requires problem { (state_in (G.seen gate.old)).problem ≡ problem.now }
+    requires none { HoldsNone (G.worker gate.old) (G.seen gate.old) }
+    ensures same { G.worker gate.new ≡ G.worker gate.old }
+    ensures stays { G.home gate.new ≡ G.home gate.old }
+    ensures worked { Worked (G.worker gate.old) (G.seen gate.old) (G.seen gate.new) }
+    ensures over { IsOver (G.seen gate.new) }
+{
+    let Ok(mut worker) = Worker::new(alloc, problem) else {
+        gate.halt(rt);
+        roster.end();
+        return;
+    };
+    go_on(
+        rt,
+        alloc,
+        gate,
+        problem,
+        &mut worker,
+        settings,
+        number,
+        hold,
+        roster,
+    );
+    roster.end();
 }
 
 /// The loop of a worker over any gate, until no node is open or the pool is halted. The gate is that of the worker of this number, and the problem that
@@ -146,18 +193,6 @@ pub fn work<R: Wait, G: PoolGate, H: Hold>(
     ensures worked { Worked (G.worker gate.old) (G.seen gate.old) (G.seen gate.new) }
     ensures over { IsOver (G.seen gate.new) }
 {
-    let Ok(mut worker) = Worker::new(alloc, problem) else {
-        gate.halt(rt);
-        return;
-    };
-    go_on(
-        rt,
-        alloc,
-        gate,
-        problem,
-        &mut worker,
-        settings,
-        number,
-        hold,
-    );
+    let roster = Roster::new();
+    work_beside(rt, alloc, number, gate, problem, settings, hold, &roster);
 }

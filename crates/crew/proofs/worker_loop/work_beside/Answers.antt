@@ -2,7 +2,7 @@ use Rattle.std.proofs.Common.{refl, sym, subst}
 use Rattle.worker_gate.specs.Entries.{state_in}
 use Rattle.crew.specs.Workers.{HasFirst}
 use Rattle.crew.proofs.Calling.{halt_over, halt_rests}
-use Rattle.crew.proofs.worker_loop.work.Goals as goal
+use Rattle.crew.proofs.worker_loop.work_beside.Goals as goal
 
 pub returns-in_default-clause-worked : goal.returns-in_default-clause-worked
 returns-in_default-clause-worked g c =
