@@ -1,8 +1,7 @@
 -- The answer at the end of a run, as the code makes it.
-use Rattle.std.specs.Prelude.{All, IfSome, IsSomeAnd, IfOk, Result, cond}
+use Rattle.std.specs.Prelude.{All, IfSome, IsSomeAnd, cond}
 use Rattle.std.proofs.Common.{◌≡◌, ℕ, ◌+◌, ◌-◌, ◌*◌, ◌^◌, ◌<◌, ◌≤◌, arith, refl, ap, sym, ◌∙◌, subst, Bool, true, false, Option, Some, None, List, [], length, take, drop, map}
 use Rattle.std.specs.Option.{option_map, option_and_then}
-use Rattle.std.proofs.lemmas.Result.{IfOk-weaker}
 use Rattle.std.proofs.lemmas.List.{length-map, length-append, length-take-le, take-append-drop}
 use Rattle.fraction.specs.Rational.{ℚ}
 use Rattle.problem_box.specs.declared.span.Span.{Span}
@@ -28,7 +27,6 @@ use Rattle.tableau.specs.Lemmas.Places.{IsNoColumn, no_column_is}
 use Rattle.tableau.specs.Lemmas.RunKeeps.{run_keeps}
 use Rattle.dual_simplex.specs.declared.answer.Answer.{Answer}
 use Rattle.dual_simplex.specs.declared.answer.Answer.TheVariants.{Infeasible, Optimal}
-use Rattle.dual_simplex.specs.declared.solution.Solution.{Solution}
 use Rattle.dual_simplex.specs.PointSums.{sums_fit}
 use Rattle.dual_simplex.specs.Answers.{linear_program, pivot_limit, run_of_start, run, HasPivots, infeasible_answer, optimal_answer, answer_or_cramped, answer_at, answer}
 use Rattle.dual_simplex.specs.Meaning.{IsTableauAt}
@@ -165,21 +163,6 @@ module _ (p : Problem) (cs : List Cut) (box : List Span) (u : Tableau) (q : Plac
       at : (o : Option Tableau) → IfSome o (λ s. IsSomeAnd (Some u) (λ t. t.pivots ≡ end.pivots))
       at None = tt
       at (Some s) = ends.pivots
-
-  -- of a solution
-  pub answers : {E : Type 0} (r : Result Solution E) → IfOk r (λ (s : Solution). s.answer ≡ answer_at p cs box u.pivots (Some u) q) → IfOk r (λ (s : Solution). s.answer ≡ answer p cs box)
-  answers r h =
-      IfOk-weaker r (λ (s : Solution). s.answer ≡ answer_at p cs box u.pivots (Some u) q) (λ (s : Solution). s.answer ≡ answer p cs box) (λ s e. e ∙ answer_is) h
-
-  pub leaves : {E : Type 0} (r : Result Solution E) → IfOk r (λ (s : Solution). s.tableau ≡ Some u) → IfOk r (λ (s : Solution). IfSome (run (linear_program p cs box)).tableau (λ v. s.tableau ≡ Some v))
-  leaves r h =
-      IfOk-weaker r (λ (s : Solution). s.tableau ≡ Some u) (λ (s : Solution). IfSome (run (linear_program p cs box)).tableau (λ v. s.tableau ≡ Some v))
-      (λ s e. subst (λ (o : Option Tableau). IfSome (run (linear_program p cs box)).tableau (λ v. o ≡ Some v)) (sym e) left_is) h
-
-  pub tells : {E : Type 0} (r : Result Solution E) → IfOk r (λ (s : Solution). s.tableau ≡ Some u) → IfOk r (λ (s : Solution). HasPivots (linear_program p cs box) s.tableau)
-  tells r h =
-      IfOk-weaker r (λ (s : Solution). s.tableau ≡ Some u) (λ (s : Solution). HasPivots (linear_program p cs box) s.tableau)
-      (λ s e. subst (HasPivots (linear_program p cs box)) (sym e) told) h
 
 -- a run that is that of the answer left tableau u, kept as v
 pub ends_so : (p : Problem) (cs : List Cut) (box : List Span) (e : RunEnd) (u v : Tableau) (q : Place) → run (linear_program p cs box) ≡ e → v ≡ u → EndsAs e q u → EndsAs (run (linear_program p cs box)) q v

@@ -1,5 +1,5 @@
 -- What the code knows at the end of a run. Only contracts of the code's own parts cite what stands here.
-use Rattle.std.specs.Prelude.{◌≡◌, ℕ, ◌<◌, true, List, [], length, All, IsSome}
+use Rattle.std.specs.Prelude.{◌≡◌, ℕ, ◌<◌, true, List, [], length, All, IfSome, IsSome, Some}
 use Rattle.problem_box.specs.declared.span.Span.{Span}
 use Rattle.problem.specs.Limited.{IsModestSpan}
 use Rattle.problem.specs.Linear.{Multipliers}
@@ -15,7 +15,9 @@ use Rattle.tableau.specs.Tableau.{Tableau}
 use Rattle.tableau.specs.Place.{place}
 use Rattle.tableau.specs.Multipliers.{point_of, mult_of_cost, mult_of_row}
 use Rattle.integer_tableau.specs.Denominator.{HasDenominator}
+use Rattle.dual_simplex.specs.declared.solution.Solution.{Solution}
 use Rattle.dual_simplex.specs.PointSums.{checked_sum, sums_fit}
+use Rattle.dual_simplex.specs.Answers.{linear_program, run, HasPivots, answer}
 use Rattle.dual_simplex.specs.Meaning.{IsTableauAt}
 
 -- a run whose last place isn't cramped ended with a tableau of the relaxation, at the place that this asks for
@@ -44,3 +46,9 @@ pub record IsSmallEnd (box : List Span) (t : Tableau) : Type 0 where
   pub modest : All IsModestSpan box
   pub denominator : ℕ
   pub over_denominator : HasDenominator denominator t
+
+-- what the run of the problem's rows and these cuts over the box answers, with the tableau that it left
+pub record IsSolution (p : Problem) (cuts : List Cut) (box : List Span) (s : Solution) : Type 0 where
+  pub answer : s.answer ≡ answer p cuts box
+  pub tableau : IfSome (run (linear_program p cuts box)).tableau (λ t. s.tableau ≡ Some t)
+  pub pivots : HasPivots (linear_program p cuts box) s.tableau

@@ -14,9 +14,10 @@ ghost use Rattle.dual_simplex.specs.Sizes.{IsIntegerRelaxation, most_numbered_cu
 use crate::answer::Answer;
 use crate::answering::answer_at;
 use crate::final_tableau::FinalTableau;
-use crate::integer_run::is_small;
 use crate::program::linear_program;
 use crate::solution::pivot_limit;
+use crate::whole_run::start;
+use crate::whole_tableau::WholeTableau;
 use derivation_book::Book;
 use integer_tableau::{IntegerProgram, IntegerRunEnd, IntegerTableau};
 use problem::Problem;
@@ -166,8 +167,8 @@ fn is_cramped_at_integers(
     ensures { IfOk result (λ b. IsTrue b ↔ (answer problem.now (take cuts book.now.cuts) area.now ≡ Answer.Cramped claim)) }
 {
     let IntegerRunEnd { place, tableau } = end;
-    let is_there = is_small(area, &tableau);
-    let tableau = FinalTableau::of_integers(tableau);
+    let is_there = tableau.is_small(area);
+    let tableau = tableau.into_final();
     is_cramped_at(
         alloc, problem, book, cuts, area, &tableau, place, is_there, claim,
     )
@@ -236,7 +237,7 @@ fn go_on(
     requires enough { (cap ≡ claim + 1) ⊎ (cap ≡ 20 * (length problem.now.spans + (length problem.now.rows + cuts)) + 100) }
     ensures { IfOk result (λ o. IfSome o (λ b. IsTrue b ↔ (answer problem.now (take cuts book.now.cuts) area.now ≡ Answer.Cramped claim))) }
 {
-    match IntegerTableau::start(alloc, program, area)? {
+    match start::<IntegerTableau>(alloc, problem, book, cuts, area, program)? {
         Some(start) => {
             is_cramped_behind(alloc, problem, book, cuts, area, start, pivots, cap, claim)
         }
@@ -291,7 +292,7 @@ pub(crate) fn is_cramped_by_integers(
     requires program { IsIntegerProgramOf problem.now (take cuts book.now.cuts) program.now }
     ensures { IfOk result (λ o. IfSome o (λ b. IsTrue b ↔ (answer problem.now (take cuts book.now.cuts) area.now ≡ Answer.Cramped claim))) }
 {
-    match IntegerTableau::start(alloc, program, area)? {
+    match start::<IntegerTableau>(alloc, problem, book, cuts, area, program)? {
         Some(start) => run_to_claim(alloc, problem, book, cuts, area, program, start, claim),
         None => Ok(None),
     }

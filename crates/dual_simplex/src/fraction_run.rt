@@ -1,8 +1,9 @@
 //! The run over exact fractions.
 
-ghost use Rattle.std.specs.Prelude.{◌≡◌, ◌+◌, ◌<◌, ◌≤◌, ◌^◌, IfOk, IfSome, Some, length, take};
+ghost use Rattle.std.specs.Prelude.{◌≡◌, ◌+◌, ◌<◌, ◌≤◌, ◌^◌, IfOk, length, take};
 ghost use Rattle.tableau.specs.Run.{run_from};
-ghost use Rattle.dual_simplex.specs.Answers.{linear_program, run, HasPivots, answer};
+ghost use Rattle.dual_simplex.specs.Answers.{linear_program, run};
+ghost use Rattle.dual_simplex.specs.Ends.{IsSolution};
 ghost use Rattle.dual_simplex.specs.Sizes.{most_numbered_cuts};
 
 use crate::answer::Answer;
@@ -29,9 +30,7 @@ pub(crate) fn run_on(
     requires columns { length area.now ≡ length problem.now.spans }
     requires few_pivots { tableau.pivots + cap < 2 ^ 32 }
     requires rest { run (linear_program problem.now (take cuts book.now.cuts) area.now) ≡ run_from cap tableau }
-    ensures answer { IfOk result (λ s. s.answer ≡ answer problem.now (take cuts book.now.cuts) area.now) }
-    ensures tableau { IfOk result (λ s. IfSome (run (linear_program problem.now (take cuts book.now.cuts) area.now)).tableau (λ t. s.tableau ≡ Some t)) }
-    ensures pivots { IfOk result (λ s. HasPivots (linear_program problem.now (take cuts book.now.cuts) area.now) s.tableau) }
+    ensures { IfOk result (IsSolution problem.now (take cuts book.now.cuts) area.now) }
 {
     let mut tableau = tableau;
     let place = tableau.run(alloc, cap)?;
@@ -50,9 +49,7 @@ pub(crate) fn solve_by_fractions(
     requires few { cuts ≤ length book.now.cuts }
     requires numbered { cuts < most_numbered_cuts }
     requires columns { length area.now ≡ length problem.now.spans }
-    ensures answer { IfOk result (λ s. s.answer ≡ answer problem.now (take cuts book.now.cuts) area.now) }
-    ensures tableau { IfOk result (λ s. IfSome (run (linear_program problem.now (take cuts book.now.cuts) area.now)).tableau (λ t. s.tableau ≡ Some t)) }
-    ensures pivots { IfOk result (λ s. HasPivots (linear_program problem.now (take cuts book.now.cuts) area.now) s.tableau) }
+    ensures { IfOk result (IsSolution problem.now (take cuts book.now.cuts) area.now) }
 {
     let program = linear_program(alloc, problem, book, cuts, area)?;
     match Tableau::start(alloc, program)? {

@@ -2,22 +2,22 @@
 
 ghost use Rattle.std.specs.Prelude.{◌≡◌, ◌↔◌, ◌<◌, ◌≤◌, ◌^◌, IsTrue, IfOk, IfSome, Some, length, take};
 ghost use Rattle.dual_simplex.specs.Answers.{linear_program, run, HasPivots, answer};
+ghost use Rattle.dual_simplex.specs.Ends.{IsSolution};
 ghost use Rattle.dual_simplex.specs.Prepared.{IsIntegerProgramOf, IsRelaxationOf};
 ghost use Rattle.dual_simplex.specs.Sizes.{most_numbered_cuts};
 
 use crate::answer::Answer;
 use crate::cramped_run::{is_cramped_by_fractions, is_cramped_by_integers};
 use crate::fraction_run::solve_by_fractions;
-use crate::integer_run::solve_by_integers;
 use crate::program::linear_program;
-use crate::scaled_run::solve_by_scales;
 use crate::sizes::is_integer_relaxation;
 use crate::solution::Solution;
+use crate::whole_run::solve_by;
 use derivation_book::Book;
-use integer_tableau::IntegerProgram;
+use integer_tableau::{IntegerProgram, IntegerTableau};
 use problem::Problem;
 use problem_box::IntBox;
-use scaled_program::ScaledProgram;
+use scaled_program::{ScaledProgram, ScaledTableau};
 use std::alloc::{AllocError, Global};
 use std::marker::Model;
 
@@ -111,12 +111,12 @@ impl Relaxation {
         requires few { self.now.cuts ≤ length book.now.cuts }
         requires prepared { IsRelaxationOf problem.now (take self.now.cuts book.now.cuts) self.now }
         requires columns { length area.now ≡ length problem.now.spans }
-        ensures answer { IfOk result (λ o. IfSome o (λ s. s.answer ≡ answer problem.now (take self.now.cuts book.now.cuts) area.now)) }
-        ensures tableau { IfOk result (λ o. IfSome o (λ s. IfSome (run (linear_program problem.now (take self.now.cuts book.now.cuts) area.now)).tableau (λ t. s.tableau ≡ Some t))) }
-        ensures pivots { IfOk result (λ o. IfSome o (λ s. HasPivots (linear_program problem.now (take self.now.cuts book.now.cuts) area.now) s.tableau)) }
+        ensures { IfOk result (λ o. IfSome o (IsSolution problem.now (take self.now.cuts book.now.cuts) area.now)) }
     {
         match &self.scaled {
-            Some(program) => solve_by_scales(alloc, problem, book, self.cuts, area, program),
+            Some(program) => solve_by::<ScaledTableau>(
+                alloc, problem, book, self.cuts, area, program,
+            ),
             None => Ok(None),
         }
     }
@@ -133,12 +133,12 @@ impl Relaxation {
         requires few { self.now.cuts ≤ length book.now.cuts }
         requires prepared { IsRelaxationOf problem.now (take self.now.cuts book.now.cuts) self.now }
         requires columns { length area.now ≡ length problem.now.spans }
-        ensures answer { IfOk result (λ o. IfSome o (λ s. s.answer ≡ answer problem.now (take self.now.cuts book.now.cuts) area.now)) }
-        ensures tableau { IfOk result (λ o. IfSome o (λ s. IfSome (run (linear_program problem.now (take self.now.cuts book.now.cuts) area.now)).tableau (λ t. s.tableau ≡ Some t))) }
-        ensures pivots { IfOk result (λ o. IfSome o (λ s. HasPivots (linear_program problem.now (take self.now.cuts book.now.cuts) area.now) s.tableau)) }
+        ensures { IfOk result (λ o. IfSome o (IsSolution problem.now (take self.now.cuts book.now.cuts) area.now)) }
     {
         match &self.program {
-            Some(program) => solve_by_integers(alloc, problem, book, self.cuts, area, program),
+            Some(program) => solve_by::<IntegerTableau>(
+                alloc, problem, book, self.cuts, area, program,
+            ),
             None => self.solution_by_scales(alloc, problem, book, area),
         }
     }

@@ -1,8 +1,9 @@
 //! What a run answers.
 
-ghost use Rattle.std.specs.Prelude.{◌≡◌, ◌<◌, ◌≤◌, ◌+◌, ◌*◌, ◌^◌, IsTrue, IfOk, length, take, Some};
-ghost use Rattle.dual_simplex.specs.Answers.{answer_at};
-ghost use Rattle.dual_simplex.specs.Ends.{IsEnd, IsAnswerThere};
+ghost use Rattle.std.specs.Prelude.{◌≡◌, ◌<◌, ◌≤◌, ◌+◌, ◌*◌, ◌^◌, IsTrue, IfOk, length, take};
+ghost use Rattle.tableau.specs.Run.{EndsAs};
+ghost use Rattle.dual_simplex.specs.Answers.{linear_program, run};
+ghost use Rattle.dual_simplex.specs.Ends.{IsAnswerThere, IsSolution};
 ghost use Rattle.dual_simplex.specs.Sizes.{most_numbered_cuts};
 
 use crate::answer::Answer;
@@ -33,7 +34,8 @@ pub(crate) fn pivot_limit(problem: &Problem, cuts: usize) -> u64
     20 * (problem.columns() + (problem.rows() + cuts)) as u64 + 100
 }
 
-/// The answer of a run that ended at this place with this tableau, as `answer_at` gives it, and the tableau. The one error is want of memory.
+/// What the run answers that ended at this place with this tableau, and the tableau. `is_there` says that no sum of its answer is cramped. The one error
+/// is want of memory.
 pub(crate) fn solution_at(
     alloc: Global,
     problem: &Problem,
@@ -47,10 +49,9 @@ pub(crate) fn solution_at(
     requires few { cuts ≤ length book.now.cuts }
     requires columns { length area.now ≡ length problem.now.spans }
     requires few_pivots { tableau.pivots < 2 ^ 32 }
-    requires end { IsEnd problem.now (take cuts book.now.cuts) area.now place tableau }
+    requires ends { EndsAs (run (linear_program problem.now (take cuts book.now.cuts) area.now)) place tableau }
     requires there { IsTrue is_there → IsAnswerThere problem.now (take cuts book.now.cuts) area.now place tableau }
-    ensures answer { IfOk result (λ s. s.answer ≡ answer_at problem.now (take cuts book.now.cuts) area.now tableau.pivots (Some tableau) place) }
-    ensures tableau { IfOk result (λ s. s.tableau ≡ Some tableau) }
+    ensures { IfOk result (IsSolution problem.now (take cuts book.now.cuts) area.now) }
 {
     let answer = answer_at(alloc, problem, book, cuts, area, &tableau, place, is_there)?;
     Ok(Solution {

@@ -1,31 +1,10 @@
-use Rattle.std.specs.Prelude.{IfSome}
-use Rattle.std.proofs.Common.{◌≡◌, ◌+◌, ◌*◌, refl, ap, sym, ◌∙◌, subst, Option, Some, length, map, take}
-use Rattle.derivation_book.specs.declared.cut.Cut.{Cut}
-use Rattle.tableau.specs.LinearProgram.{LinearProgram, over}
-use Rattle.tableau.specs.Lemmas.Started.{length-coefficients}
-use Rattle.tableau.specs.Tableau.{Tableau}
-use Rattle.tableau.specs.Start.{started}
-use Rattle.tableau.specs.Lemmas.Programs.{relaxation-over}
+use Rattle.std.proofs.Common.{◌+◌, ◌*◌, refl, length}
 use Rattle.dual_simplex.proofs.Stopping.{stopped_run}
 use Rattle.dual_simplex.proofs.cramped_run.go_on.Goals as goal
-use Rattle.problem.specs.Directions.{aim}
-
-pub start-requires : goal.start-requires
-start-requires c =
-    c.requires.columns
-    ∙ sym (ap (λ (l : LinearProgram). length l.costs) c.requires.program.is_program ∙ length-coefficients 0 (length c.args.problem.now.spans) (aim c.args.problem.now))
-
-pub is_cramped_behind-requires-clause-start : goal.is_cramped_behind-requires-clause-start
-is_cramped_behind-requires-clause-start c =
-    ap started (sym (ap (λ (l : LinearProgram). over l c.args.area.now) c.requires.program.is_program
-    ∙ relaxation-over c.args.problem.now (map (λ (d : Cut). d.row) (take c.args.cuts c.args.book.now.cuts)) c.args.problem.now.spans c.args.area.now c.requires.columns))
-    ∙ subst (λ (o : Option Tableau). IfSome o (λ t. started (over c.args.program.now c.args.area.now) ≡ Some t)) c.in-Some.is c.in_ok-start.ensures.value
 
 pub is_cramped_behind-requires-clause-stops : goal.is_cramped_behind-requires-clause-stops
 is_cramped_behind-requires-clause-stops c =
+    let start = rw c.in-Some.is at c.in_ok-start.ensures.value in
+    let fresh = rw c.in-Some.is at c.in_ok-start.ensures.pivots in
     stopped_run c.args.problem.now c.args.book.now.cuts c.args.cuts c.args.area.now c.requires.few c.requires.columns (20 * (length c.args.problem.now.spans + (length c.args.problem.now.rows + c.args.cuts)) + 100) refl
-    c.in-Some.start
-    (ap started (sym (ap (λ (l : LinearProgram). over l c.args.area.now) c.requires.program.is_program
-    ∙ relaxation-over c.args.problem.now (map (λ (d : Cut). d.row) (take c.args.cuts c.args.book.now.cuts)) c.args.problem.now.spans c.args.area.now c.requires.columns))
-    ∙ subst (λ (o : Option Tableau). IfSome o (λ t. started (over c.args.program.now c.args.area.now) ≡ Some t)) c.in-Some.is c.in_ok-start.ensures.value)
-    (subst (λ (o : Option Tableau). IfSome o (λ t. t.pivots ≡ 0)) c.in-Some.is c.in_ok-start.ensures.pivots) c.args.claim c.args.cap c.requires.limited c.requires.enough
+    c.in-Some.start start fresh c.args.claim c.args.cap c.requires.limited c.requires.enough
