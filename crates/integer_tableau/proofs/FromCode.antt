@@ -11,6 +11,7 @@ use Rattle.integer_tableau.proofs.Violations.{leaving_there}
 use Rattle.integer_tableau.proofs.Places.{place_by_leaving, place_is, place_where_leaving_is}
 use Rattle.integer_tableau.proofs.Starting.{statuses_long}
 use Rattle.integer_tableau.specs.Combined.{IsCompact, combined_row, expanded, expanded_rows, expanded_values}
+use Rattle.integer_tableau.specs.Consistent.{row_width}
 use Rattle.integer_tableau.specs.Entering.{entering_by_numerators}
 use Rattle.integer_tableau.specs.IntegerTableau.{IntegerTableau, fraction_bounds, of_parts, tableau_of}
 use Rattle.integer_tableau.specs.Leaving.{leaving_by_numerators}
@@ -120,6 +121,13 @@ near_from_code ps weight reach w compact xs vs d xs_are vs_are d_is j l =
 pub small_from_code : (ps : List (List ℤ)) (weight reach : ℕ) (w : IntegerTableau) → IsCompact ps weight reach w → (ps' : List (List ℤ)) (ss : List Position) (rows : List (List ℤ)) (d v : ℕ)
     → ps' ≡ ps → ss ≡ w.positions → rows ≡ w.rows → d ≡ w.denominator → IsWithin (size_limit - 1) (get_or (expanded_rows d ps' ss rows) v [])
 small_from_code ps weight reach w compact ps' ss rows d v ps_are ss_are rows_are d_is = rw (ps_are, ss_are, rows_are, d_is) (compact.consistent.rows_within v)
+
+-- the row of a basic variable has a number for each column
+pub width_from_code : (ps : List (List ℤ)) (weight reach : ℕ) (w : IntegerTableau) → IsCompact ps weight reach w → (ps' : List (List ℤ)) (ss : List Position) (rows : List (List ℤ)) (d n v : ℕ)
+    → ps' ≡ ps → ss ≡ w.positions → rows ≡ w.rows → d ≡ w.denominator → n ≡ length w.rows → v < length ss → get_or ss v InBasis ≡ InBasis → length (get_or (expanded_rows d ps' ss rows) v []) ≡ n
+width_from_code ps weight reach w compact ps' ss rows d n v ps_are ss_are rows_are d_is n_is l basic =
+    (λ i. length (get_or (expanded_rows (d_is i) (ps_are i) (ss_are i) (rows_are i)) v []))
+    ∙ compact.consistent.widths v (omega (arith, l, ap length ss_are)) ∙ ap (row_width (length w.reduced_costs)) (ap (λ ss. get_or ss v InBasis) (sym ss_are) ∙ basic) ∙ compact.costs ∙ sym n_is
 
 pub carried : (numbers : List ℕ) (ps ps' : List (List ℤ)) (weight reach r c : ℕ) (w w' v v' : IntegerTableau) (t : Tableau) → ps ≡ ps' → w ≡ w' → v ≡ v'
     → tableau_of (length w'.rows) numbers (expanded ps' w') ≡ t → IsPivoted ps weight reach r c w v

@@ -6,7 +6,9 @@ mod Sums
 mod ExactPivots
 mod Keeping
 mod RatioTest
+mod FirstOf
 mod Candidates
+mod EnteringByColumn
 mod Violations
 mod Places
 mod Combining

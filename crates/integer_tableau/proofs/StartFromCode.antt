@@ -1,12 +1,12 @@
 -- The start, from what the code's parts say.
-use Rattle.std.proofs.Common.{◌≡◌, ℕ, zero, suc, ◌+◌, ◌-◌, ◌^◌, ◌<◌, ◌≤◌, arith, refl, ap, sym, ◌∙◌, subst, Bool, true, false, Option, Some, None, List, [], ◌∷◌, ◌++◌, length, get_or, drop, replicate, inl, inr}
+use Rattle.std.proofs.Common.{◌≡◌, ℕ, zero, suc, ◌+◌, ◌-◌, ◌^◌, ◌<◌, ◌≤◌, arith, refl, ap, sym, ◌∙◌, subst, Bool, true, false, Option, Some, None, List, [], ◌∷◌, ◌++◌, length, get_or, drop, replicate, inl, inr, below_more}
 use Rattle.std.specs.Prelude.{ℤ, pos, nat_abs, nat_eq, int_lt, ◌+ℤ◌, ◌*ℤ◌, map, if◌then◌else◌}
 use Rattle.std.specs.Option.{unwrap_or}
-use Rattle.std.proofs.Math.Seq.{drop-append_seam}
+use Rattle.std.proofs.Math.Seq.{drop-append_seam, get_or-append_seam}
 use Rattle.std.proofs.lemmas.Int.{ints}
 use Rattle.std.proofs.lemmas.Bool.{cases_lt}
 use Rattle.std.proofs.lemmas.Bool.Decides.{nat_tests}
-use Rattle.std.proofs.lemmas.List.{get_or_default, get_or_past, length-replicate, same_lists}
+use Rattle.std.proofs.lemmas.List.{get_or_append_left, get_or_default, get_or_past, length-append, length-replicate, same_lists}
 use Rattle.integer_tableau.proofs.Combining.{length-numbers_from, number_at-numbers_from}
 use Rattle.integer_tableau.proofs.Expanded.{row_value, value_of_row, values_many, which}
 use Rattle.integer_tableau.proofs.Starting.{column_number, length_columns, nonbasic_values_many, position_of_column, positions_many, start_consistent, start_tableau_is, statuses_many}
@@ -16,7 +16,7 @@ use Rattle.integer_tableau.specs.IntegerProgram.{fraction_program, CanStart}
 use Rattle.integer_tableau.specs.IntegerTableau.{IntegerTableau, of_parts, statuses_of, tableau_of}
 use Rattle.integer_tableau.specs.Numbers.{IsWithin, number_at, total_size}
 use Rattle.integer_tableau.specs.Range.{size_limit}
-use Rattle.integer_tableau.specs.Positions.{IsColumnOf, sum_over}
+use Rattle.integer_tableau.specs.Positions.{AreNonbasic, IsColumnOf, sum_over}
 use Rattle.integer_tableau.specs.Start.{columns_from, is_negative, start_number, start_numbers}
 use Rattle.integer_tableau.proofs.Starting.{start_tableau}
 use Rattle.integer_tableau.specs.declared.integer_bounds.IntegerBounds.{IntegerBounds}
@@ -240,3 +240,25 @@ module _ (program_rows : List (List ℤ)) (weight reach : ℕ) (reduced_costs : 
 
     pub as_many_statuses : length (statuses_of positions at_upper) ≡ length reduced_costs + length program_rows
     as_many_statuses = (λ i. length (statuses_of (positions_are i) (at_upper_are i))) ∙ statuses_many program_rows reduced_costs bounds [] ready.rows_full
+
+-- ---- the columns' variables are the columns themselves
+pub width_pushed : (n : ℕ) (old new : List ℕ) → length old ≡ n → new ≡ old ++ (n ∷ []) → length new ≡ n + 1
+width_pushed n old new w p = omega (arith, ap length p, length-append old (n ∷ []), w)
+
+pub each_pushed : (n : ℕ) (old new : List ℕ) → length old ≡ n → new ≡ old ++ (n ∷ []) → ((k : ℕ) → k < n → get_or old k 0 ≡ k) → (k : ℕ) → k < n + 1 → get_or new k 0 ≡ k
+each_pushed n old new w p each =
+    below_more (λ k. get_or new k 0 ≡ k) n (λ k l. ap (λ xs. get_or xs k 0) p ∙ get_or_append_left old (n ∷ []) 0 k (omega (arith, l, w)) ∙ each k l)
+    (ap (λ xs. get_or xs n 0) p ∙ ap (λ k. get_or (old ++ (n ∷ [])) k 0) (sym w) ∙ get_or-append_seam old n [] 0)
+
+pub start_nonbasic_are : (n m : ℕ) (ss : List Position) (nonbasic : List ℕ) → ss ≡ columns_from 0 n ++ replicate m InBasis → length nonbasic ≡ n → ((k : ℕ) → k < n → get_or nonbasic k 0 ≡ k) → AreNonbasic ss nonbasic
+start_nonbasic_are n m ss nonbasic e w each = subst (λ ss. AreNonbasic ss nonbasic) (sym e) (record {
+  there = λ k l.
+      let b : k < n = omega (arith, l, w) in
+      let q : 0 + k ≡ k = omega arith in
+      ap (λ v. get_or (columns_from 0 n ++ replicate m InBasis) v InBasis) (each k b) ∙ position_of_column 0 n k (replicate m InBasis) b ∙ ap InColumn q;
+  all = λ v k q.
+      let h = column_number 0 n m v k q in
+      let f : k ≡ v = omega (arith, h.0) in
+      let b : k < n = omega (arith, h.1, f) in
+      (omega (arith, b, w), each k b ∙ f);
+})

@@ -1,5 +1,5 @@
 -- The entering variable, on whole numbers: ratios are compared by cross multiplication, since all have one denominator.
-use Rattle.std.specs.Prelude.{ℕ, ◌+◌, ◌*◌, ℤ, pos, nat_abs, nat_eq, int_lt, List, [], ◌∷◌, Option, Some, None, Bool, false, ◌&&◌, if◌then◌else◌}
+use Rattle.std.specs.Prelude.{ℕ, ◌+◌, ◌*◌, ℤ, pos, nat_abs, nat_eq, nat_lt, int_lt, List, [], ◌∷◌, Option, Some, None, Bool, false, ◌&&◌, ◌||◌, if◌then◌else◌}
 use Rattle.tableau.specs.declared.bounds.Bounds.{Bounds}
 use Rattle.tableau.specs.declared.bounds.Direction.{Direction}
 use Rattle.tableau.specs.declared.bounds.Direction.TheVariants.{Rise, Fall}
@@ -40,6 +40,24 @@ with_candidate j w best s b d t =
     if is_eligible_numerator w s t && bounds_differ b
     then better_candidate record { variable = j; reduced_cost = nat_abs d; coefficient = nat_abs t } best else best
 
+-- ---- in any order
+-- this one's ratio is less, or it is the same and its number is less
+abbrev pub comes_first : Candidate → Candidate → Bool
+comes_first b best = int_lt (pos (b.reduced_cost * best.coefficient)) (pos (best.reduced_cost * b.coefficient))
+    || (nat_eq (b.reduced_cost * best.coefficient) (best.reduced_cost * b.coefficient) && nat_lt b.variable best.variable)
+
+-- the candidate that a variable of these numerators is, if it may enter
+abbrev pub candidate_of : ℕ → Direction → BasisStatus → Bounds → ℤ → ℤ → Option Candidate
+candidate_of j w s b d t =
+    if is_eligible_numerator w s t && bounds_differ b then Some record { variable = j; reduced_cost = nat_abs d; coefficient = nat_abs t } else None
+
+-- the one that comes first
+abbrev pub first_of : Option Candidate → Option Candidate → Option Candidate
+first_of None best = best
+first_of (Some b) None = Some b
+first_of (Some b) (Some best) = if comes_first b best then Some b else Some best
+
+-- ---- variable by variable
 -- from variable j on
 abbrev pub entering_by_numerators : ℕ → Direction → Option Candidate → List Position → List Bool → List IntegerBounds → List ℤ → List ℤ → Option Candidate
 entering_by_numerators j w best [] us bs costs row = best

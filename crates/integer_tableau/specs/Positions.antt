@@ -1,5 +1,5 @@
 -- Where the numerators of a variable are: rows have one number for each nonbasic variable, by column.
-use Rattle.std.specs.Prelude.{◌≡◌, ℕ, ℤ, pos, ◌+ℤ◌, ◌*ℤ◌, List, [], ◌∷◌, map, slice_index_or}
+use Rattle.std.specs.Prelude.{◌≡◌, ℕ, ◌<◌, ℤ, pos, ◌+ℤ◌, ◌*ℤ◌, List, [], ◌∷◌, length, map, slice_index_or}
 use Rattle.fraction.specs.Rational.{ℚ, frac, whole}
 use Rattle.integer_tableau.specs.Numbers.{number_at}
 use Rattle.integer_tableau.specs.declared.position.Position.{Position}
@@ -35,3 +35,8 @@ sum_over positions row xs = products (map (numerator row) positions) xs
 -- column k is that of variable c alone
 abbrev pub IsColumnOf : List Position → ℕ → ℕ → Type 0
 IsColumnOf positions c k = (v : ℕ) → slice_index_or positions v InBasis ≡ InColumn k → v ≡ c
+
+-- `nonbasic` has the variable of each column: it is the inverse of the positions
+pub record AreNonbasic (positions : List Position) (nonbasic : List ℕ) : Type 0 where
+  pub there : (k : ℕ) → k < length nonbasic → slice_index_or positions (slice_index_or nonbasic k 0) InBasis ≡ InColumn k
+  pub all : (v k : ℕ) → slice_index_or positions v InBasis ≡ InColumn k → (k < length nonbasic) × (slice_index_or nonbasic k 0 ≡ v)

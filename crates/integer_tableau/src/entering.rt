@@ -1,11 +1,10 @@
 // The entering variable, by the ratio test.
 
-ghost use Rattle.std.specs.Prelude.{◌≡◌, ◌+◌, ◌<◌, ◌*◌, ◌&&◌, pos, int_lt, length, IfSome, None};
+ghost use Rattle.std.specs.Prelude.{◌≡◌, ◌<◌, ◌&&◌, false, length, slice_index_or, IfSome, None};
 ghost use Rattle.tableau.specs.Leaving.{bounds_differ};
-ghost use Rattle.integer_tableau.specs.Numbers.{number_at};
-ghost use Rattle.integer_tableau.specs.IntegerTableau.{fraction_bounds, status};
-ghost use Rattle.integer_tableau.specs.Positions.{numerator};
-ghost use Rattle.integer_tableau.specs.Entering.{candidate_if_there, is_eligible_at, with_candidate, entering_by_numerators};
+ghost use Rattle.integer_tableau.specs.IntegerTableau.{bound_status, fraction_bounds};
+ghost use Rattle.integer_tableau.specs.Positions.{AreNonbasic};
+ghost use Rattle.integer_tableau.specs.Entering.{candidate_if_there, candidate_of, comes_first, entering_by_numerators, first_of, is_eligible_at};
 
 use crate::integer_bounds::IntegerBounds;
 use crate::integer_row::IntegerRow;
@@ -27,14 +26,14 @@ const NO_CANDIDATE: Candidate = Candidate {
     coefficient: 0,
 };
 
-/// Whether the ratio of the new one is less.
+/// Whether the new one comes first: its ratio is less, or it is the same and its number is less.
 #[inline(always)]
-fn is_less(new: Candidate, best: Candidate) -> bool
-    ensures { result ≡ int_lt (pos (new.reduced_cost * best.coefficient)) (pos (best.reduced_cost * new.coefficient)) }
+fn comes_first(new: Candidate, best: Candidate) -> bool
+    ensures { result ≡ comes_first new best }
 {
     let new_product = u128::from(new.reduced_cost) * u128::from(best.coefficient);
     let best_product = u128::from(best.reduced_cost) * u128::from(new.coefficient);
-    new_product < best_product
+    new_product < best_product || new_product == best_product && new.variable < best.variable
 }
 
 /// Whether the leaving variable goes its direction where this nonbasic variable goes away from its bound.
@@ -55,81 +54,69 @@ fn may_enter(direction: Direction, at_upper: bool, bounds: &IntegerBounds, numer
     is_eligible(direction, at_upper, numerator) && bounds.differ()
 }
 
-/// The number in a column, 0 past the end.
-#[inline(always)]
-fn number_at(numbers: &[i64], column: usize) -> i64
-    ensures { result ≡ number_at numbers.now column }
-{
-    if column < numbers.len() {
-        numbers[column]
-    } else {
-        0
-    }
-}
-
-/// The best so far, with one variable more. Few have a ratio that is less, and half of them may enter: the processor guesses the first well, so it is
-/// tested first.
+/// The best so far, with one nonbasic variable more, of these numerators. Few come first by their ratio, and half of them may enter:
+/// the processor guesses the first well, so it is tested first.
 #[inline(always)]
 fn with_candidate(
     variable: usize,
     direction: Direction,
     best: Candidate,
-    position: Position,
-    at_upper: bool,
-    bounds: &IntegerBounds,
-    reduced_costs: &[i64],
-    row: &[i64],
+    at_upper: &[bool],
+    bounds: &[IntegerBounds],
+    reduced_cost: i64,
+    numerator: i64,
 ) -> Candidate
+    requires at_upper_there { variable < length at_upper.now }
+    requires bounds_there { variable < length bounds.now }
     requires great { best.coefficient ≡ 0 → 0 < best.reduced_cost }
-    ensures value { candidate_if_there result ≡ with_candidate variable direction (candidate_if_there best) (status position at_upper) (fraction_bounds bounds.now) (numerator reduced_costs.now position) (numerator row.now position) }
+    ensures value { candidate_if_there result ≡ first_of (candidate_of variable direction (bound_status (slice_index_or at_upper.now variable false)) (fraction_bounds (slice_index_or bounds.now variable record { lower = None; upper = None })) reduced_cost numerator) (candidate_if_there best) }
     ensures great { result.coefficient ≡ 0 → 0 < result.reduced_cost }
-    ensures within { IfSome (candidate_if_there best) (λ b. b.variable < variable) → IfSome (candidate_if_there result) (λ b. b.variable < variable + 1) }
 {
-    match position {
-        Position::InBasis => best,
-        Position::InColumn(column) => {
-            let numerator = number_at(row, column);
-            let new = Candidate {
-                variable,
-                reduced_cost: number_at(reduced_costs, column).unsigned_abs(),
-                coefficient: numerator.unsigned_abs(),
-            };
-            if is_less(new, best) && may_enter(direction, at_upper, bounds, numerator) {
-                new
-            } else {
-                best
-            }
-        }
+    let new = Candidate {
+        variable,
+        reduced_cost: reduced_cost.unsigned_abs(),
+        coefficient: numerator.unsigned_abs(),
+    };
+    if comes_first(new, best)
+        && may_enter(direction, at_upper[variable], &bounds[variable], numerator)
+    {
+        new
+    } else {
+        best
     }
 }
 
-/// The eligible variable of least ratio; the first on a tie.
+/// The eligible variable of least ratio; the first on a tie. Basic variables can't enter, so the nonbasic ones alone are gone through:
+/// by column, and so not in the order of their numbers.
 pub(crate) fn entering(
     direction: Direction,
     positions: &[Position],
+    nonbasic: &[usize],
     at_upper: &[bool],
     bounds: &[IntegerBounds],
     reduced_costs: &IntegerRow,
     row: &IntegerRow,
 ) -> Option<Candidate>
+    requires nonbasic_are { AreNonbasic positions.now nonbasic.now }
     requires at_upper_there { length at_upper.now ≡ length positions.now }
     requires bounds_there { length bounds.now ≡ length positions.now }
+    requires reduced_costs_there { length reduced_costs.now ≡ length nonbasic.now }
+    requires row_there { length row.now ≡ length nonbasic.now }
     ensures value { result ≡ entering_by_numerators 0 direction None positions.now at_upper.now bounds.now reduced_costs.now row.now }
     ensures within { IfSome result (λ b. b.variable < length positions.now) }
 {
-    let reduced_costs = reduced_costs.numerators();
-    let row = row.numerators();
+    let costs = reduced_costs.numerators();
+    let numerators = row.numerators();
     let mut best = NO_CANDIDATE;
-    for (j, position) in positions.iter().enumerate() {
+    for (column, variable) in nonbasic.iter().enumerate() {
         best = with_candidate(
-            j,
+            *variable,
             direction,
             best,
-            *position,
-            at_upper[j],
-            &bounds[j],
-            reduced_costs,
-            row,
+            at_upper,
+            bounds,
+            costs[column],
+            numerators[column],
         );
     }
     if best.coefficient == 0 {

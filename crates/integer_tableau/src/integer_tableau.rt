@@ -46,6 +46,8 @@ impl Fixed {
 pub struct IntegerTableau {
     pub(crate) fixed: Fixed,
     pub(crate) positions: Vec<Position>,
+    /// The variable of each column of the rows.
+    pub(crate) nonbasic: Vec<usize>,
     pub(crate) at_upper: Vec<bool>,
     pub(crate) nonbasic_values: Vec<i64>,
     /// Of each column: none where it isn't basic.
@@ -60,16 +62,17 @@ pub struct IntegerTableau {
 }
 
 impl Model for IntegerTableau {
-    ghost use Rattle.std.specs.Prelude.{pos, ◌<ℤ◌, length};
+    ghost use Rattle.std.specs.Prelude.{◌≡◌, pos, ◌<ℤ◌, length};
     ghost use Rattle.tableau.specs.Tableau.{Tableau as Described};
     ghost use Rattle.integer_tableau.specs.IntegerTableau.{tableau_of, of_parts};
     ghost use Rattle.integer_tableau.specs.Combined.{expanded, IsCompact};
+    ghost use Rattle.integer_tableau.specs.Positions.{AreNonbasic};
 
     ghost Value = { Described };
 
     ghost view = { λ t. tableau_of (length t.rows.items) t.fixed.numbers.items (expanded t.fixed.rows.items.value.items (of_parts t.fixed.bounds.items t.positions.items t.at_upper.items t.nonbasic_values.items t.rows.items t.reduced_costs t.values.items t.denominator t.pivots)) };
 
-    ghost invariant = { λ t. IsCompact t.fixed.rows.items.value.items t.fixed.weight t.fixed.reach (of_parts t.fixed.bounds.items t.positions.items t.at_upper.items t.nonbasic_values.items t.rows.items t.reduced_costs t.values.items t.denominator t.pivots) × (pos 0 <ℤ t.denominator) };
+    ghost invariant = { λ t. IsCompact t.fixed.rows.items.value.items t.fixed.weight t.fixed.reach (of_parts t.fixed.bounds.items t.positions.items t.at_upper.items t.nonbasic_values.items t.rows.items t.reduced_costs t.values.items t.denominator t.pivots) × (pos 0 <ℤ t.denominator) × AreNonbasic t.positions.items t.nonbasic.items × (length t.nonbasic.items ≡ length t.rows.items) };
 }
 
 impl IntegerTableau {
@@ -105,6 +108,7 @@ impl IntegerTableau {
                 direction,
                 &self.fixed.rows,
                 &self.positions,
+                &self.nonbasic,
                 &self.at_upper,
                 &self.fixed.bounds,
                 &self.rows,

@@ -6,6 +6,7 @@ ghost use Rattle.integer_tableau.specs.Numbers.{number_at, IsWithin, total_size}
 ghost use Rattle.integer_tableau.specs.Range.{size_limit};
 ghost use Rattle.integer_tableau.specs.Substitution.{quotient_numerator};
 ghost use Rattle.integer_tableau.specs.IntegerTableau.{of_parts};
+ghost use Rattle.integer_tableau.specs.Positions.{AreNonbasic};
 ghost use Rattle.integer_tableau.specs.Combined.{expanded_rows, expanded_values, IsCompact};
 ghost use Rattle.integer_tableau.specs.Pivot.{is_upper, IsPivotOf, AreSubstitutedValues, IsEliminated, IsPivoted};
 
@@ -289,6 +290,7 @@ fn pivot_parts(
     weight: u64,
     reach: u64,
     positions: &mut [Position],
+    nonbasic: &mut [usize],
     at_upper: &mut [bool],
     nonbasic_values: &mut [i64],
     rows: &mut [IntegerRow],
@@ -309,7 +311,9 @@ fn pivot_parts(
     requires nonbasic_values_there { length nonbasic_values.old ≡ length positions.old }
     requires positions_there { length positions.old ≡ length rows.old + length program_rows.now }
     requires values_there { length values.old ≡ length rows.old }
-    ensures { IfSome result (λ e. IsPivoted program_rows.now weight reach leaving entering (of_parts bounds.now positions.old at_upper.old nonbasic_values.old rows.old reduced_costs.old values.old denominator pivots) (of_parts bounds.now positions.new at_upper.new nonbasic_values.new rows.new reduced_costs.new values.new e (pivots + 1)) × (pos 0 <ℤ e)) }
+    requires nonbasic_are { AreNonbasic positions.old nonbasic.old }
+    ensures nonbasic { IfSome result (λ e. AreNonbasic positions.new nonbasic.new) }
+    ensures pivoted { IfSome result (λ e. IsPivoted program_rows.now weight reach leaving entering (of_parts bounds.now positions.old at_upper.old nonbasic_values.old rows.old reduced_costs.old values.old denominator pivots) (of_parts bounds.now positions.new at_upper.new nonbasic_values.new rows.new reduced_costs.new values.new e (pivots + 1)) × (pos 0 <ℤ e)) }
 {
     let Position::InBasis = positions[leaving] else {
         return None;
@@ -343,6 +347,7 @@ fn pivot_parts(
     nonbasic_values[entering] = 0;
     positions[leaving] = Position::InColumn(exchange.column);
     positions[entering] = Position::InBasis;
+    nonbasic[exchange.column] = leaving;
     at_upper[leaving] = is_upper(exchange.direction);
     at_upper[entering] = false;
     if !is_near(reach, exchange.size)
@@ -374,6 +379,7 @@ impl IntegerTableau {
         let IntegerTableau {
             fixed,
             mut positions,
+            mut nonbasic,
             mut at_upper,
             mut nonbasic_values,
             mut rows,
@@ -389,6 +395,7 @@ impl IntegerTableau {
             fixed.weight,
             fixed.reach,
             &mut positions,
+            &mut nonbasic,
             &mut at_upper,
             &mut nonbasic_values,
             &mut rows,
@@ -403,6 +410,7 @@ impl IntegerTableau {
         Some(IntegerTableau {
             fixed,
             positions,
+            nonbasic,
             at_upper,
             nonbasic_values,
             rows,

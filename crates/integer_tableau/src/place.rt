@@ -5,6 +5,7 @@ ghost use Rattle.tableau.specs.Place.{PlaceIsWithin};
 ghost use Rattle.integer_tableau.specs.Numbers.{IsWithin};
 ghost use Rattle.integer_tableau.specs.Range.{size_limit};
 ghost use Rattle.integer_tableau.specs.Combined.{expanded_rows};
+ghost use Rattle.integer_tableau.specs.Positions.{AreNonbasic};
 ghost use Rattle.integer_tableau.specs.Entering.{entering_by_numerators};
 ghost use Rattle.integer_tableau.specs.Place.{place_of_candidate};
 
@@ -21,6 +22,7 @@ fn place_by_row(
     leaving: usize,
     direction: Direction,
     positions: &[Position],
+    nonbasic: &[usize],
     at_upper: &[bool],
     bounds: &[IntegerBounds],
     reduced_costs: &IntegerRow,
@@ -29,11 +31,22 @@ fn place_by_row(
     requires at_upper_there { length at_upper.now ≡ length positions.now }
     requires bounds_there { length bounds.now ≡ length positions.now }
     requires leaving_there { leaving < length positions.now }
+    requires nonbasic_are { AreNonbasic positions.now nonbasic.now }
+    requires reduced_costs_there { length reduced_costs.now ≡ length nonbasic.now }
+    requires row_there { length row.now ≡ length nonbasic.now }
     ensures value { result ≡ place_of_candidate leaving (entering_by_numerators 0 direction None positions.now at_upper.now bounds.now reduced_costs.now row.now) }
     ensures within { PlaceIsWithin (length positions.now) result }
     ensures exact { result ≢ Place.Cramped }
 {
-    match entering(direction, positions, at_upper, bounds, reduced_costs, row) {
+    match entering(
+        direction,
+        positions,
+        nonbasic,
+        at_upper,
+        bounds,
+        reduced_costs,
+        row,
+    ) {
         None => Place::NoColumn { row: leaving },
         Some(best) => Place::Pivot {
             row: leaving,
@@ -49,6 +62,7 @@ pub(crate) fn place_where_leaving(
     direction: Direction,
     program_rows: &[ProgramRow],
     positions: &[Position],
+    nonbasic: &[usize],
     at_upper: &[bool],
     bounds: &[IntegerBounds],
     rows: &[IntegerRow],
@@ -61,6 +75,10 @@ pub(crate) fn place_where_leaving(
     requires leaving_there { leaving < length positions.now }
     requires full { (i : ℕ) → i < length program_rows.now → length (slice_index_or program_rows.now i []) ≡ length rows.now }
     requires positive { pos 0 <ℤ denominator }
+    requires nonbasic_are { AreNonbasic positions.now nonbasic.now }
+    requires reduced_costs_there { length reduced_costs.now ≡ length nonbasic.now }
+    requires rows_there { length rows.now ≡ length nonbasic.now }
+    requires width { slice_index_or positions.now leaving Position.InBasis ≡ Position.InBasis → length (slice_index_or (expanded_rows (nat_abs denominator) program_rows.now positions.now rows.now) leaving []) ≡ length nonbasic.now }
     requires small { IsWithin (size_limit - 1) (slice_index_or (expanded_rows (nat_abs denominator) program_rows.now positions.now rows.now) leaving []) }
     ensures value { IfSome result (λ p. p ≡ place_of_candidate leaving (entering_by_numerators 0 direction None positions.now at_upper.now bounds.now reduced_costs.now (slice_index_or (expanded_rows (nat_abs denominator) program_rows.now positions.now rows.now) leaving []))) }
     ensures within { IfSome result (λ p. PlaceIsWithin (length positions.now) p) }
@@ -75,6 +93,7 @@ pub(crate) fn place_where_leaving(
             leaving,
             direction,
             positions,
+            nonbasic,
             at_upper,
             bounds,
             reduced_costs,
@@ -94,6 +113,7 @@ pub(crate) fn place_where_leaving(
         leaving,
         direction,
         positions,
+        nonbasic,
         at_upper,
         bounds,
         reduced_costs,

@@ -42,6 +42,18 @@ fn start_positions(alloc: Global, columns: usize, rows: usize) -> Result<Vec<Pos
     Ok(positions)
 }
 
+/// The columns' variables, which are the columns themselves. The one error is want of memory.
+fn start_nonbasic(alloc: Global, columns: usize) -> Result<Vec<usize>, AllocError>
+    ensures width { IfOk result (λ v. length v.items ≡ columns) }
+    ensures each { IfOk result (λ v. (k : ℕ) → k < columns → slice_index_or v.items k 0 ≡ k) }
+{
+    let mut nonbasic = Vec::with_capacity(alloc, columns)?;
+    for column in 0..columns {
+        nonbasic.push(column)?;
+    }
+    Ok(nonbasic)
+}
+
 /// Whether each column is at its upper bound. The one error is want of memory.
 fn columns_at_upper(alloc: Global, costs: &[i64]) -> Result<Vec<bool>, AllocError>
     ensures { IfOk result (λ v. v.items ≡ map is_negative costs.now) }
@@ -191,6 +203,7 @@ impl IntegerTableau {
             return Ok(None);
         }
         let positions = start_positions(alloc, columns, count)?;
+        let nonbasic = start_nonbasic(alloc, columns)?;
         let at_upper = start_at_upper(alloc, costs.numerators(), count)?;
         let nonbasic_values = start_numbers(alloc, costs.numerators(), &bounds, count)?;
         let values = Vec::from_elem(alloc, 0, columns)?;
@@ -203,6 +216,7 @@ impl IntegerTableau {
                 reach,
             },
             positions,
+            nonbasic,
             at_upper,
             nonbasic_values,
             rows: empty_rows(alloc, columns)?,

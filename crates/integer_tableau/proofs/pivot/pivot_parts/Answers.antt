@@ -6,7 +6,7 @@ use Rattle.integer_tableau.specs.Combined.{expanded_rows, expanded_values}
 use Rattle.integer_tableau.specs.IntegerTableau.{of_parts}
 use Rattle.integer_tableau.specs.Numbers.{number_at}
 use Rattle.integer_tableau.specs.Pivot.{AreSubstitutedValues, IsEliminated, IsPivotOf, IsPivoted}
-use Rattle.integer_tableau.proofs.Apart.{apart_after}
+use Rattle.integer_tableau.proofs.Apart.{apart_after, nonbasic_after}
 use Rattle.integer_tableau.proofs.Exchanges.{positions_exchanged}
 use Rattle.integer_tableau.specs.Substitution.{quotient_numerator}
 use Rattle.integer_tableau.proofs.FromCode.{near_from_code, pivoted_from, positive_from, small_from_code}
@@ -37,8 +37,22 @@ are_combinations_small-requires-clause-apart c =
     apart_after c.args.positions.now c.args.leaving c.args.entering c.in_ok-value.exchange.column there.entering there.leaving c.requires.entering_there c.requires.leaving_there
     c.requires.compact.consistent.alone
 
-pub returns : goal.returns
-returns c =
+pub returns-clause-nonbasic : goal.returns-clause-nonbasic
+returns-clause-nonbasic c =
+    let there = c.in_ok-value.ensures.there in
+    nonbasic_after c.args.positions.now c.args.leaving c.args.entering c.in_ok-value.exchange.column there.entering there.leaving c.requires.entering_there c.requires.leaving_there
+    c.args.nonbasic.now c.requires.nonbasic_are
+
+pub bounds-nonbasic-exchange : goal.bounds-nonbasic-exchange
+bounds-nonbasic-exchange c = (c.requires.nonbasic_are.all c.args.entering c.in_ok-value.exchange.column c.in_ok-value.ensures.there.entering).0
+
+pub offset_bounds-nonbasic-exchange : goal.offset_bounds-nonbasic-exchange
+offset_bounds-nonbasic-exchange c =
+    let l = (c.requires.nonbasic_are.all c.args.entering c.in_ok-value.exchange.column c.in_ok-value.ensures.there.entering).0 in
+    search rules
+
+pub returns-clause-pivoted : goal.returns-clause-pivoted
+returns-clause-pivoted c =
     let a = c.args in
     let x = c.in_ok-value.exchange in
     let n = c.exchange_numbers.new in

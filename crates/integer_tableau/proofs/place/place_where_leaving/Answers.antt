@@ -1,5 +1,6 @@
-use Rattle.std.proofs.Common.{ap, nat_abs, refl, sym, subst, None, ◌-◌, ◌∙◌, w64}
+use Rattle.std.proofs.Common.{ap, length, nat_abs, refl, sym, subst, None, ◌-◌, ◌∙◌, w64}
 use Rattle.std.proofs.lemmas.Int.{to_z-of_z}
+use Rattle.integer_tableau.proofs.Combining.{length-numbers_from}
 use Rattle.integer_tableau.proofs.Expanded.{row_made}
 use Rattle.integer_tableau.specs.Combined.{combined_row}
 use Rattle.integer_tableau.specs.Numbers.{IsWithin}
@@ -15,6 +16,9 @@ returns-clause-value c =
     (row_made (nat_abs c.args.denominator) c.args.program_rows.now c.args.positions.now c.args.rows.now c.requires.positions_there c.args.leaving c.index-program_rows-leaving.result c.combine_small.new.self
     c.if-leaving-columns.false c.requires.leaving_there c.in-InBasis.is c.index-program_rows-leaving.is
     (c.if-not-combine_small.ensures refl ∙ ap (λ z. combined_row (nat_abs z) c.args.positions.now c.args.rows.now c.index-program_rows-leaving.result) (to_z-of_z w64 c.args.denominator c.ranges.denominator)))
+
+pub place_by_row-requires-2-clause-row_there : goal.place_by_row-requires-2-clause-row_there
+place_by_row-requires-2-clause-row_there c = ap length (c.if-not-combine_small.ensures refl) ∙ length-numbers_from 0 (length c.args.rows.now) _ ∙ c.requires.rows_there
 
 pub combine_small-requires-clause-small : goal.combine_small-requires-clause-small
 combine_small-requires-clause-small c =

@@ -1,11 +1,13 @@
-use Rattle.std.proofs.Common.{ap, sym, ◌∙◌, [], subst, w64, nat_abs, get_or, length, rules, None}
+use Rattle.std.proofs.Common.{◌<◌, arith, ap, sym, ◌∙◌, [], subst, w64, nat_abs, get_or, length, rules, None}
 use mir.Val.{SFits}
+use Rattle.std.specs.Option.{IfSome}
 use Rattle.std.proofs.lemmas.Int.{to_z-of_z}
-use Rattle.integer_tableau.proofs.FromCode.{chosen_from_code, near_from_code, place_from_code, small_from_code, statuses_as_many}
+use Rattle.integer_tableau.proofs.FromCode.{chosen_from_code, near_from_code, place_from_code, small_from_code, statuses_as_many, width_from_code}
 use Rattle.integer_tableau.proofs.Lists.{if_some}
 use Rattle.integer_tableau.specs.Combined.{expanded_rows, expanded_values}
 use Rattle.integer_tableau.specs.Entering.{entering_by_numerators}
 use Rattle.integer_tableau.specs.Leaving.{leaving_by_numerators}
+use Rattle.integer_tableau.specs.Positions.{AreNonbasic}
 use Rattle.integer_tableau.specs.Place.{place_of_candidate}
 use Rattle.tableau.specs.Place.{PlaceIsWithin}
 use Rattle.integer_tableau.proofs.integer_tableau.IntegerTableau.next_place.Goals as goal
@@ -20,7 +22,25 @@ pub place_where_leaving-requires-clause-small : goal.place_where_leaving-require
 place_where_leaving-requires-clause-small c =
     let n = c.self.inside in
     let f : SFits w64 n.denominator = search rules in
-    small_from_code _ _ _ _ c.self.invariant.0 _ _ _ _ c.in-Some.row c.deref-in-Some.ensures.value c.deref-in-Some-2.ensures.value c.deref-in-Some-5.ensures.value (ap nat_abs (to_z-of_z w64 n.denominator f))
+    small_from_code _ _ _ _ c.self.invariant.0 _ _ _ _ c.in-Some.row c.deref-in-Some.ensures.value c.deref-in-Some-2.ensures.value c.deref-in-Some-6.ensures.value (ap nat_abs (to_z-of_z w64 n.denominator f))
+
+pub place_where_leaving-requires-clause-nonbasic_are : goal.place_where_leaving-requires-clause-nonbasic_are
+place_where_leaving-requires-clause-nonbasic_are c = subst (λ (T : Type 0). T) (λ i. AreNonbasic (sym c.deref-in-Some-2.ensures.value i) (sym c.deref-in-Some-3.ensures.value i)) c.self.invariant.2
+
+pub place_where_leaving-requires-clause-reduced_costs_there : goal.place_where_leaving-requires-clause-reduced_costs_there
+place_where_leaving-requires-clause-reduced_costs_there c = c.self.invariant.0.costs ∙ sym c.self.invariant.3 ∙ sym (ap length c.deref-in-Some-3.ensures.value)
+
+pub place_where_leaving-requires-clause-rows_there : goal.place_where_leaving-requires-clause-rows_there
+place_where_leaving-requires-clause-rows_there c = ap length c.deref-in-Some-6.ensures.value ∙ sym c.self.invariant.3 ∙ sym (ap length c.deref-in-Some-3.ensures.value)
+
+pub place_where_leaving-requires-clause-width : goal.place_where_leaving-requires-clause-width
+place_where_leaving-requires-clause-width c = λ basic.
+    let n = c.self.inside in
+    let f : SFits w64 n.denominator = search rules in
+    let found : c.in-Some.row < length c.deref-2.result.now = subst (λ o. IfSome o (λ l. l.0 < length c.deref-2.result.now)) c.in-Some.is c.in-Ok.ensures.within in
+    let there : c.in-Some.row < length c.deref-in-Some-2.result.now = omega (arith, found, ap length c.deref-2.ensures.value, ap length c.deref-in-Some-2.ensures.value) in
+    width_from_code _ _ _ _ c.self.invariant.0 _ _ _ _ _ c.in-Some.row c.deref-in-Some.ensures.value c.deref-in-Some-2.ensures.value c.deref-in-Some-6.ensures.value (ap nat_abs (to_z-of_z w64 n.denominator f))
+    (ap length c.deref-in-Some-3.ensures.value ∙ c.self.invariant.3) there basic
 
 pub returns-in-None-clause-value : goal.returns-in-None-clause-value
 returns-in-None-clause-value c =
@@ -38,8 +58,8 @@ returns-in-Some-clause-value c =
     let d = to_z-of_z w64 n.denominator f in
     if_some _ _ c.place_where_leaving.result
     (λ p h. h
-    ∙ (λ i. place_of_candidate c.in-Some.row (entering_by_numerators 0 c.in-Some.direction None (c.deref-in-Some-2.ensures.value i) (c.deref-in-Some-3.ensures.value i) (c.deref-in-Some-4.ensures.value i)
-    n.reduced_costs (get_or (expanded_rows (nat_abs (d i)) (c.deref-in-Some.ensures.value i) (c.deref-in-Some-2.ensures.value i) (c.deref-in-Some-5.ensures.value i)) c.in-Some.row [])))
+    ∙ (λ i. place_of_candidate c.in-Some.row (entering_by_numerators 0 c.in-Some.direction None (c.deref-in-Some-2.ensures.value i) (c.deref-in-Some-4.ensures.value i) (c.deref-in-Some-5.ensures.value i)
+    n.reduced_costs (get_or (expanded_rows (nat_abs (d i)) (c.deref-in-Some.ensures.value i) (c.deref-in-Some-2.ensures.value i) (c.deref-in-Some-6.ensures.value i)) c.in-Some.row [])))
     ∙ chosen_from_code _ _ _ _ _ _ c.args.self.now c.self.invariant.0 c.self.view_is (c.in-Some.row, c.in-Some.direction)
     (sym c.in-Some.is ∙ c.in-Ok.ensures.value ∙ (λ i. leaving_by_numerators (nat_abs (d i)) 0 (c.deref-2.ensures.value i) (c.deref-3.ensures.value i)
     (expanded_values (nat_abs (d i)) (c.deref.ensures.value i) (c.deref-2.ensures.value i) (c.deref-4.ensures.value i) (c.deref-5.ensures.value i)))))

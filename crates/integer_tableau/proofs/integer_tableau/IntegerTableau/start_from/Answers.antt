@@ -1,10 +1,11 @@
-use Rattle.std.proofs.Common.{◌≡◌, ◌^◌, ◌<◌, ◌≤◌, ◌++◌, ℕ, [], length, get_or, replicate, map, pos, None, arith, refl, ap, subst, ◌∙◌, false}
+use Rattle.std.proofs.Common.{◌≡◌, ◌^◌, ◌<◌, ◌≤◌, ◌++◌, ℕ, [], length, get_or, replicate, map, pos, None, arith, refl, ap, sym, subst, ◌∙◌, false}
 use Rattle.std.proofs.lemmas.Int.{ints}
+use Rattle.std.proofs.lemmas.List.{length-replicate}
 use Rattle.integer_tableau.specs.Range.{size_limit}
 use Rattle.integer_tableau.specs.Combined.{bound_size, total_bound_size}
 use Rattle.integer_tableau.specs.Start.{columns_from, is_negative, start_numbers}
 use Rattle.integer_tableau.specs.declared.position.Position.TheVariants.{InBasis}
-use Rattle.integer_tableau.proofs.StartFromCode.{as_many_statuses, start_compact, start_is}
+use Rattle.integer_tableau.proofs.StartFromCode.{as_many_statuses, start_compact, start_is, start_nonbasic_are}
 use Rattle.integer_tableau.proofs.integer_tableau.IntegerTableau.start_from.Goals as goal
 use Rattle.integer_tableau.proofs.integer_tableau.IntegerTableau.start_from.Goals.{In_ok-copy}
 
@@ -15,6 +16,9 @@ module _ (c : In_ok-copy) where
 
   positions_are : c.in_ok-positions.positions.items ≡ columns_from 0 (length c.args.costs.now) ++ replicate (length c.args.rows.now.items.value.items) InBasis
   positions_are = c.in_ok-positions.ensures ∙ (λ i. columns_from 0 (c.width-columns.ensures i) ++ replicate (count_is i) InBasis)
+
+  nonbasic_many : length c.in_ok-nonbasic.nonbasic.items ≡ length c.args.costs.now
+  nonbasic_many = c.in_ok-nonbasic.ensures.width ∙ c.width-columns.ensures
 
   at_upper_are : c.in_ok-at_upper.at_upper.items ≡ map is_negative c.args.costs.now ++ replicate (length c.args.rows.now.items.value.items) false
   at_upper_are = c.in_ok-at_upper.ensures ∙ (λ i. map is_negative (c.numerators.ensures i) ++ replicate (count_is i) false)
@@ -43,6 +47,8 @@ invariant_of-result c = (
       c.in_ok-nonbasic_values.nonbasic_values.items c.in_ok-empty_rows.field-0.items c.in_ok-copy.field-0 c.in_ok-values.values.items (pos 1) c.in_ok-clone.field-0.items.value.items
       (positions_are c) (at_upper_are c) (nonbasic_values_are c) (rows_are c) c.in_ok-copy.ensures (values_are c) refl c.in_ok-clone.ensures.cases,
   omega (arith, ints),
+  start_nonbasic_are _ _ _ _ (positions_are c) (nonbasic_many c) (λ k l. c.in_ok-nonbasic.ensures.each k (omega (arith, l, c.width-columns.ensures))),
+  nonbasic_many c ∙ sym (ap length (rows_are c) ∙ length-replicate (length c.args.costs.now) []),
 )
 
 pub returns-clause-value : goal.returns-clause-value
