@@ -83,7 +83,8 @@ impl IntegerTableau {
         self.pivots
     }
 
-    /// What the tableau asks for next; none where the numbers are too large, or memory is wanting.
+    /// What the tableau asks for next; none where the numbers are too large, or memory is wanting. It takes memory, which it gives back:
+    /// for the columns' values where no column leaves, and for the row of a row's variable that leaves.
     pub fn next_place(&self) -> Option<Place>
         ensures value { IfSome result (λ p. p ≡ place self.now) }
         ensures within { IfSome result (λ p. PlaceIsWithin (length self.now.statuses) p) }
