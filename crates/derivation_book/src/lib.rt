@@ -8,6 +8,7 @@
 mod book;
 mod columns;
 mod combination;
+mod combined_numerators;
 mod cut;
 mod cut_rows;
 mod integer_price;
@@ -20,5 +21,6 @@ mod whole_combination;
 mod whole_sums;
 
 pub use book::Book;
+pub use combined_numerators::CombinedNumerators;
 pub use cut::Cut;
 pub use legal::reaches;

@@ -3,3 +3,6 @@ mod Reference
 mod Rising
 mod Steps
 mod Separating
+mod Rounding
+mod Candidates
+mod Columns

@@ -1,11 +1,14 @@
 -- One item more in the loops of separation.
 use Rattle.std.proofs.Common.{◌≡◌, ℕ, suc, ◌+◌, ◌-◌, ◌<◌, ◌≤◌, arith, refl, ap, sym, ◌∙◌, Bool, true, false, Option, Some, None, List, [], ◌∷◌, ◌++◌, length, get_or, drop, take}
 use Rattle.std.specs.Prelude.{slice_get, if◌then◌else◌, eqb}
+use Rattle.std.specs.declared.cmp.Ordering.{Ordering}
+use Rattle.std.specs.Ordering.{is_lt}
 use Rattle.std.specs.Option.{option_and_then, option_map}
 use Rattle.std.proofs.lemmas.List.{drop_more, append_assoc, append-nil, drop_all, length-drop}
 use Rattle.std.proofs.lemmas.Bool.{eq-eqb, ne_eqb, eqb-true}
 use Rattle.std.proofs.Math.Seq.{take-append_seam}
 use Rattle.fraction.specs.Rational.{ℚ}
+use Rattle.fraction.specs.Checked.{compare}
 use Rattle.problem.specs.declared.row.Row.{Row}
 use Rattle.problem.specs.Problem.{Problem}
 use Rattle.derivation_book.specs.declared.cut.Cut.{Cut}
@@ -15,7 +18,7 @@ use Rattle.tableau.specs.Multipliers.{with_multiplier}
 use Rattle.tableau.specs.Tableau.{Tableau, status_of}
 use Rattle.gomory_cuts.specs.declared.sign.Sign.{Sign}
 use Rattle.gomory_cuts.specs.Multipliers.{multiplier, row_multipliers, filling, bound_number, fillings}
-use Rattle.gomory_cuts.specs.Separation.{cuts_at, cuts_from, is_same, is_found, with_cut, with_cuts}
+use Rattle.gomory_cuts.specs.Separation.{is_below, cuts_at, cuts_from, is_same, is_found, with_cut, with_cuts}
 
 -- ---- one multiplier more, or none
 -- `all` with the multiplier u of row k behind it is `more`
@@ -124,3 +127,12 @@ same_end a b i h g k =
 -- ---- one column more
 pub one_column : (p : Problem) (cuts : List Cut) (t : Tableau) (x : List ℚ) (j n : ℕ) → j < n → cuts_from p cuts t x j (n - j) ≡ cuts_at p cuts t x j ++ cuts_from p cuts t x (j + 1) (n - (j + 1))
 one_column p cuts t x j n l = ap (cuts_from p cuts t x j) (let z : n - j ≡ suc (n - (j + 1)) = omega arith in z)
+
+-- ---- a comparison with a sum that may not be there
+pub below_is : (o : Option ℚ) (b : ℚ) (w : Ordering) → Some w ≡ option_map (λ v. compare v b) o → is_lt w ≡ is_below o b
+below_is None b w e = absurd (let z : ⊥ = cc in z)
+below_is (Some v) b w e = ap is_lt (let z : w ≡ compare v b = cc in z)
+
+pub not_below : (o : Option ℚ) (b : ℚ) → ◌≡◌ {A = Option Ordering} None (option_map (λ v. compare v b) o) → false ≡ is_below o b
+not_below None b e = refl
+not_below (Some v) b e = absurd (let z : ⊥ = cc in z)

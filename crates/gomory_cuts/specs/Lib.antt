@@ -1,3 +1,4 @@
 pub mod Multipliers
+pub mod Candidate
 pub mod Separation
 pub mod Laws

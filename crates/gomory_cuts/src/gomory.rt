@@ -1,17 +1,12 @@
 //! The multipliers of a Chvátal-Gomory cut.
 
-ghost use Rattle.std.specs.Prelude.{◌≡◌, ◌<◌, ◌≤◌, ◌+◌, ◌++◌, IfOk, OnOk, All, length};
+ghost use Rattle.std.specs.Prelude.{◌≡◌, ◌<◌, ◌≤◌, ◌++◌, IfOk, OnOk, All, length};
 ghost use Rattle.derivation_book.specs.Known.{known_lines};
-ghost use Rattle.gomory_cuts.specs.Multipliers.{filled, gomory_multipliers};
-ghost use Rattle.dual_simplex.specs.Sizes.{most_numbered_cuts};
-ghost use Rattle.tableau.specs.Tableau.{row_of};
+ghost use Rattle.gomory_cuts.specs.Multipliers.{filled};
 
 use crate::filling::fillings;
-use crate::multiplier::{of_cuts, of_rows};
-use crate::sign::Sign;
 use derivation_book::Book;
 use dual_simplex::FinalTableau;
-use fraction::Frac;
 use problem::{Problem, Term, Terms};
 use std::alloc::{AllocError, Global};
 
@@ -27,7 +22,7 @@ fn append(terms: &mut Terms, more: &[Term]) -> Result<(), AllocError>
 }
 
 /// One list of terms behind another. The one error is want of memory.
-fn joined(alloc: Global, front: &Terms, back: &Terms) -> Result<Terms, AllocError>
+pub(crate) fn joined(alloc: Global, front: &Terms, back: &Terms) -> Result<Terms, AllocError>
     ensures { IfOk result (λ t. t ≡ front.now ++ back.now) }
 {
     let mut all = Terms::with_capacity(alloc, front.len().saturating_add(back.len()))?;
@@ -38,7 +33,7 @@ fn joined(alloc: Global, front: &Terms, back: &Terms) -> Result<Terms, AllocErro
 
 /// The multipliers of rows and of cuts, with the fillings between them that make the coefficients whole; none exactly where a step is cramped. The
 /// one error is want of memory.
-fn filled(
+pub(crate) fn filled(
     alloc: Global,
     tableau: &FinalTableau,
     problem: &Problem,
@@ -60,29 +55,4 @@ fn filled(
     };
     let front = joined(alloc, of_rows, &of_bounds)?;
     Ok(Some(joined(alloc, &front, of_cuts)?))
-}
-
-/// The multipliers from the row of a column, which is given, with a sign; none exactly where a step is cramped. Their numbers rise, and none is 0.
-/// The one error is want of memory.
-pub(crate) fn gomory_multipliers(
-    alloc: Global,
-    tableau: &FinalTableau,
-    problem: &Problem,
-    book: &Book,
-    sign: Sign,
-    column: usize,
-    row: &[Frac],
-) -> Result<Option<Terms>, AllocError>
-    requires few { length book.now.cuts < most_numbered_cuts }
-    requires columns { length problem.now.spans ≤ length tableau.now.statuses }
-    requires row { row.now ≡ row_of tableau.now column }
-    ensures { IfOk result (λ o. o ≡ gomory_multipliers problem.now book.now.cuts tableau.now sign column) }
-{
-    let Some(of_rows) = of_rows(alloc, problem, sign, row)? else {
-        return Ok(None);
-    };
-    let Some(of_cuts) = of_cuts(alloc, problem, book, sign, row)? else {
-        return Ok(None);
-    };
-    filled(alloc, tableau, problem, book, &of_rows, &of_cuts)
 }

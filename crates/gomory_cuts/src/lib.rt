@@ -4,6 +4,8 @@
 //! combination's coefficients whole, and its right side is rounded up. What the point violates is a cut.
 #![tactic(auto)]
 
+mod candidate;
+mod filled_column;
 mod filling;
 mod gomory;
 pub mod laws;

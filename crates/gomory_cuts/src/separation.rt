@@ -8,11 +8,13 @@ ghost use Rattle.gomory_cuts.specs.declared.sign.Sign.TheVariants.{Plus, Minus};
 ghost use Rattle.gomory_cuts.specs.Separation.{cut_at, is_fractional, cuts_at, is_same, is_found, with_cuts, separation};
 ghost use Rattle.dual_simplex.specs.Sizes.{most_numbered_cuts};
 
-use crate::gomory::gomory_multipliers;
+use crate::candidate::is_refused;
+use crate::gomory::filled;
+use crate::multiplier::{of_cuts, of_rows};
 use crate::sign::Sign;
 use crate::violation::has_violated_row;
 use derivation_book::Book;
-use dual_simplex::FinalTableau;
+use dual_simplex::{FinalTableau, PointSums};
 use fraction::Frac;
 use node_events::{Mult, RationalPoint};
 use problem::{Problem, Term};
@@ -29,7 +31,7 @@ fn cut_at(
     tableau: &FinalTableau,
     problem: &Problem,
     book: &Book,
-    point: &RationalPoint,
+    point: &PointSums,
     column: usize,
     row: &[Frac],
     sign: Sign,
@@ -39,8 +41,17 @@ fn cut_at(
     requires row { row.now ≡ row_of tableau.now column }
     ensures { IfOk result (λ o. o ≡ cut_at problem.now book.now.cuts tableau.now point.now column sign) }
 {
-    let Some(multipliers) = gomory_multipliers(alloc, tableau, problem, book, sign, column, row)?
-    else {
+    let Some(of_rows) = of_rows(alloc, problem, sign, row)? else {
+        return Ok(None);
+    };
+    let Some(of_cuts) = of_cuts(alloc, problem, book, sign, row)? else {
+        return Ok(None);
+    };
+    // Deep in a tree 99 of 100 candidates are refused.
+    if is_refused(alloc, tableau, problem, book, point, &of_rows, &of_cuts)? {
+        return Ok(None);
+    }
+    let Some(multipliers) = filled(alloc, tableau, problem, book, &of_rows, &of_cuts)? else {
         return Ok(None);
     };
     let mult = Mult::make(multipliers);
@@ -103,7 +114,7 @@ fn add_cut(
     tableau: &FinalTableau,
     problem: &Problem,
     book: &Book,
-    point: &RationalPoint,
+    point: &PointSums,
     column: usize,
     row: &[Frac],
     sign: Sign,
@@ -133,7 +144,7 @@ fn add_cuts_of_row(
     tableau: &FinalTableau,
     problem: &Problem,
     book: &Book,
-    point: &RationalPoint,
+    point: &PointSums,
     column: usize,
     row: &[Frac],
     found: &mut Vec<Mult>,
@@ -177,6 +188,7 @@ fn add_cuts(
     problem: &Problem,
     book: &Book,
     point: &RationalPoint,
+    sums: &PointSums,
     column: usize,
     found: &mut Vec<Mult>,
 ) -> Result<(), AllocError>
@@ -184,6 +196,7 @@ fn add_cuts(
     requires columns { length problem.now.spans ≤ length tableau.now.statuses }
     requires column { column < length problem.now.spans }
     requires point { length point.now ≡ length problem.now.spans }
+    requires same { sums.now ≡ point.now }
     requires four { length found.old.items ≤ 4 }
     ensures value { OnOk result ((rest : List (Option Multipliers)) → take 4 (with_cuts found.new.items rest) ≡ take 4 (with_cuts found.old.items (cuts_at problem.now book.now.cuts tableau.now point.now column ++ rest))) }
     ensures four { OnOk result (length found.new.items ≤ 4) }
@@ -193,7 +206,7 @@ fn add_cuts(
         return Ok(());
     }
     let row = tableau.coefficients(alloc, column)?;
-    add_cuts_of_row(alloc, tableau, problem, book, point, column, &row, found)?;
+    add_cuts_of_row(alloc, tableau, problem, book, sums, column, &row, found)?;
     Ok(())
 }
 
@@ -216,9 +229,12 @@ pub fn separate(
 {
     problem.limits_hold();
     let columns = problem.columns();
+    let sums = PointSums::make(alloc, point)?;
     let mut found = Vec::new(alloc);
     for column in 0..columns {
-        add_cuts(alloc, tableau, problem, book, point, column, &mut found)?;
+        add_cuts(
+            alloc, tableau, problem, book, point, &sums, column, &mut found,
+        )?;
     }
     Ok(found)
 }

@@ -5,18 +5,18 @@ ghost use Rattle.problem.specs.Rising.{AreRising};
 ghost use Rattle.gomory_cuts.specs.Separation.{is_violated, if_violated};
 
 use derivation_book::Book;
-use dual_simplex::checked_sum;
-use node_events::{Mult, RationalPoint};
+use dual_simplex::PointSums;
+use node_events::Mult;
 use problem::{Problem, Row};
 use std::alloc::{AllocError, Global};
 
 /// Whether the sum of a G row at the point is there, and less than the right side.
-fn is_violated(point: &RationalPoint, row: &Row) -> bool
+pub(crate) fn is_violated(point: &PointSums, row: &Row) -> bool
     requires { AreRising row.now.terms }
     ensures { result ≡ is_violated point.now row.now }
 {
-    match checked_sum(point, row.terms.as_slice()) {
-        Some(sum) => sum.cmp(row.rhs).is_lt(),
+    match point.compare(row.terms.as_slice(), row.rhs) {
+        Some(ordering) => ordering.is_lt(),
         None => false,
     }
 }
@@ -26,7 +26,7 @@ pub(crate) fn has_violated_row(
     alloc: Global,
     problem: &Problem,
     book: &Book,
-    point: &RationalPoint,
+    point: &PointSums,
     mult: &Mult,
 ) -> Result<bool, AllocError>
     ensures { IfOk result (λ b. if_violated problem.now book.now.cuts point.now mult.now ≡ (if b then Some mult.now else None)) }

@@ -18,5 +18,6 @@ returns-then-len-eq-MOST-clause-value c = elim c.then-len-eq-MOST.branch [
 pub returns-clause-value : goal.returns-clause-value
 returns-clause-value c =
     λ rest. c.in_ok-add_cuts_of_row.ensures.value rest
+    ∙ ap (λ x. take 4 (with_cuts c.args.found.now.items (cut_at c.args.problem.now c.args.book.now.cuts c.args.tableau.now x c.args.column Plus ∷ cut_at c.args.problem.now c.args.book.now.cuts c.args.tableau.now x c.args.column Minus ∷ rest))) c.requires.same
     ∙ ap (λ b. take 4 (with_cuts c.args.found.now.items ((if b then cut_at c.args.problem.now c.args.book.now.cuts c.args.tableau.now c.args.point.now c.args.column Plus ∷ cut_at c.args.problem.now c.args.book.now.cuts c.args.tableau.now c.args.point.now c.args.column Minus ∷ [] else []) ++ rest)))
     (sym (sym c.is_fractional.ensures ∙ c.if-not-is_fractional.false))
