@@ -3,7 +3,7 @@
 ghost use Rattle.std.specs.Prelude.{◌≡◌, ◌≤◌, length};
 ghost use Rattle.outside.specs.OnDisk.{disk_now};
 
-use crate::texts::text_of;
+use crate::texts::show_text;
 use outside::{Disk, MemDisk};
 use std::alloc::Global;
 use std::io;
@@ -22,8 +22,7 @@ const WISHES: [&str; 8] = [
 
 /// Prints what a read gives.
 fn show_bytes<R: Print>(rt: &R, disk: &MemDisk) -> io::Result<()> {
-    let held = text_of(disk.bytes());
-    println!(rt; "disk holds {held:?}")
+    show_text(rt, "disk holds ", disk.bytes(), "\n")
 }
 
 /// Prints what a sync answers, and the counts behind it.
@@ -66,16 +65,11 @@ fn show_stopping<R: Print + Alloc<A = Global>>(rt: &R) -> io::Result<()> {
     show_stopping_calls(rt, &mut disk)
 }
 
-/// Prints what a crash leaves.
-fn show_left<R: Print>(rt: &R, wish: &str, image: &[u8]) -> io::Result<()> {
-    let left = text_of(image);
-    println!(rt; "disk image for {wish:?}: {left:?}")
-}
-
 /// Prints what a crash may leave that is closest to a wish.
 fn show_image<R: Print + Alloc<A = Global>>(rt: &R, disk: &MemDisk, wish: &str) -> io::Result<()> {
+    show_text(rt, "disk image for ", wish.as_bytes(), ": ")?;
     let image = disk.image(rt.alloc(), wish.as_bytes())?;
-    show_left(rt, wish, &image)
+    show_text(rt, "", &image, "\n")
 }
 
 /// Writes one piece over, puts another one behind the end, and cuts the end, with no sync; and says whether no call failed.
@@ -101,16 +95,10 @@ fn changed(alloc: Global) -> io::Result<MemDisk> {
     }
 }
 
-/// Prints the bytes that a disk keeps.
-fn show_text_kept<R: Print>(rt: &R, kept: &[u8]) -> io::Result<()> {
-    let kept = text_of(kept);
-    println!(rt; "disk keeps {kept:?}")
-}
-
 /// Prints what a disk keeps.
 fn show_kept<R: Print + Alloc<A = Global>>(rt: &R, disk: &MemDisk) -> io::Result<()> {
     let kept = disk.kept(rt.alloc())?;
-    show_text_kept(rt, &kept)
+    show_text(rt, "disk keeps ", &kept, "\n")
 }
 
 /// Prints what a sync answers.
@@ -142,8 +130,8 @@ fn show_last<R: Print>(rt: &R, disk: &mut MemDisk) -> io::Result<()>
 {
     let mut buf = [0; 2];
     let read = disk.read_at(3, &mut buf);
-    let given = text_of(&buf);
-    println!(rt; "disk read at 3: {read:?} {given:?}")
+    print!(rt; "disk read at 3: {read:?} ")?;
+    show_text(rt, "", &buf, "\n")
 }
 
 /// Prints a read.

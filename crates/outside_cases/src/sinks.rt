@@ -1,28 +1,35 @@
 //! A sink in memory that takes pieces, and fails where it is listed; and the hold that holds nobody up.
 
-use crate::texts::text_of;
-use outside::{Hold, MemSink, NoHold, Put, Sink, write_all};
+use crate::texts::show_text;
+use outside::{Failed, Hold, MemSink, NoHold, Put, Sink, write_all};
 use std::alloc::{AllocError, Global};
 use std::io;
+
+/// Prints an answer, bytes behind words, and how often a sink failed.
+fn show_answer<R: Print>(
+    rt: &R,
+    answer: Result<(), Failed>,
+    words: &str,
+    bytes: &[u8],
+    faults: u64,
+) -> io::Result<()> {
+    print!(rt; "{answer:?}")?;
+    show_text(rt, words, bytes, "")?;
+    println!(rt; ", faults {faults}")
+}
 
 /// Prints how a text is written, and what the sink then holds.
 fn show_write<R: Print>(rt: &R, sink: &mut MemSink, text: &str) -> io::Result<()> {
     let answer = write_all(sink, text.as_bytes());
-    let (held, faults) = (text_of(sink.bytes()), sink.faults());
-    println!(rt; "sink write {text:?}: {answer:?}, holds {held:?}, faults {faults}")
+    show_text(rt, "sink write ", text.as_bytes(), ": ")?;
+    show_answer(rt, answer, ", holds ", sink.bytes(), sink.faults())
 }
 
 /// Prints what ends the writing, and what the sink then keeps.
 fn show_finish<R: Print>(rt: &R, sink: &mut MemSink) -> io::Result<()> {
     let answer = sink.finish();
-    let (kept, faults) = (text_of(sink.kept()), sink.faults());
-    println!(rt; "sink finish: {answer:?}, keeps {kept:?}, faults {faults}")
-}
-
-/// Prints what a sink keeps.
-fn show_kept<R: Print>(rt: &R, sink: &MemSink) -> io::Result<()> {
-    let kept = text_of(sink.kept());
-    println!(rt; "sink keeps {kept:?}")
+    print!(rt; "sink finish: ")?;
+    show_answer(rt, answer, ", keeps ", sink.kept(), sink.faults())
 }
 
 /// Prints writes before the end, two ends, and a write behind them.
@@ -33,7 +40,7 @@ fn show_calls<R: Print>(rt: &R, sink: &mut MemSink) -> io::Result<()> {
     show_finish(rt, sink)?;
     show_finish(rt, sink)?;
     show_write(rt, sink, "h")?;
-    show_kept(rt, sink)
+    show_text(rt, "sink keeps ", sink.kept(), "\n")
 }
 
 /// A sink in pieces of two bytes, two of whose calls fail.

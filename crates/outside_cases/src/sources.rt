@@ -1,9 +1,7 @@
 //! A source in memory that gives pieces, and fails where it is listed.
 
-ghost use Rattle.std.specs.Prelude.{◌<◌};
-
-use crate::texts::text_of;
-use outside::{Got, MemSource, ReadFault, Source, read_all};
+use crate::texts::show_text;
+use outside::{Got, MemSource, Source, read_all};
 use std::alloc::{AllocError, Global};
 use std::io;
 
@@ -11,10 +9,7 @@ use std::io;
 fn show_got<R: Print>(rt: &R, source: &mut MemSource) -> io::Result<()> {
     let mut buf = [0; 4];
     match source.read(&mut buf) {
-        Got::Gave(count) => {
-            let given = text_of(&buf[..count]);
-            print!(rt; "source gave {given:?}")
-        }
+        Got::Gave(count) => show_text(rt, "source gave ", &buf[..count], ""),
         Got::End => print!(rt; "source ended"),
         Got::Failed => print!(rt; "source failed"),
     }
@@ -23,8 +18,9 @@ fn show_got<R: Print>(rt: &R, source: &mut MemSource) -> io::Result<()> {
 /// Prints what one read gives, and what is left.
 fn show_read<R: Print>(rt: &R, source: &mut MemSource) -> io::Result<()> {
     show_got(rt, source)?;
-    let (left, faults) = (text_of(source.left()), source.faults());
-    println!(rt; ", left {left:?}, faults {faults}")
+    show_text(rt, ", left ", source.left(), "")?;
+    let faults = source.faults();
+    println!(rt; ", faults {faults}")
 }
 
 /// Prints what so many reads give.
@@ -35,40 +31,28 @@ fn show_reads<R: Print>(rt: &R, source: &mut MemSource, reads: u8) -> io::Result
     Ok(())
 }
 
-/// Prints the bytes that a reading to a limit gives.
-fn show_given<R: Print>(rt: &R, limit: u8, bytes: &[u8]) -> io::Result<()> {
-    let given = text_of(bytes);
-    println!(rt; "source to {limit} gave {given:?}")
-}
-
-/// Prints how a reading to a limit fails.
-fn show_fault<R: Print>(rt: &R, limit: u8, fault: ReadFault) -> io::Result<()> {
-    println!(rt; "source to {limit}: {fault:?}")
-}
-
 /// Prints what all reads to a limit give.
 fn show_read_all<R: Print + Alloc<A = Global>>(
     rt: &R,
     source: &mut MemSource,
     limit: u8,
 ) -> io::Result<()> {
+    print!(rt; "source to {limit}")?;
     match read_all(rt.alloc(), source, usize::from(limit)) {
-        Ok(bytes) => show_given(rt, limit, &bytes),
-        Err(fault) => show_fault(rt, limit, fault),
+        Ok(bytes) => show_text(rt, " gave ", &bytes, "\n"),
+        Err(fault) => println!(rt; ": {fault:?}"),
     }
 }
 
-/// A source of five bytes in pieces of so many, of which these calls fail.
-fn five(alloc: Global, failing: &[u64], most: u8) -> Result<MemSource, AllocError>
-    requires { 0 < most }
-{
+/// A source of five bytes in pieces of two, of which these calls fail.
+fn five(alloc: Global, failing: &[u64]) -> Result<MemSource, AllocError> {
     let source = MemSource::failing(alloc, b"abcde", failing)?;
-    Ok(source.in_pieces(usize::from(most)))
+    Ok(source.in_pieces(2))
 }
 
 /// Prints reads of which two fail.
 fn show_failing<R: Print + Alloc<A = Global>>(rt: &R) -> io::Result<()> {
-    let mut source = five(rt.alloc(), &[1, 3], 2)?;
+    let mut source = five(rt.alloc(), &[1, 3])?;
     show_reads(rt, &mut source, 6)
 }
 
@@ -80,7 +64,7 @@ fn show_limit<R: Print + Alloc<A = Global>>(rt: &R, limit: u8) -> io::Result<()>
 
 /// Prints a reading that fails.
 fn show_failing_limit<R: Print + Alloc<A = Global>>(rt: &R) -> io::Result<()> {
-    let mut source = five(rt.alloc(), &[2], 2)?;
+    let mut source = five(rt.alloc(), &[2])?;
     show_read_all(rt, &mut source, 9)
 }
 

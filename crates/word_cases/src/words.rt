@@ -1,6 +1,6 @@
 //! The paths of a command.
 
-use command_words::{Paths, Words, WordsFault, paths_of};
+use command_words::{Paths, Words, paths_of};
 use std::alloc::{AllocError, Global};
 use std::io;
 
@@ -42,31 +42,26 @@ fn words_of(alloc: Global, line: &str) -> Result<Words, AllocError> {
     Ok(words)
 }
 
-/// A path as it is printed.
-fn shown(path: &Option<String>) -> &str {
-    path.as_deref().unwrap_or("none")
+/// Prints a path behind words.
+fn show_path<R: Print>(rt: &R, words: &str, path: &Option<String>) -> io::Result<()> {
+    let path = path.as_deref().unwrap_or("none");
+    print!(rt; "{words}{path}")
 }
 
 /// Prints paths.
-fn show_paths<R: Print>(rt: &R, line: &str, paths: &Paths) -> io::Result<()> {
-    let (model, journal, cert) = (
-        shown(&paths.model),
-        shown(&paths.journal),
-        shown(&paths.cert),
-    );
-    println!(rt; "words {line}: model {model}, journal {journal}, certificate {cert}")
-}
-
-/// Prints why a line is no command.
-fn show_fault<R: Print>(rt: &R, line: &str, fault: WordsFault) -> io::Result<()> {
-    println!(rt; "words {line}: {fault:?}")
+fn show_paths<R: Print>(rt: &R, paths: &Paths) -> io::Result<()> {
+    show_path(rt, ": model ", &paths.model)?;
+    show_path(rt, ", journal ", &paths.journal)?;
+    show_path(rt, ", certificate ", &paths.cert)?;
+    println!(rt; "")
 }
 
 /// Prints the paths of the words of a line.
 fn show_words<R: Print + Alloc<A = Global>>(rt: &R, line: &str, words: &Words) -> io::Result<()> {
+    print!(rt; "words {line}")?;
     match paths_of(rt.alloc(), words) {
-        Ok(paths) => show_paths(rt, line, &paths),
-        Err(fault) => show_fault(rt, line, fault),
+        Ok(paths) => show_paths(rt, &paths),
+        Err(fault) => println!(rt; ": {fault:?}"),
     }
 }
 
