@@ -1,6 +1,5 @@
 //! Texts of fractions, their roundings and operations, and which of them fit into 64 bits.
 
-use anyhow::Result;
 use case_tools::NumberOrNone;
 use fraction::{Frac, dot, same};
 use std::io;
@@ -87,9 +86,9 @@ fn show_pairs<R: Print>(rt: &R) -> io::Result<()> {
 }
 
 /// Prints the calls on fractions.
-pub(crate) fn show<R: Print>(rt: &R) -> Result<()> {
+pub(crate) fn show<R: Print>(rt: &R) -> io::Result<()> {
     show_numbers(rt)?;
     show_pairs(rt)?;
     show_dot(rt)?;
-    Ok(show_narrows(rt)?)
+    show_narrows(rt)
 }

@@ -3,7 +3,6 @@
 ghost use Rattle.std.specs.Prelude.{◌<◌, ◌≤ℤ◌, ◌<ℤ◌, length, slice_get};
 ghost use Rattle.std.specs.Option.{ForSome};
 
-use anyhow::Result;
 use case_tools::Spans;
 use problem_box::{IntBox, Span};
 use std::alloc::{AllocError, Global};
@@ -68,10 +67,9 @@ fn show_split<R: Print>(
     bound: i64,
     low: &IntBox,
     high: &IntBox,
-) -> Result<()> {
+) -> io::Result<()> {
     let (spans, low, high) = (Spans(area), Spans(low), Spans(high));
-    println!(rt; "box {spans} split at {bound}: {low} and {high}")?;
-    Ok(())
+    println!(rt; "box {spans} split at {bound}: {low} and {high}")
 }
 
 /// Prints both halves of a box that is split at this number in a column where it can be.
@@ -80,7 +78,7 @@ fn show_halves<R: Print + Alloc<A = Global>>(
     area: &IntBox,
     column: usize,
     bound: i64,
-) -> Result<()> {
+) -> io::Result<()> {
     if column >= area.len() {
         return Ok(());
     }
@@ -94,36 +92,36 @@ fn show_halves<R: Print + Alloc<A = Global>>(
 }
 
 /// Prints the calls on a box of three columns.
-fn show_mixed<R: Print + Alloc<A = Global>>(rt: &R, area: &IntBox) -> Result<()> {
+fn show_mixed<R: Print + Alloc<A = Global>>(rt: &R, area: &IntBox) -> io::Result<()> {
     show_box(rt, area)?;
     show_point(rt, area, &[1, 2, 3])?;
     show_halves(rt, area, 1, 2)
 }
 
 /// Prints the calls on a box of three columns: one fixed, one free, one empty.
-fn show_three_columns<R: Print + Alloc<A = Global>>(rt: &R) -> Result<()> {
+fn show_three_columns<R: Print + Alloc<A = Global>>(rt: &R) -> io::Result<()> {
     let area = three_columns(rt.alloc())?;
     show_mixed(rt, &area)
 }
 
 /// Prints the calls on a box of one column that is fixed.
-fn show_fixed<R: Print>(rt: &R, area: &IntBox) -> Result<()> {
+fn show_fixed<R: Print>(rt: &R, area: &IntBox) -> io::Result<()> {
     show_box(rt, area)?;
     show_point(rt, area, &[-2])?;
     show_point(rt, area, &[-1])?;
-    Ok(show_point(rt, area, &[-2, -2])?)
+    show_point(rt, area, &[-2, -2])
 }
 
 /// Prints the calls on the box of one column.
-fn show_one_column<R: Print + Alloc<A = Global>>(rt: &R) -> Result<()> {
+fn show_one_column<R: Print + Alloc<A = Global>>(rt: &R) -> io::Result<()> {
     let area = one_column(rt.alloc())?;
     show_fixed(rt, &area)
 }
 
 /// Prints the calls on boxes.
-pub(crate) fn show<R: Print + Alloc<A = Global>>(rt: &R) -> Result<()> {
+pub(crate) fn show<R: Print + Alloc<A = Global>>(rt: &R) -> io::Result<()> {
     show_three_columns(rt)?;
     show_one_column(rt)?;
     let none = IntBox::make(Vec::new(rt.alloc()));
-    Ok(show_box(rt, &none)?)
+    show_box(rt, &none)
 }
