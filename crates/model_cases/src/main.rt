@@ -2,18 +2,13 @@
 //! of cases. It shows each case that differs, and then how many there are; it succeeds exactly where none differs.
 #![tactic(auto)]
 
-mod block;
-mod case;
-mod change;
 mod outcome;
 mod report;
-mod written;
+mod run;
 
 use anyhow::{Context, Result};
-use case::{Case, Model};
-use outcome::{Outcome, outcome_of};
-use report::show_difference;
-use solve_top::Words;
+use case_files::{Case, Change, Source, bytes_of, changed};
+use run::differs;
 use std::alloc::Global;
 use std::env;
 use std::fs::{self, File};
@@ -60,57 +55,43 @@ fn file_beside<R: Files<File = File> + Alloc<A = Global>>(
     file_at(rt, model.as_str(), name)
 }
 
-/// What a run over the file of a name beside the file of cases answers.
-fn outcome_of_file<R: Files<File = File> + Alloc<A = Global>>(
+/// The model of a case of the file at this path.
+fn model_of<R: Files<File = File> + Alloc<A = Global>>(
     rt: &R,
     path: &str,
-    name: &str,
-    words: &Words,
-) -> Result<Outcome> {
-    let model = file_beside(rt, path, name)?;
-    Ok(outcome_of(rt.alloc(), words, &model)?)
-}
-
-/// What the run of a case answers.
-fn outcome_of_case<R: Files<File = File> + Alloc<A = Global>>(
-    rt: &R,
-    path: &str,
-    case: &Case<'_>,
-) -> Result<Outcome> {
-    match &case.model {
-        Model::Text(model) => Ok(outcome_of(rt.alloc(), &case.words, model)?),
-        Model::File(name) => outcome_of_file(rt, path, name, &case.words),
+    base: &str,
+    source: Source<'_>,
+    changes: &[Change<'_>],
+) -> Result<Vec<u8>> {
+    match source {
+        Source::Base => changed(rt.alloc(), base, changes),
+        Source::Block(form, body) => bytes_of(rt.alloc(), form, body),
+        Source::File(name) => file_beside(rt, path, name),
     }
-}
-
-/// Whether a case differs from what was seen; then it is shown.
-fn judged<R: Print>(rt: &R, path: &str, case: &Case<'_>, seen: &Outcome) -> Result<bool> {
-    if seen.meets(&case.expected) {
-        return Ok(false);
-    }
-    show_difference(rt, path, case, seen)?;
-    Ok(true)
 }
 
 /// Runs a case. Whether it differs; then it is shown.
 fn case_differs<R: Files<File = File> + Alloc<A = Global> + Print>(
     rt: &R,
     path: &str,
+    base: &str,
     case: &Case<'_>,
+    changes: &[Change<'_>],
 ) -> Result<bool> {
-    let seen = outcome_of_case(rt, path, case)?;
-    judged(rt, path, case, &seen)
+    let model = model_of(rt, path, base, case.source, changes)?;
+    differs(rt, path, case, &model)
 }
 
 /// Runs the case of a text. Whether it differs; then it is shown.
-fn differs<R: Files<File = File> + Alloc<A = Global> + Print>(
+fn text_differs<R: Files<File = File> + Alloc<A = Global> + Print>(
     rt: &R,
     path: &str,
     base: &str,
     text: &str,
 ) -> Result<bool> {
-    let case = Case::read(rt.alloc(), base, text)?;
-    case_differs(rt, path, &case)
+    let mut changes = Vec::new(rt.alloc());
+    let case = Case::read(&mut changes, text)?;
+    case_differs(rt, path, base, &case, &changes)
 }
 
 /// The base text of a file of cases, from what stands in front of its first case.
@@ -130,7 +111,7 @@ fn run_text<R: Files<File = File> + Alloc<A = Global> + Print>(
 ) -> Result<()> {
     let base = base_of(text.split("\n=== ").next().unwrap_or(""));
     for part in text.split("\n=== ").skip(1) {
-        count.add(differs(rt, path, base, part)?);
+        count.add(text_differs(rt, path, base, part)?);
     }
     Ok(())
 }

@@ -1,55 +1,46 @@
 // What is shown of a case that differs.
 
-use crate::case::{Case, Expected};
 use crate::outcome::Outcome;
+use case_files::{Case, Expected};
 use std::io;
 
-/// Shows bytes, each line of them behind a mark.
-fn show_lines<R: Print>(rt: &R, bytes: &[u8]) -> io::Result<()> {
-    let Ok(text) = str::from_utf8(bytes) else {
-        return println!(rt; "    | (bytes that are no text)");
-    };
+/// Shows lines, each of them behind a mark.
+fn show_lines<R: Print>(rt: &R, text: &str) -> io::Result<()> {
     for line in text.lines() {
         println!(rt; "    | {line}")?;
     }
     Ok(())
 }
 
-/// Shows which certificate a case expects, if it differs from the one that was seen. Whether it does.
-fn show_expected<R: Print>(rt: &R, expected: &Expected, seen: &Outcome) -> io::Result<bool> {
-    let Some(lines) = &expected.certificate else {
-        return show_unexpected(rt, seen);
-    };
-    if lines.as_slice() == seen.certificate.as_slice() {
-        return Ok(false);
+/// Shows the lines of bytes.
+fn show_bytes<R: Print>(rt: &R, bytes: &[u8]) -> io::Result<()> {
+    match str::from_utf8(bytes) {
+        Ok(text) => show_lines(rt, text),
+        Err(_) => println!(rt; "    | (bytes that are no text)"),
     }
-    println!(rt; "  expected the certificate")?;
-    show_lines(rt, lines)?;
-    Ok(true)
 }
 
-/// Shows that no certificate is expected, if one was seen that none should be. Whether that is so.
-fn show_unexpected<R: Print>(rt: &R, seen: &Outcome) -> io::Result<bool> {
-    if seen.status == 0 || seen.certificate.is_empty() {
-        return Ok(false);
-    }
-    println!(rt; "  expected no certificate")?;
-    Ok(true)
+/// Shows which certificate a case expects.
+fn show_expected<R: Print>(rt: &R, certificate: Option<&str>) -> io::Result<()> {
+    let Some(lines) = certificate else {
+        return println!(rt; "  expected no certificate");
+    };
+    println!(rt; "  expected the certificate")?;
+    show_lines(rt, lines)
 }
 
 /// Shows the certificates of a case, where they differ.
-fn show_certificates<R: Print>(rt: &R, case: &Case<'_>, seen: &Outcome) -> io::Result<()> {
-    if !show_expected(rt, &case.expected, seen)? {
+fn show_certificates<R: Print>(
+    rt: &R,
+    expected: &Expected<'_>,
+    seen: &Outcome<'_>,
+) -> io::Result<()> {
+    if seen.is_certified(expected) {
         return Ok(());
     }
+    show_expected(rt, expected.certificate)?;
     println!(rt; "  got the certificate")?;
-    show_lines(rt, &seen.certificate)
-}
-
-/// Shows a status and lines behind a word.
-fn show_answer<R: Print>(rt: &R, word: &str, status: u8, lines: &[u8]) -> io::Result<()> {
-    println!(rt; "  {word} status {status}")?;
-    show_lines(rt, lines)
+    show_bytes(rt, seen.certificate)
 }
 
 /// Shows what a case expects and what it got.
@@ -57,11 +48,12 @@ pub(crate) fn show_difference<R: Print>(
     rt: &R,
     path: &str,
     case: &Case<'_>,
-    seen: &Outcome,
+    seen: &Outcome<'_>,
 ) -> io::Result<()> {
-    let (title, expected) = (case.title, &case.expected);
-    println!(rt; "{path}: {title}")?;
-    show_answer(rt, "expected", expected.status, &expected.lines)?;
-    show_answer(rt, "got", seen.status, &seen.lines)?;
-    show_certificates(rt, case, seen)
+    let (title, expected, status) = (case.title, case.expected.status, seen.status);
+    println!(rt; "{path}: {title}\n  expected status {expected}")?;
+    show_lines(rt, case.expected.lines)?;
+    println!(rt; "  got status {status}")?;
+    show_bytes(rt, seen.lines)?;
+    show_certificates(rt, &case.expected, seen)
 }

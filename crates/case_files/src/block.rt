@@ -5,7 +5,7 @@ use anyhow::{Result, bail};
 use std::alloc::Global;
 
 /// The lines below a line `--- WORD [NUMBER] [FORM]`, up to the next such line.
-#[derive(Drop)]
+#[derive(Clone, Copy)]
 pub struct Block<'a> {
     pub word: &'a str,
     pub rest: &'a str,
@@ -32,7 +32,7 @@ impl<'a> Block<'a> {
 }
 
 /// The bytes of a body in a form: as it stands, `escaped`, or `repeated COUNT`.
-pub(crate) fn bytes_of(alloc: Global, form: &str, body: &str) -> Result<Vec<u8>> {
+pub fn bytes_of(alloc: Global, form: &str, body: &str) -> Result<Vec<u8>> {
     if form.is_empty() {
         return Ok(plain(alloc, body)?);
     }
