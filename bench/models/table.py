@@ -1,6 +1,6 @@
 """Solves small models of kinds that people solve with the program, and with `glpsol` and `cbc` where they are installed, and prints a table in
-Markdown: how many columns and rows, the program's nodes and nodes a second, its time to the answer, and the other solvers' times. Times are of the
-processor; each run is stopped after a minute. Where another solver has another answer, the table says which: theirs are in floating point, so
+Markdown: how many columns and rows, the program's nodes and nodes a second, its time to the answer with the options as they are if none is given and
+without cuts, and the other solvers' times. Times are of the processor; each run is stopped after a minute. Where another solver has another answer, the table says which: theirs are in floating point, so
 they are compared to a thousandth. `cbc` takes some models in free MPS for fixed ones, so it gets what `glpsol` writes.
 """
 import fractions
@@ -72,10 +72,10 @@ def words_told(told):
     return dict(line.split(" ", 1) if " " in line else (line, "") for line in told.splitlines())
 
 
-def solve(model):
+def solve(model, *options):
     """The program's answer (none where it took over a minute), its nodes and its seconds."""
     forget("journal", "certificate")
-    told, seconds = run(program, "solve", model, "journal", "certificate")
+    told, seconds = run(program, "solve", model, "journal", "certificate", *options)
     shown = words_told(told or run(program, "show", "journal")[0])
     if told is None:
         return None, int(shown["nodes"]), seconds
@@ -130,7 +130,10 @@ def spelled(answer, seconds):
 def row(name, path):
     columns, rows = size_of(path)
     answer, nodes, seconds = solve(path)
-    cells = [name, f"{columns} x {rows}", f"{nodes:,}", f"{nodes / seconds:,.0f}", spelled(answer, seconds)]
+    same, _, plain = solve(path, "--cuts", "0")
+    if not agrees(answer, same):
+        sys.exit(f"{name}: {answer} with cuts, {same} without")
+    cells = [name, f"{columns} x {rows}", f"{nodes:,}", f"{nodes / seconds:,.0f}", spelled(answer, seconds), spelled(same, plain)]
     for other, by in OTHERS:
         theirs, took = by(path)
         told = "" if agrees(answer, theirs) else f", says {theirs if theirs == 'infeasible' else float(theirs)}"
@@ -147,7 +150,7 @@ def make(kind, seed, *sizes):
 
 
 def main():
-    heads = ["model", "columns x rows", "nodes", "nodes/s", "bnc"] + [name for name, _ in OTHERS]
+    heads = ["model", "columns x rows", "nodes", "nodes/s", "bnc", "bnc --cuts 0"] + [name for name, _ in OTHERS]
     print("| " + " | ".join(heads) + " |")
     print("|---|---|" + "---:|" * (len(heads) - 2))
     for name in OWN:
