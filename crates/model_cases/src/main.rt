@@ -2,12 +2,18 @@
 //! of cases. It shows each case that differs, and then how many there are; it succeeds exactly where none differs.
 #![tactic(auto)]
 
+mod block;
+mod case;
+mod change;
 mod outcome;
 mod report;
 mod run;
+mod written;
 
 use anyhow::{Context, Result};
-use case_files::{Case, Change, Source, bytes_of, changed};
+use block::bytes_of;
+use case::{Case, Source};
+use change::{Change, changed};
 use run::differs;
 use std::alloc::Global;
 use std::env;

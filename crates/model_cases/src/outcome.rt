@@ -2,7 +2,7 @@
 
 ghost use Rattle.std.specs.Prelude.{◌≡◌, ◌≢◌, ◌++◌, ◌∷◌, [], true, None, IfSome};
 
-use case_files::Expected;
+use crate::case::Expected;
 
 /// What a run answered.
 #[derive(Clone, Copy)]

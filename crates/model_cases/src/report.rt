@@ -1,7 +1,7 @@
 // What is shown of a case that differs.
 
+use crate::case::{Case, Expected};
 use crate::outcome::Outcome;
-use case_files::{Case, Expected};
 use std::io;
 
 /// Shows lines, each of them behind a mark.

@@ -1,9 +1,9 @@
 // Runs of cases over memory.
 
+use crate::case::Case;
 use crate::outcome::Outcome;
 use crate::report::show_difference;
 use anyhow::Result;
-use case_files::Case;
 use outside::{MemDisk, MemSink, MemSource};
 use solve_top::{Ran, Words, run_one};
 use std::alloc::{AllocError, Global};

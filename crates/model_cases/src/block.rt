@@ -32,7 +32,7 @@ impl<'a> Block<'a> {
 }
 
 /// The bytes of a body in a form: as it stands, `escaped`, or `repeated COUNT`.
-pub fn bytes_of(alloc: Global, form: &str, body: &str) -> Result<Vec<u8>> {
+pub(crate) fn bytes_of(alloc: Global, form: &str, body: &str) -> Result<Vec<u8>> {
     if form.is_empty() {
         return Ok(plain(alloc, body)?);
     }

@@ -103,7 +103,7 @@ fn draft_of<'a>(changes: &mut Vec<Change<'a>>, text: &'a str) -> Result<Draft<'a
 
 impl<'a> Case<'a> {
     /// The case of a text that begins with its title, and pushes the changes of the base text.
-    pub fn read(changes: &mut Vec<Change<'a>>, text: &'a str) -> Result<Case<'a>> {
+    pub(crate) fn read(changes: &mut Vec<Change<'a>>, text: &'a str) -> Result<Case<'a>> {
         let draft = draft_of(changes, text)?;
         let status = draft.status.context("a case without a status")?;
         Ok(Case {

@@ -7,7 +7,7 @@ use std::alloc::{AllocError, Global};
 use std::str::Chars;
 
 /// The lines of a block as they stand.
-pub fn plain(alloc: Global, body: &str) -> Result<Vec<u8>, AllocError>
+pub(crate) fn plain(alloc: Global, body: &str) -> Result<Vec<u8>, AllocError>
     ensures lines { IfOk result (λ v. body.now ≢ [] → v.items ≡ body.now ++ 10 ∷ []) }
     ensures empty { IfOk result (λ v. body.now ≡ [] → v.items ≡ []) }
 {

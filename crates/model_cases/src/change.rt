@@ -98,7 +98,7 @@ fn push_changed(
 }
 
 /// A text with changes of its lines.
-pub fn changed(alloc: Global, base: &str, changes: &[Change<'_>]) -> Result<Vec<u8>> {
+pub(crate) fn changed(alloc: Global, base: &str, changes: &[Change<'_>]) -> Result<Vec<u8>> {
     let mut text = Vec::new(alloc);
     push_changed(&mut text, alloc, base, changes)?;
     Ok(text)
