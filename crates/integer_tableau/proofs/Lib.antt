@@ -1,5 +1,8 @@
 mod Exchanges
 mod Apart
+mod BasicColumns
+mod LeavingColumns
+mod ListedRows
 mod RowsByVariable
 mod AllRows
 mod Sums

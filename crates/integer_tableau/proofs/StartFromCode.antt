@@ -7,6 +7,8 @@ use Rattle.std.proofs.lemmas.Int.{ints}
 use Rattle.std.proofs.lemmas.Bool.{cases_lt}
 use Rattle.std.proofs.lemmas.Bool.Decides.{nat_tests}
 use Rattle.std.proofs.lemmas.List.{get_or_append_left, get_or_default, get_or_past, length-append, length-replicate, same_lists}
+use Rattle.integer_tableau.proofs.BasicColumns.{none_basic}
+use Rattle.integer_tableau.specs.BasicColumns.{basic_from}
 use Rattle.integer_tableau.proofs.Combining.{length-numbers_from, number_at-numbers_from}
 use Rattle.integer_tableau.proofs.Expanded.{row_value, value_of_row, values_many, which}
 use Rattle.integer_tableau.proofs.Starting.{column_number, length_columns, nonbasic_values_many, position_of_column, positions_many, start_consistent, start_tableau_is, statuses_many}
@@ -262,3 +264,8 @@ start_nonbasic_are n m ss nonbasic e w each = subst (λ ss. AreNonbasic ss nonba
       let b : k < n = omega (arith, h.1, f) in
       (omega (arith, b, w), each k b ∙ f);
 })
+
+-- no column is basic
+pub start_basic_are : (n m k : ℕ) (ss : List Position) → ss ≡ columns_from 0 n ++ replicate m InBasis → k ≡ n → [] ≡ basic_from 0 k ss
+start_basic_are n m k ss e w = sym (none_basic 0 k ss (λ v l _ q.
+    let f : InColumn (0 + v) ≡ InBasis = sym (position_of_column 0 n v (replicate m InBasis) (omega (arith, l, w))) ∙ ap (λ ss. get_or ss v InBasis) (sym e) ∙ q in cc))

@@ -9,6 +9,7 @@ pub mod Combined
 pub mod Denominator
 pub mod Small
 pub mod Scales
+pub mod BasicColumns
 pub mod Leaving
 pub mod Entering
 pub mod Place

@@ -5,6 +5,7 @@ ghost use Rattle.integer_tableau.specs.Numbers.{number_at, IsWithin, total_size}
 ghost use Rattle.integer_tableau.specs.Range.{size_limit};
 ghost use Rattle.integer_tableau.specs.Combined.{combined, combined_row};
 ghost use Rattle.integer_tableau.specs.Positions.{IsColumnOf};
+ghost use Rattle.integer_tableau.specs.BasicColumns.{HaveRows};
 
 use crate::combination::add_columns;
 use crate::integer_row::IntegerRow;
@@ -14,31 +15,39 @@ use crate::range::SIZE_LIMIT;
 use std::alloc::Global;
 
 /// A bound on the sizes in all rows.
-pub(crate) fn common_bound(rows: &[IntegerRow]) -> u64
+pub(crate) fn common_bound(rows: &[IntegerRow], basic_columns: &[usize]) -> u64
+    requires { HaveRows basic_columns.now rows.now }
     ensures { (v : ℕ) → v < length rows.now → IsWithin result (slice_index_or rows.now v []) }
 {
     let mut bound = 0;
-    for row in rows {
-        bound = bound.max(row.bound());
+    for column in basic_columns {
+        bound = bound.max(rows[*column].bound());
     }
     bound
 }
 
 /// Makes the bound on the sizes of each row the greatest of them.
-pub(crate) fn look_at_all(rows: &mut [IntegerRow])
+pub(crate) fn look_at_all(rows: &mut [IntegerRow], basic_columns: &[usize])
+    requires { HaveRows basic_columns.now rows.old }
     ensures { rows.new ≡ rows.old }
 {
-    for row in rows.iter_mut() {
-        row.look();
+    for column in basic_columns {
+        rows[*column].look();
     }
 }
 
 /// Whether the bounds on the rows' sizes make all combinations small that have no greater weight.
-fn are_bounds_small(weight: u64, rows: &[IntegerRow], denominator: i64) -> bool
-    requires { weight < size_limit }
+fn are_bounds_small(
+    weight: u64,
+    rows: &[IntegerRow],
+    basic_columns: &[usize],
+    denominator: i64,
+) -> bool
+    requires light { weight < size_limit }
+    requires listed { HaveRows basic_columns.now rows.now }
     ensures { IsTrue result → (most : ℕ) × (nat_abs denominator ≤ most) × ((v : ℕ) → v < length rows.now → IsWithin most (slice_index_or rows.now v [])) × (weight * most < size_limit) }
 {
-    let most = common_bound(rows).max(denominator.unsigned_abs());
+    let most = common_bound(rows, basic_columns).max(denominator.unsigned_abs());
     u128::from(weight) * u128::from(most) < u128::from(SIZE_LIMIT)
 }
 
@@ -171,6 +180,7 @@ fn are_small_by_look(
     program_rows: &[ProgramRow],
     positions: &[Position],
     rows: &[IntegerRow],
+    basic_columns: &[usize],
     denominator: i64,
 ) -> bool
     requires positions_there { length positions.now ≡ length rows.now + length program_rows.now }
@@ -178,9 +188,10 @@ fn are_small_by_look(
     requires light { (i : ℕ) → i < length program_rows.now → total_size (slice_index_or program_rows.now i []) < size_limit }
     requires positive { pos 0 <ℤ denominator }
     requires apart { (v k : ℕ) → slice_index_or positions.now v Position.InBasis ≡ Position.InColumn k → IsColumnOf positions.now v k }
+    requires listed { HaveRows basic_columns.now rows.now }
     ensures { IsTrue result → (i : ℕ) → i < length program_rows.now → slice_index_or positions.now (length rows.now + i) Position.InBasis ≡ Position.InBasis → IsWithin (size_limit - 1) (combined_row (nat_abs denominator) positions.now rows.now (slice_index_or program_rows.now i [])) }
 {
-    if common_bound(rows) >= SIZE_LIMIT || denominator.unsigned_abs() >= SIZE_LIMIT {
+    if common_bound(rows, basic_columns) >= SIZE_LIMIT || denominator.unsigned_abs() >= SIZE_LIMIT {
         return false;
     }
     let columns = rows.len();
@@ -203,6 +214,7 @@ pub(crate) fn are_combinations_small(
     weight: u64,
     positions: &[Position],
     rows: &mut [IntegerRow],
+    basic_columns: &[usize],
     denominator: i64,
 ) -> bool
     requires positions_there { length positions.now ≡ length rows.old + length program_rows.now }
@@ -211,13 +223,21 @@ pub(crate) fn are_combinations_small(
     requires light { weight < size_limit }
     requires positive { pos 0 <ℤ denominator }
     requires apart { (v k : ℕ) → slice_index_or positions.now v Position.InBasis ≡ Position.InColumn k → IsColumnOf positions.now v k }
+    requires listed { HaveRows basic_columns.now rows.old }
     ensures small { IsTrue result → (i : ℕ) → i < length program_rows.now → slice_index_or positions.now (length rows.old + i) Position.InBasis ≡ Position.InBasis → IsWithin (size_limit - 1) (combined_row (nat_abs denominator) positions.now rows.old (slice_index_or program_rows.now i [])) }
     ensures same { rows.new ≡ rows.old }
 {
-    if are_bounds_small(weight, rows, denominator) {
+    if are_bounds_small(weight, rows, basic_columns, denominator) {
         return true;
     }
-    look_at_all(rows);
-    are_bounds_small(weight, rows, denominator)
-        || are_small_by_look(alloc, program_rows, positions, rows, denominator)
+    look_at_all(rows, basic_columns);
+    are_bounds_small(weight, rows, basic_columns, denominator)
+        || are_small_by_look(
+            alloc,
+            program_rows,
+            positions,
+            rows,
+            basic_columns,
+            denominator,
+        )
 }

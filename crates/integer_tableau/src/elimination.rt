@@ -2,6 +2,7 @@
 
 ghost use Rattle.std.specs.Prelude.{◌≡◌, ◌≢◌, ℕ, ◌<◌, ◌-◌, List, ℤ, [], pos, nat_abs, ◌<ℤ◌, length, IsTrue, slice_index_or, slice_set};
 ghost use Rattle.integer_tableau.specs.Numbers.{number_at, IsWithin};
+ghost use Rattle.integer_tableau.specs.BasicColumns.{HaveRows};
 ghost use Rattle.integer_tableau.specs.Range.{size_limit};
 ghost use Rattle.integer_tableau.specs.Substitution.{IsSubstitutedIfFull};
 ghost use Rattle.integer_tableau.specs.Pivot.{IsEliminated};
@@ -13,6 +14,7 @@ use std::mem;
 /// Substitutes the variable of a column in each row of the source's width; false where one isn't exact or small.
 fn substitute_all(
     rows: &mut [IntegerRow],
+    basic_columns: &[usize],
     column: usize,
     source: &IntegerRow,
     pivot_size: i64,
@@ -21,10 +23,11 @@ fn substitute_all(
     requires column { column < length source.now }
     requires source_small { IsWithin (size_limit - 1) source.now }
     requires pivot_size_small { nat_abs pivot_size < size_limit }
+    requires listed { HaveRows basic_columns.now rows.old }
     ensures { IsTrue result → (v : ℕ) → v < length rows.old → IsSubstitutedIfFull divisor.number pivot_size column source.now (slice_index_or rows.old v []) (slice_index_or rows.new v []) }
 {
-    for row in rows.iter_mut() {
-        if !row.substitute_if_full(column, source, pivot_size, divisor) {
+    for basic in basic_columns {
+        if !rows[*basic].substitute_if_full(column, source, pivot_size, divisor) {
             return false;
         }
     }
@@ -44,6 +47,7 @@ fn put_row(rows: &mut [IntegerRow], entering: usize, row: &mut IntegerRow)
 /// none, and in the reduced costs. False where a number isn't exact or small.
 pub(crate) fn eliminate(
     rows: &mut [IntegerRow],
+    basic_columns: &[usize],
     leaving_row: &mut IntegerRow,
     reduced_costs: &mut IntegerRow,
     entering: usize,
@@ -52,6 +56,7 @@ pub(crate) fn eliminate(
     divisor: Divisor,
 ) -> bool
     requires width { length leaving_row.old ≡ length reduced_costs.old }
+    requires listed { HaveRows basic_columns.now rows.old }
     requires column { column < length reduced_costs.old }
     requires pivot { 0 < nat_abs (number_at leaving_row.old column) }
     requires size { pivot_size ≡ pos (nat_abs (number_at leaving_row.old column)) }
@@ -60,7 +65,14 @@ pub(crate) fn eliminate(
     if !leaving_row.solve(column, divisor.number()) {
         return false;
     }
-    if !substitute_all(rows, column, leaving_row, pivot_size, divisor) {
+    if !substitute_all(
+        rows,
+        basic_columns,
+        column,
+        leaving_row,
+        pivot_size,
+        divisor,
+    ) {
         return false;
     }
     if !reduced_costs.substitute(column, leaving_row, pivot_size, divisor) {

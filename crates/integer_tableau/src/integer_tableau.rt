@@ -57,6 +57,8 @@ pub struct IntegerTableau {
     pub(crate) reduced_costs: IntegerRow,
     /// Of each column.
     pub(crate) values: Vec<i64>,
+    /// The basic columns, by rising number.
+    pub(crate) basic_columns: Vec<usize>,
     pub(crate) denominator: i64,
     pub(crate) pivots: u64,
 }
@@ -67,12 +69,13 @@ impl Model for IntegerTableau {
     ghost use Rattle.integer_tableau.specs.IntegerTableau.{tableau_of, of_parts};
     ghost use Rattle.integer_tableau.specs.Combined.{expanded, IsCompact};
     ghost use Rattle.integer_tableau.specs.Positions.{AreNonbasic};
+    ghost use Rattle.integer_tableau.specs.BasicColumns.{basic_from};
 
     ghost Value = { Described };
 
     ghost view = { λ t. tableau_of (length t.rows.items) t.fixed.numbers.items (expanded t.fixed.rows.items.value.items (of_parts t.fixed.bounds.items t.positions.items t.at_upper.items t.nonbasic_values.items t.rows.items t.reduced_costs t.values.items t.denominator t.pivots)) };
 
-    ghost invariant = { λ t. IsCompact t.fixed.rows.items.value.items t.fixed.weight t.fixed.reach (of_parts t.fixed.bounds.items t.positions.items t.at_upper.items t.nonbasic_values.items t.rows.items t.reduced_costs t.values.items t.denominator t.pivots) × (pos 0 <ℤ t.denominator) × AreNonbasic t.positions.items t.nonbasic.items × (length t.nonbasic.items ≡ length t.rows.items) };
+    ghost invariant = { λ t. IsCompact t.fixed.rows.items.value.items t.fixed.weight t.fixed.reach (of_parts t.fixed.bounds.items t.positions.items t.at_upper.items t.nonbasic_values.items t.rows.items t.reduced_costs t.values.items t.denominator t.pivots) × (pos 0 <ℤ t.denominator) × AreNonbasic t.positions.items t.nonbasic.items × (length t.nonbasic.items ≡ length t.rows.items) × (t.basic_columns.items ≡ basic_from 0 (length t.rows.items) t.positions.items) };
 }
 
 impl IntegerTableau {
@@ -97,6 +100,7 @@ impl IntegerTableau {
             &self.fixed.bounds,
             &self.nonbasic_values,
             &self.values,
+            &self.basic_columns,
             self.denominator,
         ) else {
             return None;

@@ -3,6 +3,7 @@
 ghost use Rattle.std.specs.Prelude.{◌≡◌, ℕ, ◌+◌, ◌*◌, ◌<◌, ◌≤◌, ◌^◌, [], map, drop, pos, nat_abs, ◌<ℤ◌, length, IfOk, IfSome, slice_index_or};
 ghost use Rattle.integer_tableau.specs.Numbers.{number_at, total_size};
 ghost use Rattle.integer_tableau.specs.Range.{size_limit};
+ghost use Rattle.integer_tableau.specs.BasicColumns.{basic_from};
 ghost use Rattle.integer_tableau.specs.Combined.{combined_value, expanded_values};
 ghost use Rattle.integer_tableau.specs.Positions.{products};
 ghost use Rattle.integer_tableau.specs.Leaving.{violation_at, leaving_by_numerators};
@@ -15,43 +16,24 @@ use crate::program_row::ProgramRow;
 use std::alloc::{AllocError, Global};
 use tableau::Direction;
 
-/// In which direction a basic variable outside its bounds has to go.
-#[inline(always)]
-fn violation_at(
-    position: Position,
-    bounds: &IntegerBounds,
-    value: i128,
-    denominator: i64,
-) -> Option<Direction>
-    requires { pos 0 <ℤ denominator }
-    ensures { result ≡ violation_at (nat_abs denominator) position bounds.now value }
-{
-    match position {
-        Position::InBasis => bounds.violation(value, denominator),
-        Position::InColumn(_) => None,
-    }
-}
-
 /// The least basic column outside its bounds, if there is one, and the direction in which it has to go.
 fn leaving_column(
     positions: &[Position],
     bounds: &[IntegerBounds],
     values: &[i64],
+    basic_columns: &[usize],
     denominator: i64,
 ) -> Option<(usize, Direction)>
     requires positions_there { length values.now ≤ length positions.now }
     requires bounds_there { length values.now ≤ length bounds.now }
+    requires basic { basic_columns.now ≡ basic_from 0 (length values.now) positions.now }
     requires positive { pos 0 <ℤ denominator }
     ensures value { result ≡ leaving_by_numerators (nat_abs denominator) 0 positions.now bounds.now values.now }
     ensures within { IfSome result (λ l. l.0 < length values.now) }
 {
-    for (j, value) in values.iter().enumerate() {
-        if let Some(direction) = violation_at(
-            positions[j],
-            &bounds[j],
-            i128::from(*value),
-            denominator,
-        ) {
+    for column in basic_columns {
+        let j = *column;
+        if let Some(direction) = bounds[j].violation(i128::from(values[j]), denominator) {
             return Some((j, direction));
         }
     }
@@ -119,6 +101,7 @@ pub(crate) fn leaving(
     bounds: &[IntegerBounds],
     nonbasic_values: &[i64],
     values: &[i64],
+    basic_columns: &[usize],
     denominator: i64,
 ) -> Result<Option<(usize, Direction)>, AllocError>
     requires positions_there { length positions.now ≡ length values.now + length program_rows.now }
@@ -127,11 +110,12 @@ pub(crate) fn leaving(
     requires full { (i : ℕ) → i < length program_rows.now → length (slice_index_or program_rows.now i []) ≡ length values.now }
     requires light { (i : ℕ) → i < length program_rows.now → total_size (slice_index_or program_rows.now i []) < size_limit }
     requires near { (j : ℕ) → j < length values.now → nat_abs (number_at nonbasic_values.now j) * nat_abs denominator < 2 ^ 63 }
+    requires basic { basic_columns.now ≡ basic_from 0 (length values.now) positions.now }
     requires positive { pos 0 <ℤ denominator }
     ensures value { IfOk result (λ l. l ≡ leaving_by_numerators (nat_abs denominator) 0 positions.now bounds.now (expanded_values (nat_abs denominator) program_rows.now positions.now nonbasic_values.now values.now)) }
     ensures within { IfOk result (λ o. IfSome o (λ l. l.0 < length positions.now)) }
 {
-    match leaving_column(positions, bounds, values, denominator) {
+    match leaving_column(positions, bounds, values, basic_columns, denominator) {
         Some(found) => Ok(Some(found)),
         None => {
             let numerators = column_numerators(

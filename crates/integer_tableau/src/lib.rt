@@ -2,6 +2,7 @@
 #![tactic(auto)]
 
 mod answers;
+mod basic_columns;
 mod combination;
 mod combined_sizes;
 mod conversion;

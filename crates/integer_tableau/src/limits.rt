@@ -5,6 +5,7 @@ ghost use Rattle.integer_tableau.specs.Numbers.{IsWithin, total_size};
 ghost use Rattle.integer_tableau.specs.Range.{size_limit};
 ghost use Rattle.integer_tableau.specs.Combined.{combined};
 ghost use Rattle.integer_tableau.specs.Positions.{IsColumnOf};
+ghost use Rattle.integer_tableau.specs.BasicColumns.{HaveRows};
 ghost use Rattle.integer_tableau.specs.Small.{AreNumbersWithin, IsKept, IsSmallTimes};
 
 use crate::combined_sizes::{combination_bound, common_bound, look_at_all};
@@ -15,12 +16,18 @@ use crate::program_row::ProgramRow;
 use crate::range::SIZE_LIMIT;
 
 /// A bound on the sizes that are kept.
-fn kept_bound(rows: &[IntegerRow], reduced_costs: &IntegerRow, denominator: i64) -> u64
+fn kept_bound(
+    rows: &[IntegerRow],
+    basic_columns: &[usize],
+    reduced_costs: &IntegerRow,
+    denominator: i64,
+) -> u64
+    requires { HaveRows basic_columns.now rows.now }
     ensures denominator { nat_abs denominator ≤ result }
     ensures rows { (v : ℕ) → v < length rows.now → IsWithin result (slice_index_or rows.now v []) }
     ensures costs { IsWithin result reduced_costs.now }
 {
-    common_bound(rows)
+    common_bound(rows, basic_columns)
         .max(reduced_costs.bound())
         .max(denominator.unsigned_abs())
 }
@@ -54,16 +61,18 @@ fn limit_by_each(
     program_rows: &[ProgramRow],
     positions: &[Position],
     rows: &[IntegerRow],
+    basic_columns: &[usize],
     reduced_costs: &IntegerRow,
     denominator: i64,
 ) -> Option<u64>
     requires positions_there { length positions.now ≡ length rows.now + length program_rows.now }
     requires full { (i : ℕ) → i < length program_rows.now → length (slice_index_or program_rows.now i []) ≡ length rows.now }
     requires apart { (v k : ℕ) → slice_index_or positions.now v Position.InBasis ≡ Position.InColumn k → IsColumnOf positions.now v k }
+    requires listed { HaveRows basic_columns.now rows.now }
     ensures { IfSome result (λ l. AreNumbersWithin l (nat_abs denominator) program_rows.now positions.now rows.now reduced_costs.now) }
 {
     let columns = rows.len();
-    let mut limit = kept_bound(rows, reduced_costs, denominator);
+    let mut limit = kept_bound(rows, basic_columns, reduced_costs, denominator);
     for (i, coefficients) in program_rows.iter().enumerate() {
         limit = limit_with(
             limit,
@@ -88,13 +97,15 @@ fn is_small_times(limit: u64, times: u64) -> bool
 fn are_small_by_weight(
     weight: u64,
     rows: &[IntegerRow],
+    basic_columns: &[usize],
     reduced_costs: &IntegerRow,
     denominator: i64,
     times: u64,
 ) -> bool
+    requires { HaveRows basic_columns.now rows.now }
     ensures { IsTrue result → (most : ℕ) × IsKept most (nat_abs denominator) rows.now reduced_costs.now × (max weight 1 * most * times < size_limit) }
 {
-    let most = kept_bound(rows, reduced_costs, denominator);
+    let most = kept_bound(rows, basic_columns, reduced_costs, denominator);
     match weight.max(1).checked_mul(most) {
         Some(limit) => is_small_times(limit, times),
         None => false,
@@ -106,7 +117,7 @@ impl IntegerTableau {
     pub fn look(&mut self)
         ensures { self.new ≡ self.old }
     {
-        look_at_all(&mut self.rows);
+        look_at_all(&mut self.rows, &self.basic_columns);
         self.reduced_costs.look();
     }
 
@@ -117,6 +128,7 @@ impl IntegerTableau {
         if are_small_by_weight(
             self.fixed.weight,
             &self.rows,
+            &self.basic_columns,
             &self.reduced_costs,
             self.denominator,
             times,
@@ -127,6 +139,7 @@ impl IntegerTableau {
             &self.fixed.rows,
             &self.positions,
             &self.rows,
+            &self.basic_columns,
             &self.reduced_costs,
             self.denominator,
         ) {

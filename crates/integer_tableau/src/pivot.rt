@@ -7,9 +7,11 @@ ghost use Rattle.integer_tableau.specs.Range.{size_limit};
 ghost use Rattle.integer_tableau.specs.Substitution.{quotient_numerator};
 ghost use Rattle.integer_tableau.specs.IntegerTableau.{of_parts};
 ghost use Rattle.integer_tableau.specs.Positions.{AreNonbasic};
+ghost use Rattle.integer_tableau.specs.BasicColumns.{basic_from, HaveRows};
 ghost use Rattle.integer_tableau.specs.Combined.{expanded_rows, expanded_values, IsCompact};
 ghost use Rattle.integer_tableau.specs.Pivot.{is_upper, IsPivotOf, AreSubstitutedValues, IsEliminated, IsPivoted};
 
+use crate::basic_columns::exchange_columns;
 use crate::combination::combined_value;
 use crate::combined_sizes::are_combinations_small;
 use crate::divisor::Divisor;
@@ -237,6 +239,7 @@ fn exchange_numbers(
     leaving_row: &mut IntegerRow,
     reduced_costs: &mut IntegerRow,
     values: &mut [i64],
+    basic_columns: &[usize],
     value: i128,
     left: i64,
     denominator: i64,
@@ -245,6 +248,7 @@ fn exchange_numbers(
 ) -> bool
     requires positive { pos 0 <ℤ denominator }
     requires small { nat_abs denominator < size_limit }
+    requires listed { HaveRows basic_columns.now rows.old }
     requires values_there { length values.old ≡ length rows.old }
     requires width { length leaving_row.old ≡ length reduced_costs.old }
     requires column { exchange.column < length reduced_costs.old }
@@ -259,6 +263,7 @@ fn exchange_numbers(
     if !change_values(
         values,
         rows,
+        basic_columns,
         width,
         entering,
         exchange.column,
@@ -273,6 +278,7 @@ fn exchange_numbers(
     }
     eliminate(
         rows,
+        basic_columns,
         leaving_row,
         reduced_costs,
         entering,
@@ -297,6 +303,7 @@ fn pivot_parts(
     spare: &mut IntegerRow,
     reduced_costs: &mut IntegerRow,
     values: &mut [i64],
+    basic_columns: &mut Vec<usize>,
     denominator: i64,
     pivots: u64,
     leaving: usize,
@@ -312,7 +319,9 @@ fn pivot_parts(
     requires positions_there { length positions.old ≡ length rows.old + length program_rows.now }
     requires values_there { length values.old ≡ length rows.old }
     requires nonbasic_are { AreNonbasic positions.old nonbasic.old }
+    requires basic_are { basic_columns.old.items ≡ basic_from 0 (length rows.old) positions.old }
     ensures nonbasic { IfSome result (λ e. AreNonbasic positions.new nonbasic.new) }
+    ensures basic { IfSome result (λ e. basic_columns.new.items ≡ basic_from 0 (length rows.new) positions.new) }
     ensures pivoted { IfSome result (λ e. IsPivoted program_rows.now weight reach leaving entering (of_parts bounds.now positions.old at_upper.old nonbasic_values.old rows.old reduced_costs.old values.old denominator pivots) (of_parts bounds.now positions.new at_upper.new nonbasic_values.new rows.new reduced_costs.new values.new e (pivots + 1)) × (pos 0 <ℤ e)) }
 {
     let Position::InBasis = positions[leaving] else {
@@ -335,12 +344,16 @@ fn pivot_parts(
         spare,
         reduced_costs,
         values,
+        basic_columns,
         value,
         nonbasic_values[entering],
         denominator,
         entering,
         exchange,
     ) {
+        return None;
+    }
+    if !exchange_columns(basic_columns, rows.len(), leaving, entering) {
         return None;
     }
     nonbasic_values[leaving] = exchange.bound;
@@ -357,6 +370,7 @@ fn pivot_parts(
             weight,
             positions,
             rows,
+            basic_columns,
             exchange.size,
         )
     {
@@ -386,6 +400,7 @@ impl IntegerTableau {
             mut spare,
             mut reduced_costs,
             mut values,
+            mut basic_columns,
             denominator,
             pivots,
         } = self;
@@ -402,6 +417,7 @@ impl IntegerTableau {
             &mut spare,
             &mut reduced_costs,
             &mut values,
+            &mut basic_columns,
             denominator,
             pivots,
             leaving,
@@ -417,6 +433,7 @@ impl IntegerTableau {
             spare,
             reduced_costs,
             values,
+            basic_columns,
             denominator,
             pivots: pivots + 1,
         })

@@ -207,6 +207,7 @@ impl IntegerTableau {
         let at_upper = start_at_upper(alloc, costs.numerators(), count)?;
         let nonbasic_values = start_numbers(alloc, costs.numerators(), &bounds, count)?;
         let values = Vec::from_elem(alloc, 0, columns)?;
+        let basic_columns = Vec::with_capacity(alloc, count.min(columns))?;
         Ok(Some(IntegerTableau {
             fixed: Fixed {
                 numbers,
@@ -223,6 +224,7 @@ impl IntegerTableau {
             spare: IntegerRow::empty(alloc),
             reduced_costs: costs.copy(alloc)?,
             values,
+            basic_columns,
             denominator: 1,
             pivots: 0,
         }))

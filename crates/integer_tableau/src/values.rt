@@ -2,6 +2,7 @@
 
 ghost use Rattle.std.specs.Prelude.{◌≡◌, ℕ, ◌<◌, [], pos, nat_abs, ◌-ℤ◌, ◌*ℤ◌, ◌+ℤ◌, ◌<ℤ◌, length, IsTrue, IfSome, slice_index_or, slice_set};
 ghost use Rattle.integer_tableau.specs.Numbers.{number_at};
+ghost use Rattle.integer_tableau.specs.BasicColumns.{HaveRows};
 ghost use Rattle.integer_tableau.specs.Substitution.{quotient_numerator};
 ghost use Rattle.integer_tableau.specs.Pivot.{IsSubstitutedValue, AreSubstitutedValues};
 
@@ -75,6 +76,7 @@ fn value_after(
 fn substitute_values(
     values: &mut [i64],
     rows: &[IntegerRow],
+    basic_columns: &[usize],
     width: usize,
     column: usize,
     nonbasic_value: i64,
@@ -82,12 +84,15 @@ fn substitute_values(
     entering: i128,
     divisor: Divisor,
 ) -> bool
-    requires { length values.old ≡ length rows.now }
+    requires values_there { length values.old ≡ length rows.now }
+    requires listed { HaveRows basic_columns.now rows.now }
+    requires column { column < width }
     ensures { IsTrue result → (v : ℕ) → v < length values.old → IsSubstitutedValue width column nonbasic_value pivot_size entering divisor.number (slice_index_or rows.now v []) (number_at values.old v) (number_at values.new v) }
 {
-    for (v, value) in values.iter_mut().enumerate() {
+    for basic in basic_columns {
+        let v = *basic;
         match value_after(
-            *value,
+            values[v],
             &rows[v],
             width,
             column,
@@ -96,7 +101,7 @@ fn substitute_values(
             entering,
             divisor,
         ) {
-            Some(after) => *value = after,
+            Some(after) => values[v] = after,
             None => return false,
         }
     }
@@ -124,6 +129,7 @@ fn put_value(values: &mut [i64], entering: usize, value: i128) -> bool
 pub(crate) fn change_values(
     values: &mut [i64],
     rows: &[IntegerRow],
+    basic_columns: &[usize],
     width: usize,
     entering: usize,
     column: usize,
@@ -134,7 +140,9 @@ pub(crate) fn change_values(
     pivot_size: i64,
     divisor: Divisor,
 ) -> bool
-    requires { length rows.now ≡ length values.old }
+    requires values_there { length rows.now ≡ length values.old }
+    requires listed { HaveRows basic_columns.now rows.now }
+    requires column { column < width }
     ensures { IsTrue result → AreSubstitutedValues entering column divisor.number pivot_size nonbasic_value (quotient_numerator pivot (leaving_value -ℤ pivot *ℤ nonbasic_value -ℤ divisor.number *ℤ bound)) width rows.now values.old values.new }
 {
     match entering_value(
@@ -148,6 +156,7 @@ pub(crate) fn change_values(
             substitute_values(
                 values,
                 rows,
+                basic_columns,
                 width,
                 column,
                 nonbasic_value,

@@ -1,9 +1,9 @@
-use Rattle.std.proofs.Common.{◌≡◌, ℕ, ◌<◌, ◌≤◌, [], get_or}
+use Rattle.std.proofs.Common.{◌≡◌, ◌≢◌, ℕ, ◌<◌, [], get_or}
 use Rattle.integer_tableau.specs.Substitution.{IsSubstitutedIfFull}
 use Rattle.integer_tableau.proofs.elimination.substitute_all.Given as goal
 
-abbrev pub invariant-loop-row : goal.invariant-loop-row
-invariant-loop-row l = record {
-  done : (v : ℕ) → v < l.row-index → IsSubstitutedIfFull l.divisor.number l.pivot_size l.column l.source (get_or l.initial.rows v []) (get_or l.rows v []);
-  left : (v : ℕ) → l.row-index ≤ v → get_or l.rows v [] ≡ get_or l.initial.rows v [];
+abbrev pub invariant-loop-basic : goal.invariant-loop-basic
+invariant-loop-basic l = record {
+  done : (p : ℕ) → p < l.basic-index → IsSubstitutedIfFull l.divisor.number l.pivot_size l.column l.source (get_or l.initial.rows (get_or l.basic_columns p 0) []) (get_or l.rows (get_or l.basic_columns p 0) []);
+  left : (v : ℕ) → ((p : ℕ) → p < l.basic-index → get_or l.basic_columns p 0 ≢ v) → get_or l.rows v [] ≡ get_or l.initial.rows v [];
 }

@@ -1,6 +1,7 @@
 use Rattle.std.proofs.Common.{◌≡◌, drop, nat_abs}
+use Rattle.integer_tableau.proofs.LeavingColumns.{first_among}
 use Rattle.integer_tableau.specs.Leaving.{leaving_by_numerators}
 use Rattle.integer_tableau.proofs.leaving.leaving_column.Given as goal
 
-abbrev pub invariant-loop-j : goal.invariant-loop-j
-invariant-loop-j l = leaving_by_numerators (nat_abs l.denominator) l.j (drop l.j l.positions) (drop l.j l.bounds) (drop l.j l.values) ≡ leaving_by_numerators (nat_abs l.denominator) 0 l.positions l.bounds l.values
+abbrev pub invariant-loop-column : goal.invariant-loop-column
+invariant-loop-column l = first_among (nat_abs l.denominator) l.bounds l.values (drop l.column-index l.basic_columns) ≡ leaving_by_numerators (nat_abs l.denominator) 0 l.positions l.bounds l.values

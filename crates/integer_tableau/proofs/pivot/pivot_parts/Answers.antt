@@ -1,4 +1,4 @@
-use Rattle.std.proofs.Common.{◌<ℤ◌, ℤ, arith, ◌+◌, ◌-ℤ◌, ◌*ℤ◌, [], refl, rules, false, length, get_or, set, nat_abs, pos, ap, sym, subst, ◌∙◌, w64, to_z, of_z}
+use Rattle.std.proofs.Common.{◌≡◌, ◌<◌, ◌<ℤ◌, ℤ, arith, ◌+◌, ◌-ℤ◌, ◌*ℤ◌, [], refl, rules, false, length, get_or, set, nat_abs, pos, ap, sym, subst, ◌∙◌, w64, to_z, of_z}
 use Rattle.std.specs.Int.{w128}
 use mir.Val.{SFits}
 use Rattle.std.proofs.lemmas.Int.{to_z-of_z}
@@ -9,6 +9,9 @@ use Rattle.integer_tableau.specs.Pivot.{AreSubstitutedValues, IsEliminated, IsPi
 use Rattle.integer_tableau.proofs.Apart.{apart_after, nonbasic_after}
 use Rattle.integer_tableau.proofs.Exchanges.{positions_exchanged}
 use Rattle.integer_tableau.specs.Substitution.{quotient_numerator}
+use Rattle.integer_tableau.proofs.BasicColumns.{column_there}
+use Rattle.integer_tableau.proofs.ListedRows.{after_has_rows, basic_rows, list_after, taken_has_rows}
+use Rattle.integer_tableau.specs.BasicColumns.{basic_from, count_below}
 use Rattle.integer_tableau.proofs.FromCode.{near_from_code, pivoted_from, positive_from, small_from_code}
 use Rattle.integer_tableau.proofs.pivot.pivot_parts.Goals as goal
 
@@ -30,6 +33,42 @@ leave-requires-clause-small c =
 
 pub exchange_numbers-requires-clause-column : goal.exchange_numbers-requires-clause-column
 exchange_numbers-requires-clause-column c = c.requires.compact.consistent.within c.args.entering c.in_ok-value.exchange.column c.in_ok-value.ensures.there.entering
+
+pub exchange_numbers-requires-clause-listed : goal.exchange_numbers-requires-clause-listed
+exchange_numbers-requires-clause-listed c =
+    taken_has_rows c.args.leaving c.args.positions.now c.args.rows.now c.leave.new.rows c.args.basic_columns.now.items _ c.deref.ensures.value c.requires.basic_are c.in_ok-value.ensures.rows
+    (omega (arith, c.requires.positions_there)) (basic_rows _ _ _ _ c.requires.compact)
+
+pub exchange_columns-requires : goal.exchange_columns-requires
+exchange_columns-requires c = λ l.
+    let n = length c.args.rows.now in
+    let r = c.args.leaving in
+    let ss = c.args.positions.now in
+    let q : 0 + r ≡ r = omega arith in
+    let many : length c.exchange_numbers.new.rows ≡ n = c.exchange_numbers.auto.rows ∙ c.leave.auto.rows in
+    subst (λ js. count_below r js < length js) (sym c.requires.basic_are)
+    (subst (λ x. count_below x (basic_from 0 n ss) < length (basic_from 0 n ss)) q (column_there 0 n r ss (omega (arith, l, many)) c.requires.leaving_there c.in_ok-value.ensures.there.leaving))
+
+pub are_combinations_small-requires-clause-listed : goal.are_combinations_small-requires-clause-listed
+are_combinations_small-requires-clause-listed c =
+    let a = c.args in
+    let there = c.in_ok-value.ensures.there in
+    let h = c.if-not-exchange_numbers.ensures.rows refl in
+    let many : length c.exchange_numbers.new.rows ≡ length a.rows.now = c.exchange_numbers.auto.rows ∙ c.leave.auto.rows in
+    after_has_rows a.leaving a.entering c.in_ok-value.exchange.column _ _ a.positions.now _ h.0 a.rows.now c.leave.new.rows c.exchange_numbers.new.rows _ _ _ c.requires.entering_there
+    c.in_ok-value.ensures.rows h.1 (omega (arith, c.requires.positions_there)) (basic_rows _ _ _ _ c.requires.compact)
+    (c.deref-else-not-is_near.ensures.value
+    ∙ list_after (length a.rows.now) _ a.leaving a.entering c.in_ok-value.exchange.column a.positions.now a.basic_columns.now.items c.exchange_columns.new.basic_columns.items
+    c.requires.basic_are (c.if-not-exchange_columns.ensures refl) many (omega (arith, c.requires.positions_there)) c.requires.leaving_there c.requires.entering_there there.leaving there.entering)
+
+pub returns-clause-basic : goal.returns-clause-basic
+returns-clause-basic c =
+    let a = c.args in
+    let there = c.in_ok-value.ensures.there in
+    let many : length c.exchange_numbers.new.rows ≡ length a.rows.now = c.exchange_numbers.auto.rows ∙ c.leave.auto.rows in
+    list_after (length a.rows.now) _ a.leaving a.entering c.in_ok-value.exchange.column a.positions.now a.basic_columns.now.items c.exchange_columns.new.basic_columns.items
+    c.requires.basic_are (c.if-not-exchange_columns.ensures refl) many (omega (arith, c.requires.positions_there)) c.requires.leaving_there c.requires.entering_there there.leaving there.entering
+    ∙ ap (λ n. basic_from 0 n (positions_exchanged a.leaving a.entering c.in_ok-value.exchange.column a.positions.now)) (sym many ∙ sym c.are_combinations_small.auto.rows)
 
 pub are_combinations_small-requires-clause-apart : goal.are_combinations_small-requires-clause-apart
 are_combinations_small-requires-clause-apart c =

@@ -4,6 +4,7 @@ use Rattle.std.specs.Option.{IfSome}
 use Rattle.std.proofs.lemmas.Int.{to_z-of_z}
 use Rattle.integer_tableau.proofs.FromCode.{chosen_from_code, near_from_code, place_from_code, small_from_code, statuses_as_many, width_from_code}
 use Rattle.integer_tableau.proofs.Lists.{if_some}
+use Rattle.integer_tableau.specs.BasicColumns.{basic_from}
 use Rattle.integer_tableau.specs.Combined.{expanded_rows, expanded_values}
 use Rattle.integer_tableau.specs.Entering.{entering_by_numerators}
 use Rattle.integer_tableau.specs.Leaving.{leaving_by_numerators}
@@ -17,6 +18,10 @@ leaving-requires-clause-near c =
     let n = c.self.inside in
     let f : SFits w64 n.denominator = search rules in
     near_from_code _ _ _ _ c.self.invariant.0 c.deref-4.result.now c.deref-5.result.now _ c.deref-4.ensures.value c.deref-5.ensures.value (ap nat_abs (to_z-of_z w64 n.denominator f))
+
+pub leaving-requires-clause-basic : goal.leaving-requires-clause-basic
+leaving-requires-clause-basic c = c.deref-6.ensures.value ∙ c.self.invariant.4
+    ∙ (λ i. basic_from 0 ((sym c.self.invariant.0.values ∙ ap length (sym c.deref-5.ensures.value)) i) (sym c.deref-2.ensures.value i))
 
 pub place_where_leaving-requires-clause-small : goal.place_where_leaving-requires-clause-small
 place_where_leaving-requires-clause-small c =

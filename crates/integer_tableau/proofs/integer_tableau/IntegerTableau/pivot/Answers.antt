@@ -3,6 +3,7 @@ use mir.Val.{SFits}
 use Rattle.std.proofs.lemmas.Int.{to_z-of_z}
 use Rattle.integer_tableau.proofs.FromCode.{carried, is_there}
 use Rattle.integer_tableau.proofs.Sizes.{written}
+use Rattle.integer_tableau.specs.BasicColumns.{basic_from}
 use Rattle.integer_tableau.specs.IntegerTableau.{of_parts}
 use Rattle.integer_tableau.specs.Positions.{AreNonbasic}
 use Rattle.integer_tableau.proofs.integer_tableau.IntegerTableau.pivot.Goals as goal
@@ -15,6 +16,9 @@ pivot_parts-requires-clause-entering_there c = is_there _ _ _ _ _ _ c.args.self 
 
 pub pivot_parts-requires-clause-nonbasic_are : goal.pivot_parts-requires-clause-nonbasic_are
 pivot_parts-requires-clause-nonbasic_are c = subst (λ (T : Type 0). T) (λ i. AreNonbasic (sym c.deref_mut.ensures.value i) (sym c.deref_mut-2.ensures.value i)) c.self.invariant.2
+
+pub pivot_parts-requires-clause-basic_are : goal.pivot_parts-requires-clause-basic_are
+pivot_parts-requires-clause-basic_are c = c.self.invariant.4 ∙ (λ i. basic_from 0 (length (sym c.deref_mut-5.ensures.value i)) (sym c.deref_mut.ensures.value i))
 
 pub invariant_of-result : goal.invariant_of-result
 invariant_of-result c =
@@ -48,6 +52,7 @@ invariant_of-result c =
       subst (λ z. pos 0 <ℤ z) (sym e) c.in_ok-denominator.ensures.pivoted.1,
       subst (λ (T : Type 0). T) (λ i. AreNonbasic (sym positions_are i) (sym nonbasic_are i)) c.in_ok-denominator.ensures.nonbasic,
       ap length nonbasic_are ∙ c.pivot_parts.auto.nonbasic ∙ ap length c.deref_mut-2.ensures.value ∙ c.self.invariant.3 ∙ sym (ap length rows_are ∙ c.pivot_parts.auto.rows ∙ ap length c.deref_mut-5.ensures.value),
+      c.in_ok-denominator.ensures.basic ∙ (λ i. basic_from 0 (length (sym rows_are i)) (sym positions_are i)),
     )
 
 pub returns-clause-value : goal.returns-clause-value

@@ -5,7 +5,7 @@ use Rattle.integer_tableau.specs.Range.{size_limit}
 use Rattle.integer_tableau.specs.Combined.{bound_size, total_bound_size}
 use Rattle.integer_tableau.specs.Start.{columns_from, is_negative, start_numbers}
 use Rattle.integer_tableau.specs.declared.position.Position.TheVariants.{InBasis}
-use Rattle.integer_tableau.proofs.StartFromCode.{as_many_statuses, start_compact, start_is, start_nonbasic_are}
+use Rattle.integer_tableau.proofs.StartFromCode.{as_many_statuses, start_compact, start_basic_are, start_is, start_nonbasic_are}
 use Rattle.integer_tableau.proofs.integer_tableau.IntegerTableau.start_from.Goals as goal
 use Rattle.integer_tableau.proofs.integer_tableau.IntegerTableau.start_from.Goals.{In_ok-copy}
 
@@ -49,6 +49,7 @@ invariant_of-result c = (
   omega (arith, ints),
   start_nonbasic_are _ _ _ _ (positions_are c) (nonbasic_many c) (λ k l. c.in_ok-nonbasic.ensures.each k (omega (arith, l, c.width-columns.ensures))),
   nonbasic_many c ∙ sym (ap length (rows_are c) ∙ length-replicate (length c.args.costs.now) []),
+  c.in_ok-basic_columns.ensures.items ∙ start_basic_are _ _ _ _ (positions_are c) (ap length (rows_are c) ∙ length-replicate (length c.args.costs.now) []),
 )
 
 pub returns-clause-value : goal.returns-clause-value
