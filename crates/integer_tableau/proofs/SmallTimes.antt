@@ -10,7 +10,7 @@ use Rattle.tableau.specs.Tableau.{Tableau, row_of, status_of}
 use Rattle.tableau.specs.declared.status.BasisStatus.TheVariants.{Basic}
 use Rattle.integer_tableau.proofs.AllRows.{get_or-rows_of}
 use Rattle.integer_tableau.proofs.Expanded.{row_of_column, row_of_row, which}
-use Rattle.integer_tableau.specs.Lemmas.Fractions.{zero_is_over}
+use Rattle.integer_tableau.specs.Lemmas.Fractions.{none_over, zero_is_over}
 use Rattle.integer_tableau.proofs.Sums.{coefficient_is, numerator_within}
 use Rattle.integer_tableau.proofs.ToFractions.{bounds_many, costs_many, nonbasic_values_many, rows_many, statuses_many, values_many}
 use Rattle.integer_tableau.specs.Combined.{IsCompact, combined, combined_row, expanded, row_if_basic}
@@ -24,9 +24,6 @@ use Rattle.integer_tableau.proofs.Combining.{combined_row_within, combined_withi
 use Rattle.integer_tableau.specs.declared.position.Position.{Position}
 use Rattle.integer_tableau.specs.declared.position.Position.TheVariants.{InBasis, InColumn}
 
-none_over : (d k j : ℕ) → 0 < d → IsOver d k (entry [] j)
-none_over d k j o = subst (IsOver d k) (sym (get_or_past [] j zero_ℚ (omega arith))) (zero_is_over d k o)
-
 -- ---- a row
 coefficient_over : (limit d k : ℕ) (row : List ℤ) (s : Position) → 0 < d → limit * k < size_limit → IsWithin limit row → IsOver d k (coefficient d row s)
 coefficient_over limit d k row s o l h = record {
@@ -35,13 +32,13 @@ coefficient_over limit d k row s o l h = record {
   exact = coefficient_is d row s o;
 }
 
-coefficients_over : (limit d k : ℕ) (row : List ℤ) (ss : List Position) → 0 < d → limit * k < size_limit → IsWithin limit row → (j : ℕ) → IsOver d k (entry (coefficients d ss row) j)
+pub coefficients_over : (limit d k : ℕ) (row : List ℤ) (ss : List Position) → 0 < d → limit * k < size_limit → IsWithin limit row → (j : ℕ) → IsOver d k (entry (coefficients d ss row) j)
 coefficients_over limit d k row ss o l h j = elim (cases_lt j (length ss)) [
   | inl m ↦ subst (IsOver d k) (sym (get_or-map (coefficient d row) ss j InBasis zero_ℚ m)) (coefficient_over limit d k row (get_or ss j InBasis) o l h)
   | inr m ↦ subst (IsOver d k) (sym (get_or_past (coefficients d ss row) j zero_ℚ (omega (arith, m, length-map ss (coefficient d row))))) (zero_is_over d k o)
 ]
 
-row_over : (limit d k : ℕ) (all : List Position) (s : Position) (row : List ℤ) → 0 < d → limit * k < size_limit → (s ≡ InBasis → IsWithin limit row) → (j : ℕ) → IsOver d k (entry (row_of_position d all s row) j)
+pub row_over : (limit d k : ℕ) (all : List Position) (s : Position) (row : List ℤ) → 0 < d → limit * k < size_limit → (s ≡ InBasis → IsWithin limit row) → (j : ℕ) → IsOver d k (entry (row_of_position d all s row) j)
 row_over limit d k all InBasis row o l h j = coefficients_over limit d k row all o l (h refl) j
 row_over limit d k all (InColumn c) row o l h j = none_over d k j o
 

@@ -4,3 +4,4 @@ pub mod Scales
 pub mod Runs
 pub mod Fractions
 pub mod Comparing
+pub mod NotCramped

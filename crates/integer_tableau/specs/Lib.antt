@@ -17,5 +17,6 @@ pub mod Pivot
 pub mod Run
 pub mod IntegerProgram
 pub mod Start
+pub mod SmallDictionary
 pub mod Laws
 pub mod Lemmas

@@ -1,6 +1,5 @@
 mod Numbers
 mod Rows
-mod NotCramped
 mod Places
 mod Values
 mod Pivots

@@ -22,7 +22,7 @@ use Rattle.integer_tableau.specs.Scales.{Scales, scaled_by, unscaled, unscaled_b
 use Rattle.integer_tableau.specs.Small.{IsOver}
 use Rattle.scaled_program.specs.Sizes.{IsSmall, IsSmallAt}
 use Rattle.integer_tableau.specs.Lemmas.MapFrom.{get_or-map_from, length-map_from, set-map_from}
-use Rattle.scaled_program.proofs.NotCramped.{HasSmallRows, elimination_there, IsOver as IsFractionOver}
+use Rattle.integer_tableau.specs.Lemmas.NotCramped.{HasSmallRows, elimination_there}
 use Rattle.scaled_program.proofs.Numbers.{nonzero_scaled, scaled_frac, scaled_zero}
 use Rattle.scaled_program.proofs.Places.{row_unscaled, violated_same, violation_same}
 use Rattle.scaled_program.proofs.Rows.{entry_unscaled, solved_unscaled, substituted_unscaled}
@@ -30,7 +30,7 @@ use Rattle.scaled_program.proofs.Values.{values_unscaled}
 use Rattle.fraction.specs.Lemmas.Rational.{abs-times}
 
 -- ---- sizes
-over_unscaled : (d k b : ℕ) (x : ℚ) → 0 < d → 0 < b → IsOver d k x → IsFractionOver (d * b) (scaled_by k b x)
+over_unscaled : (d k b : ℕ) (x : ℚ) → 0 < d → 0 < b → IsOver d k x → IsOver (d * b) 1 (scaled_by k b x)
 over_unscaled d k b x o p h = record {
   numerator = h.numerator *ℤ pos k;
   small = omega (arith, abs-times h.numerator k, h.small);
@@ -41,8 +41,8 @@ small_rows : (d : ℕ) (σ : Scales) (s : ℕ) (t : Tableau) → IsSmallAt d σ 
 small_rows d σ s t h = record {
   positive = λ i. (mul-pos h.positive (h.denominators i).0, (h.denominators i).1);
   cost_positive = (mul-pos h.positive h.cost_denominator.0, h.cost_denominator.1);
-  rows = λ i j. subst (IsFractionOver (d * σ i)) (sym (ap (λ row. entry row j) (row_unscaled σ t.rows i) ∙ entry_unscaled σ (σ i) (row_of t i) j)) (over_unscaled d (σ j) (σ i) (entry (row_of t i) j) h.positive (h.denominators i).0 (h.rows i j));
-  costs = λ j. subst (IsFractionOver (d * s)) (sym (entry_unscaled σ s t.reduced_costs j)) (over_unscaled d (σ j) s (entry t.reduced_costs j) h.positive h.cost_denominator.0 (h.costs j));
+  rows = λ i j. subst (IsOver (d * σ i) 1) (sym (ap (λ row. entry row j) (row_unscaled σ t.rows i) ∙ entry_unscaled σ (σ i) (row_of t i) j)) (over_unscaled d (σ j) (σ i) (entry (row_of t i) j) h.positive (h.denominators i).0 (h.rows i j));
+  costs = λ j. subst (IsOver (d * s) 1) (sym (entry_unscaled σ s t.reduced_costs j)) (over_unscaled d (σ j) s (entry t.reduced_costs j) h.positive h.cost_denominator.0 (h.costs j));
 }
 
 -- ---- lists

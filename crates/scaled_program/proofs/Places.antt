@@ -23,7 +23,7 @@ use Rattle.integer_tableau.specs.Small.{IsOver}
 use Rattle.scaled_program.specs.Sizes.{IsSmallAt}
 use Rattle.integer_tableau.specs.Lemmas.Comparing.{ratio_exact}
 use Rattle.integer_tableau.specs.Lemmas.MapFrom.{get_or-map_from}
-use Rattle.scaled_program.proofs.NotCramped.{nonzero_over}
+use Rattle.integer_tableau.specs.Lemmas.NotCramped.{nonzero_over}
 use Rattle.scaled_program.proofs.Numbers.{ratio_scaled, scaled_above, scaled_below, scaled_equal, scaled_less, scaled_zero}
 use Rattle.scaled_program.proofs.Rows.{entry_unscaled}
 use Rattle.fraction.specs.Lemmas.Rational.{lit_one}

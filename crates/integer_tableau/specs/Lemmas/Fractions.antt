@@ -1,7 +1,8 @@
 -- One coefficient of a pivot on whole numbers: which fraction it is, and that nothing on the way to it is cramped.
-use Rattle.std.proofs.Common.{◌≡◌, ℕ, zero, suc, ◌+◌, ◌-◌, ◌*◌, ◌^◌, ◌≤◌, ◌<◌, arith, refl, ap, sym, ◌∙◌, subst, Bool, true, false, Some}
+use Rattle.std.proofs.Common.{◌≡◌, ℕ, zero, suc, ◌+◌, ◌-◌, ◌*◌, ◌^◌, ◌≤◌, ◌<◌, arith, refl, ap, sym, ◌∙◌, subst, Bool, true, false, Some, []}
 use Rattle.std.specs.Prelude.{ℤ, pos, negsuc, neg_ℤ, ◌+ℤ◌, ◌*ℤ◌, nat_abs}
 use Rattle.std.proofs.lemmas.Int.{ints, unsigned_abs-mul}
+use Rattle.std.proofs.lemmas.List.{get_or_past}
 use Rattle.std.proofs.Math.Nat.{mul-one, mul-le-mul, mul-pos, le_of_dvd, dvd_trans, dvd-mul_right}
 use Rattle.std.specs.Option.{option_and_then}
 use Rattle.std.specs.Ordering.{int_eq}
@@ -13,7 +14,7 @@ use Rattle.fraction.specs.Lemmas.Integers.{diff-add, diff-mul, diff-neg, diff-po
 use Rattle.fraction.specs.Lemmas.Rational.{frac-*ℚ, frac-+ℚ, frac_den, frac_is, frac_same, lit_one, neg_ℚ-frac, abs-signed}
 use Rattle.fraction.specs.Rational.{frac, inv_ℚ, signed_as, whole}
 use Rattle.integer_tableau.specs.Substitution.{quotient_numerator}
-use Rattle.tableau.specs.Elimination.{add_multiple, negative_quotient, zero_ℚ}
+use Rattle.tableau.specs.Elimination.{add_multiple, entry, negative_quotient, zero_ℚ}
 use Rattle.integer_tableau.specs.Small.{IsOver}
 
 -- a numerator of 64 bits, or a denominator
@@ -130,8 +131,11 @@ not_zero z h = step (int_eq z (pos 0)) refl
     step false e = e
 
 -- a fraction is not 0 where its numerator is not
+pub frac-nonzero : (b : ℤ) (d : ℕ) → 0 < d → 0 < nat_abs b → 0 < nat_abs (frac b d).num
+frac-nonzero b d o p = num_positive (nat_abs (frac b d).num) (nat_abs b) d (frac b d).den p (frac b d).lowest.0 (frac-size b d o)
+
 pub frac-num_positive : (b : ℤ) (d : ℕ) → 0 < d → 0 < nat_abs b → int_eq (frac b d).num (pos 0) ≡ false
-frac-num_positive b d o p = not_zero (frac b d).num (num_positive (nat_abs (frac b d).num) (nat_abs b) d (frac b d).den p (frac b d).lowest.0 (frac-size b d o))
+frac-num_positive b d o p = not_zero (frac b d).num (frac-nonzero b d o p)
 
 pub abs-negative_quotient : (p a : ℤ) → nat_abs (quotient_numerator p a) ≡ nat_abs a
 abs-negative_quotient (pos p) a = abs-neg a
@@ -139,3 +143,7 @@ abs-negative_quotient (negsuc p) a = refl
 
 pub zero_is_over : (d k : ℕ) → 0 < d → IsOver d k zero_ℚ
 zero_is_over d k o = record { numerator = pos 0; small = omega arith; exact = sym (zero_over d o) }
+
+-- so is what stands past the end of a row
+pub none_over : (d k j : ℕ) → 0 < d → IsOver d k (entry [] j)
+none_over d k j o = subst (IsOver d k) (sym (get_or_past [] j zero_ℚ (omega arith))) (zero_is_over d k o)
