@@ -17,6 +17,9 @@ pub mod Pivot
 pub mod Run
 pub mod IntegerProgram
 pub mod Start
+pub mod Dictionary
+pub mod IntegerDictionary
 pub mod SmallDictionary
+pub mod DictionaryLaws
 pub mod Laws
 pub mod Lemmas
