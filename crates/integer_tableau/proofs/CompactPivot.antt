@@ -1,16 +1,15 @@
 -- A pivot on a tableau that keeps rows and values of columns: for all variables it is a pivot too.
 use Rattle.std.proofs.Common.{◌≡◌, ◌≢◌, ℕ, ◌+◌, ◌-◌, ◌*◌, ◌^◌, ◌≤◌, ◌<◌, arith, refl, ap, sym, ◌∙◌, subst, false, Some, None, List, [], length, get_or, set, inl, inr, get_or-set_other, get_or-set_same}
-use Rattle.std.specs.Prelude.{ℤ, pos, nat_abs, nat_eq, ◌-ℤ◌, ◌*ℤ◌, ◌+ℤ◌, map, Option, if◌then◌else◌}
-use Rattle.std.specs.Option.{option_map, unwrap_or}
+use Rattle.std.specs.Prelude.{ℤ, pos, nat_abs, nat_eq, ◌-ℤ◌, ◌*ℤ◌, ◌+ℤ◌, map, if◌then◌else◌}
 use Rattle.std.proofs.lemmas.Bool.{cases_eq, cases_lt}
 use Rattle.std.proofs.lemmas.List.{length-set, same_lists, get_or_default, get_or_past, get_or-map}
 use Rattle.fraction.specs.Lemmas.Integers.{cancel_ℤ}
-use Rattle.fraction.specs.Lemmas.Bounds.{whole_parts}
-use Rattle.fraction.specs.Rational.{ℚ, frac, whole}
+use Rattle.fraction.specs.Rational.{frac, whole}
+use Rattle.integer_tableau.proofs.BoundedValues.{exchanged_bounded, exchanged_total}
 use Rattle.integer_tableau.proofs.Combining.{IsStepOf, combined_row_at, combined_step, entering_step, kept_step, leaving_step, length-numbers_from, set_is_but, unit_step}
-use Rattle.integer_tableau.proofs.Expanded.{bounded_total, column_widths, column_within, row_of_column, row_of_row, row_value, rows_many, value_of_column, value_of_row, values_many, which}
+use Rattle.integer_tableau.proofs.Expanded.{column_widths, column_within, row_of_column, row_of_row, row_value, rows_many, value_of_column, value_of_row, values_many, which}
 use Rattle.integer_tableau.proofs.Keeping.{AreEliminated, alone_after, entering_exact, other_exact, pivot_consistent as full_pivot_consistent, pivot_is as full_pivot_is}
-use Rattle.integer_tableau.specs.Combined.{IsCompact, bound_size, size_of, combined, combined_row, expanded, expanded_rows, expanded_values, numerator_of, row_if_basic}
+use Rattle.integer_tableau.specs.Combined.{IsCompact, bound_size, combined, combined_row, expanded, expanded_rows, expanded_values, numerator_of, row_if_basic}
 use Rattle.integer_tableau.specs.Consistent.{IsConsistent, row_width}
 use Rattle.integer_tableau.specs.IntegerTableau.{IntegerTableau, fraction_bounds, tableau_of}
 use Rattle.integer_tableau.specs.Numbers.{IsWithin, number_at, total_size}
@@ -25,20 +24,6 @@ use Rattle.integer_tableau.specs.declared.position.Position.TheVariants.{InBasis
 use Rattle.tableau.specs.Leaving.{unbounded, violated_bound, violation}
 use Rattle.tableau.specs.Pivot.{pivoted}
 use Rattle.tableau.specs.declared.bounds.Direction.{Direction}
-use Rattle.tableau.specs.declared.bounds.Direction.TheVariants.{Fall, Rise}
-
--- a bound that is violated is one of the two
-violated_size : (w : Direction) (bounds : IntegerBounds) (b : ℤ) → violated_bound w (fraction_bounds bounds) ≡ whole b → nat_abs b ≤ bound_size bounds
-violated_size Rise bounds b e = omega (arith, end bounds.lower b e)
-  where
-    end : (o : Option ℤ) (b : ℤ) → unwrap_or (option_map whole o) (whole (pos 0)) ≡ whole b → nat_abs b ≤ size_of o
-    end None b e = omega (arith, ap nat_abs (sym (whole_parts b).0 ∙ ap (λ (x : ℚ). x.num) (sym e) ∙ (whole_parts (pos 0)).0))
-    end (Some z) b e = omega (arith, ap nat_abs (sym (whole_parts b).0 ∙ ap (λ (x : ℚ). x.num) (sym e) ∙ (whole_parts z).0))
-violated_size Fall bounds b e = omega (arith, end bounds.upper b e)
-  where
-    end : (o : Option ℤ) (b : ℤ) → unwrap_or (option_map whole o) (whole (pos 0)) ≡ whole b → nat_abs b ≤ size_of o
-    end None b e = omega (arith, ap nat_abs (sym (whole_parts b).0 ∙ ap (λ (x : ℚ). x.num) (sym e) ∙ (whole_parts (pos 0)).0))
-    end (Some z) b e = omega (arith, ap nat_abs (sym (whole_parts b).0 ∙ ap (λ (x : ℚ). x.num) (sym e) ∙ (whole_parts z).0))
 
 module _ (ps : List (List ℤ)) (weight reach : ℕ) (w : IntegerTableau) (compact : IsCompact ps weight reach w) (r c k : ℕ) (direction : Direction) (b : ℤ)
     (row solved : List ℤ) (value : ℤ) (taken after : List (List ℤ)) (reduced_costs values : List ℤ)
@@ -424,24 +409,22 @@ module _ (ps : List (List ℤ)) (weight reach : ℕ) (w : IntegerTableau) (compa
   bound_there : r < length w.bounds
   bound_there = omega (arith, r_there, cons.bounds)
 
-  bound_small : nat_abs b ≤ bound_size (get_or w.bounds r none)
-  bound_small = violated_size direction (get_or w.bounds r none) b (ap (violated_bound direction) (sym (get_or-map fraction_bounds w.bounds r none unbounded bound_there)) ∙ p.bound)
+  bound_is : violated_bound direction (fraction_bounds (get_or w.bounds r none)) ≡ whole b
+  bound_is = ap (violated_bound direction) (sym (get_or-map fraction_bounds w.bounds r none unbounded bound_there)) ∙ p.bound
+
+  xs_many : length w.nonbasic_values ≡ length w.positions
+  xs_many = cons.nonbasic_values
+
+  was_bounded : (v : ℕ) → v < length w.nonbasic_values → nat_abs (number_at w.nonbasic_values v) ≤ bound_size (get_or w.bounds v none)
+  was_bounded v l = compact.bounded v (omega (arith, l, xs_many))
 
   bounded' : (v : ℕ) → v < length positions' → nat_abs (number_at nonbasic_values' v) ≤ bound_size (get_or w.bounds v none)
-  bounded' v l = elim (cases_eq v c) [
-    | inl z ↦ subst (λ x. nat_abs x ≤ bound_size (get_or w.bounds v none))
-        (sym (ap (number_at nonbasic_values') z ∙ get_or-set_same (set w.nonbasic_values r b) c (pos 0) (pos 0) (omega (arith, c_there, length-set w.nonbasic_values r b, cons.nonbasic_values)))) (omega arith)
-    | inr o ↦ elim (cases_eq v r) [
-      | inl z ↦ subst (λ u. nat_abs (number_at nonbasic_values' u) ≤ bound_size (get_or w.bounds u none)) (sym z)
-          (subst (λ x. nat_abs x ≤ bound_size (get_or w.bounds r none))
-          (sym (get_or-set_other (set w.nonbasic_values r b) c r (pos 0) (pos 0) apart ∙ get_or-set_same w.nonbasic_values r b (pos 0) (omega (arith, r_there, cons.nonbasic_values)))) bound_small)
-      | inr m ↦ subst (λ x. nat_abs x ≤ bound_size (get_or w.bounds v none))
-          (sym (get_or-set_other (set w.nonbasic_values r b) c v (pos 0) (pos 0) o ∙ get_or-set_other w.nonbasic_values r v b (pos 0) m)) (compact.bounded v (omega (arith, l, positions_many)))
-    ]
-  ]
+  bounded' v l = exchanged_bounded w.bounds w.nonbasic_values r c direction b (omega (arith, r_there, xs_many)) (omega (arith, c_there, xs_many)) apart bound_is was_bounded v
+      (omega (arith, l, positions_many, xs_many))
 
   total_small : total_size nonbasic_values' < size_limit
-  total_small = omega (arith, compact.room, bounded_total w.bounds nonbasic_values' (nonbasic_many ∙ positions_many ∙ sym cons.bounds) (λ v l. bounded' v (omega (arith, l, cons.bounds, positions_many))))
+  total_small = exchanged_total w.bounds w.nonbasic_values r c direction b (omega (arith, r_there, xs_many)) (omega (arith, c_there, xs_many)) apart bound_is was_bounded
+      (xs_many ∙ sym cons.bounds) compact.room
 
   -- ---- all of it
   -- with the denominator that this leaving row gives

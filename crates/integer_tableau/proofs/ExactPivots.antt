@@ -64,7 +64,7 @@ computed_each nonbasic_values d all (s ∷ ss) (u ∷ us) (x ∷ xs) (l ∷ ls) 
 
 -- ---- a pivot
 
-status_after_is : (w : Direction) → status_after w ≡ bound_status (is_upper w)
+pub status_after_is : (w : Direction) → status_after w ≡ bound_status (is_upper w)
 status_after_is Rise = refl
 status_after_is Fall = refl
 

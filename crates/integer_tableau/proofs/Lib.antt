@@ -1,4 +1,5 @@
 mod Exchanges
+mod BoundedValues
 mod Apart
 mod BasicColumns
 mod LeavingColumns
@@ -39,3 +40,13 @@ mod LowSums
 mod SmallTimes
 mod ScaledNumbers
 mod ScaledPrograms
+mod Unique
+mod PivotComes
+mod NotCrampedValues
+mod IntegerStep
+mod Stored
+mod StoredSteps
+mod StartStored
+mod ValueSteps
+mod ColumnSteps
+mod ColumnSums

@@ -1,9 +1,9 @@
 -- A dictionary on whole numbers: the part of a tableau that its basis fixes, whatever bounds and values are.
-use Rattle.std.specs.Prelude.{◌≡◌, ◌≢◌, ℕ, ◌+◌, ◌*◌, ◌-◌, ◌<◌, ◌≤◌, ◌^◌, ℤ, pos, nat_abs, Bool, false, List, [], length, map, slice_index_or, slice_set, None}
+use Rattle.std.specs.Prelude.{◌≡◌, ◌≢◌, ℕ, ◌+◌, ◌-◌, ◌<◌, ◌≤◌, ℤ, pos, Bool, false, List, [], length, map, slice_index_or, slice_set}
 use Rattle.tableau.specs.declared.bounds.Direction.{Direction}
 use Rattle.tableau.specs.LinearProgram.{LinearProgram}
 use Rattle.tableau.specs.Tableau.{Tableau}
-use Rattle.integer_tableau.specs.Combined.{bound_size, combined, expanded, expanded_rows, numerator_of, total_bound_size}
+use Rattle.integer_tableau.specs.Combined.{combined, expanded, expanded_rows, numerator_of}
 use Rattle.integer_tableau.specs.Consistent.{row_width}
 use Rattle.integer_tableau.specs.Dictionary.{IsDictionaryOf}
 use Rattle.integer_tableau.specs.IntegerProgram.{fraction_program}
@@ -66,19 +66,6 @@ pub record IsCompactDictionary (ps : List (List ℤ)) (weight : ℕ) (m : Intege
   pub light : weight < size_limit
   pub rows_within : (v : ℕ) → IsWithin (size_limit - 1) (slice_index_or (expanded_rows m.denominator ps m.positions m.rows) v [])
   pub costs_within : IsWithin (size_limit - 1) m.reduced_costs
-
--- and what it holds besides
-pub record IsCompactNode (reach : ℕ) (t : IntegerTableau) : Type 0 where
-  pub bounds : length t.bounds ≡ length t.positions
-  pub at_upper : length t.at_upper ≡ length t.positions
-  pub nonbasic_values : length t.nonbasic_values ≡ length t.positions
-  pub values : length t.values ≡ length t.rows
-  -- the value of a basic column is the sum over its row
-  pub exact : (j : ℕ) → j < length t.rows → slice_index_or t.positions j InBasis ≡ InBasis → number_at t.values j ≡ sum_over t.positions (slice_index_or t.rows j []) t.nonbasic_values
-  pub reached : (j : ℕ) → j < length t.rows → bound_size (slice_index_or t.bounds j (record { lower = None; upper = None })) ≤ reach
-  pub near : reach * t.denominator < 2 ^ 63
-  pub bounded : (v : ℕ) → v < length t.positions → nat_abs (number_at t.nonbasic_values v) ≤ bound_size (slice_index_or t.bounds v (record { lower = None; upper = None }))
-  pub room : total_bound_size t.bounds < size_limit
 
 -- the linear program of these rows and costs; the bounds are no part of a dictionary
 abbrev pub program_of : List (List ℤ) → List ℤ → LinearProgram

@@ -7,6 +7,7 @@ mod combination;
 mod combined_sizes;
 mod conversion;
 mod denominator;
+pub mod dictionary_laws;
 mod divisor;
 mod elimination;
 mod entering;
