@@ -24,6 +24,7 @@ mod pivot;
 mod place;
 mod position;
 mod program_row;
+mod program_run;
 mod range;
 mod reading;
 mod run;

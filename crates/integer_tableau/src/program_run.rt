@@ -1,0 +1,40 @@
+// The run of a linear program over a box.
+
+ghost use Rattle.std.specs.Prelude.{◌≡◌, ◌≢◌, ◌≤◌, ◌<◌, ◌^◌, length, IfOk, IfErr, IfSome};
+ghost use Rattle.tableau.specs.LinearProgram.{over};
+ghost use Rattle.tableau.specs.Place.{PlaceIsWithin};
+ghost use Rattle.integer_tableau.specs.Run.{IsRunOver};
+
+use crate::integer_program::IntegerProgram;
+use crate::integer_tableau::IntegerTableau;
+use crate::run::IntegerRunEnd;
+use problem_box::IntBox;
+use std::alloc::{AllocError, Global};
+use tableau::Place;
+
+impl IntegerProgram {
+    /// The run over a box from the start with at most `cap` pivots, each the one that the tableau before it asks for. Its place is a pivot
+    /// exactly where it met the cap. None where there is no start on such numbers.
+    ///
+    /// The error inside says that the run is given up, and how many pivots it made before. The one error outside is want of memory. What the
+    /// program keeps from one run to the next may change, and contracts don't see it.
+    pub fn run_over(
+        &mut self,
+        alloc: Global,
+        area: &IntBox,
+        cap: u64,
+    ) -> Result<Option<Result<IntegerRunEnd, u64>>, AllocError>
+        requires { length area.now ≡ length self.old.costs }
+        ensures value { IfOk result (λ o. IfSome o (λ r. IfOk r (λ e. IsRunOver (over self.old area.now) cap e.place e.tableau))) }
+        ensures within { IfOk result (λ o. IfSome o (λ r. IfOk r (λ e. PlaceIsWithin (length e.tableau.statuses) e.place))) }
+        ensures exact { IfOk result (λ o. IfSome o (λ r. IfOk r (λ e. e.place ≢ Place.Cramped))) }
+        ensures capped { IfOk result (λ o. IfSome o (λ r. IfOk r (λ e. e.tableau.pivots ≤ cap))) }
+        ensures given_up { IfOk result (λ o. IfSome o (λ r. IfErr r (λ made. made ≤ cap))) }
+        ensures same { self.new ≡ self.old }
+    {
+        match IntegerTableau::start(alloc, self, area)? {
+            Some(start) => Ok(Some(start.run(cap))),
+            None => Ok(None),
+        }
+    }
+}
