@@ -42,11 +42,17 @@ fn look(
     let subproblem = Subproblem {
         problem: state.problem(),
         book: state.book(),
-        relaxation: &worker.relaxation,
         area: &node.area,
         cutoff: state.incumbent().cutoff(),
     };
-    expand(alloc, &subproblem, &mut worker.costs, node.origin, room)
+    expand(
+        alloc,
+        &subproblem,
+        &mut worker.relaxation,
+        &mut worker.costs,
+        node.origin,
+        room,
+    )
 }
 
 /// How what is found of the node settles it. The one error is want of memory.

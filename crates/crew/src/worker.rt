@@ -103,10 +103,16 @@ impl Worker {
         let subproblem = Subproblem {
             problem,
             book: &self.book,
-            relaxation: &self.relaxation,
             area: &node.area,
             cutoff: node.cutoff,
         };
-        expand(alloc, &subproblem, &mut self.costs, origin, room)
+        expand(
+            alloc,
+            &subproblem,
+            &mut self.relaxation,
+            &mut self.costs,
+            origin,
+            room,
+        )
     }
 }

@@ -1,6 +1,6 @@
 -- The answer at the end of a run, as the code makes it.
-use Rattle.std.specs.Prelude.{All, IfSome, IsSomeAnd, cond}
-use Rattle.std.proofs.Common.{◌≡◌, ℕ, ◌+◌, ◌-◌, ◌*◌, ◌^◌, ◌<◌, ◌≤◌, arith, refl, ap, sym, ◌∙◌, subst, Bool, true, false, Option, Some, None, List, [], length, take, drop, map}
+use Rattle.std.specs.Prelude.{All, IfOk, IfSome, IsSomeAnd, cond}
+use Rattle.std.proofs.Common.{◌≡◌, ℕ, ◌+◌, ◌-◌, ◌*◌, ◌^◌, ◌<◌, ◌≤◌, arith, refl, ap, sym, ◌∙◌, subst, Bool, true, false, Option, Some, None, Result, Ok, Err, List, [], length, take, drop, map}
 use Rattle.std.specs.Option.{option_map, option_and_then}
 use Rattle.std.proofs.lemmas.List.{length-map, length-append, length-take-le, take-append-drop}
 use Rattle.fraction.specs.Rational.{ℚ}
@@ -25,6 +25,7 @@ use Rattle.tableau.specs.Multipliers.{point_of, mult_of_cost, mult_of_row}
 use Rattle.tableau.specs.Invariants.{IsTableauOf, EndsWithTableauOf}
 use Rattle.tableau.specs.Lemmas.Places.{IsNoColumn, no_column_is}
 use Rattle.tableau.specs.Lemmas.RunKeeps.{run_keeps}
+use Rattle.integer_tableau.specs.Run.{IsRunOver}
 use Rattle.dual_simplex.specs.declared.answer.Answer.{Answer}
 use Rattle.dual_simplex.specs.declared.answer.Answer.TheVariants.{Infeasible, Optimal}
 use Rattle.dual_simplex.specs.PointSums.{sums_fit}
@@ -168,6 +169,14 @@ module _ (p : Problem) (cs : List Cut) (box : List Span) (u : Tableau) (q : Plac
 pub ends_so : (p : Problem) (cs : List Cut) (box : List Span) (e : RunEnd) (u v : Tableau) (q : Place) → run (linear_program p cs box) ≡ e → v ≡ u → EndsAs e q u → EndsAs (run (linear_program p cs box)) q v
 ends_so p cs box e u v q is same h = subst (EndsAs (run (linear_program p cs box)) q) (sym same) (subst (λ e. EndsAs e q u) (sym is) h)
 
+-- what follows of the end of a run, where there is one
+pub of_end : {T E : Type 0} (P Q : Place × T → Type 0) → ((e : Place × T) → P e → Q e) → (r : Result (Option (Result (Place × T) ℕ)) E)
+    → IfOk r (λ o. IfSome o (λ s. IfOk s P)) → IfOk r (λ o. IfSome o (λ s. IfOk s Q))
+of_end P Q f (Err e) h = tt
+of_end P Q f (Ok None) h = tt
+of_end P Q f (Ok (Some (Err made))) h = tt
+of_end P Q f (Ok (Some (Ok e))) h = f e h
+
 -- ---- how many pivots a run makes at most
 module _ (p : Problem) (cs : List Cut) (k : ℕ) (box : List Span) (few : k ≤ length cs) (columns : length box ≡ length p.spans)
     (n : ℕ) (limit : n ≡ 20 * (length p.spans + (length p.rows + k)) + 100) where
@@ -195,3 +204,7 @@ module _ (p : Problem) (cs : List Cut) (k : ℕ) (box : List Span) (few : k ≤ 
         is_tableau : IsTableauOf (variables program) program u
         is_tableau = subst (λ (e : RunEnd). IfSome e.tableau (IsTableauOf (variables program) program)) (sym (goes_on 0))
             (run_keeps (variables program) program (m + 0) t (start_kept p (take k cs) box t start)).tableau
+
+  -- a run over the box with so many at most is that of the answer
+  pub run_over_is : (q : Place) (t : Tableau) → IsRunOver program n q t → EndsAs (run program) q t
+  run_over_is q t h = subst (λ (e : RunEnd). EndsAs e q t) (sym (run_is h.start h.starts)) h.ends

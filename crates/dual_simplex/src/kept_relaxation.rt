@@ -100,7 +100,7 @@ impl KeptRelaxation {
         ensures stalled { IfOk result (λ b. IsTrue b ↔ (answer problem.now (take cuts book.now.cuts) area.now ≡ Answer.Stalled)) }
         ensures kept { IsKept problem.now book.now.cuts self.new }
     {
-        let relaxation = self.take(alloc, problem, book, cuts)?;
+        let mut relaxation = self.take(alloc, problem, book, cuts)?;
         let stalled = relaxation.is_stalled(alloc, problem, book, area);
         self.last = Some(relaxation);
         stalled

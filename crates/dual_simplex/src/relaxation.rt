@@ -102,18 +102,19 @@ impl Relaxation {
     /// What the run answers over a box that starts on the whole numbers of the scaled program; none where there is no such start. The one error is
     /// want of memory.
     fn solution_by_scales(
-        &self,
+        &mut self,
         alloc: Global,
         problem: &Problem,
         book: &Book,
         area: &IntBox,
     ) -> Result<Option<Solution>, AllocError>
-        requires few { self.now.cuts ≤ length book.now.cuts }
-        requires prepared { IsRelaxationOf problem.now (take self.now.cuts book.now.cuts) self.now }
+        requires few { self.old.cuts ≤ length book.now.cuts }
+        requires prepared { IsRelaxationOf problem.now (take self.old.cuts book.now.cuts) self.old }
         requires columns { length area.now ≡ length problem.now.spans }
-        ensures { IfOk result (λ o. IfSome o (IsSolution problem.now (take self.now.cuts book.now.cuts) area.now)) }
+        ensures solution { IfOk result (λ o. IfSome o (IsSolution problem.now (take self.old.cuts book.now.cuts) area.now)) }
+        ensures same { self.new ≡ self.old }
     {
-        match &self.scaled {
+        match &mut self.scaled {
             Some(program) => solve_by::<ScaledTableau>(
                 alloc, problem, book, self.cuts, area, program,
             ),
@@ -124,18 +125,19 @@ impl Relaxation {
     /// What the run answers over a box that starts on whole numbers, scaled ones too; none where there is no such start. The one error is want of
     /// memory.
     fn solution_on_whole_numbers(
-        &self,
+        &mut self,
         alloc: Global,
         problem: &Problem,
         book: &Book,
         area: &IntBox,
     ) -> Result<Option<Solution>, AllocError>
-        requires few { self.now.cuts ≤ length book.now.cuts }
-        requires prepared { IsRelaxationOf problem.now (take self.now.cuts book.now.cuts) self.now }
+        requires few { self.old.cuts ≤ length book.now.cuts }
+        requires prepared { IsRelaxationOf problem.now (take self.old.cuts book.now.cuts) self.old }
         requires columns { length area.now ≡ length problem.now.spans }
-        ensures { IfOk result (λ o. IfSome o (IsSolution problem.now (take self.now.cuts book.now.cuts) area.now)) }
+        ensures solution { IfOk result (λ o. IfSome o (IsSolution problem.now (take self.old.cuts book.now.cuts) area.now)) }
+        ensures same { self.new ≡ self.old }
     {
-        match &self.program {
+        match &mut self.program {
             Some(program) => solve_by::<IntegerTableau>(
                 alloc, problem, book, self.cuts, area, program,
             ),
@@ -148,19 +150,22 @@ impl Relaxation {
     ///
     /// The run goes on whole numbers first, and where a number isn't whole, on scaled ones. Where that is given up, exact fractions go on from the
     /// last pivot, or where there is no start on such numbers, from the start. The answer is the same. The one error is want of memory.
+    ///
+    /// It borrows the relaxation for writing, since a program may keep what a run computes for the next one. That changes no answer.
     pub fn solve(
-        &self,
+        &mut self,
         alloc: Global,
         problem: &Problem,
         book: &Book,
         area: &IntBox,
     ) -> Result<Solution, AllocError>
-        requires few { self.now.cuts ≤ length book.now.cuts }
-        requires prepared { IsRelaxationOf problem.now (take self.now.cuts book.now.cuts) self.now }
+        requires few { self.old.cuts ≤ length book.now.cuts }
+        requires prepared { IsRelaxationOf problem.now (take self.old.cuts book.now.cuts) self.old }
         requires columns { length area.now ≡ length problem.now.spans }
-        ensures answer { IfOk result (λ s. s.answer ≡ answer problem.now (take self.now.cuts book.now.cuts) area.now) }
-        ensures tableau { IfOk result (λ s. IfSome (run (linear_program problem.now (take self.now.cuts book.now.cuts) area.now)).tableau (λ t. s.tableau ≡ Some t)) }
-        ensures pivots { IfOk result (λ s. HasPivots (linear_program problem.now (take self.now.cuts book.now.cuts) area.now) s.tableau) }
+        ensures answer { IfOk result (λ s. s.answer ≡ answer problem.now (take self.old.cuts book.now.cuts) area.now) }
+        ensures tableau { IfOk result (λ s. IfSome (run (linear_program problem.now (take self.old.cuts book.now.cuts) area.now)).tableau (λ t. s.tableau ≡ Some t)) }
+        ensures pivots { IfOk result (λ s. HasPivots (linear_program problem.now (take self.old.cuts book.now.cuts) area.now) s.tableau) }
+        ensures same { self.new ≡ self.old }
     {
         match self.solution_on_whole_numbers(alloc, problem, book, area)? {
             Some(solution) => Ok(solution),
@@ -221,16 +226,17 @@ impl Relaxation {
 
     /// Whether what `solve` answers over a box is that it is stalled. The one error is want of memory.
     pub fn is_stalled(
-        &self,
+        &mut self,
         alloc: Global,
         problem: &Problem,
         book: &Book,
         area: &IntBox,
     ) -> Result<bool, AllocError>
-        requires few { self.now.cuts ≤ length book.now.cuts }
-        requires prepared { IsRelaxationOf problem.now (take self.now.cuts book.now.cuts) self.now }
+        requires few { self.old.cuts ≤ length book.now.cuts }
+        requires prepared { IsRelaxationOf problem.now (take self.old.cuts book.now.cuts) self.old }
         requires columns { length area.now ≡ length problem.now.spans }
-        ensures { IfOk result (λ b. IsTrue b ↔ (answer problem.now (take self.now.cuts book.now.cuts) area.now ≡ Answer.Stalled)) }
+        ensures stalled { IfOk result (λ b. IsTrue b ↔ (answer problem.now (take self.old.cuts book.now.cuts) area.now ≡ Answer.Stalled)) }
+        ensures same { self.new ≡ self.old }
     {
         match self.solve(alloc, problem, book, area)?.answer {
             Answer::Stalled => Ok(true),

@@ -1,6 +1,6 @@
 //! The run that goes on whole numbers first.
 
-ghost use Rattle.std.specs.Prelude.{◌≡◌, ◌+◌, ◌*◌, ◌<◌, ◌≤◌, ◌^◌, true, IfOk, IfSome, Some, length, take};
+ghost use Rattle.std.specs.Prelude.{◌≡◌, ◌+◌, ◌*◌, ◌<◌, ◌≤◌, ◌^◌, true, IfOk, IfErr, IfSome, Some, length, take};
 ghost use Rattle.tableau.specs.Start.{started};
 ghost use Rattle.tableau.specs.Run.{EndsAs};
 ghost use Rattle.dual_simplex.specs.Answers.{linear_program, run};
@@ -31,6 +31,28 @@ pub(crate) fn start<T: WholeTableau>(
     ensures pivots { IfOk result (λ o. IfSome o (λ t. (T.tableau_of t).pivots ≡ 0)) }
 {
     T::start(alloc, program, area)
+}
+
+/// The run of a relaxation over a box on whole numbers: its last place, and the tableau there; none where there is no start on such numbers. The error
+/// inside says that the run is given up, and how many pivots it made before. The one error outside is want of memory.
+fn run_over<T: WholeTableau>(
+    alloc: Global,
+    problem: &Problem,
+    book: &Book,
+    cuts: usize,
+    area: &IntBox,
+    program: &mut T::Program,
+) -> Result<Option<Result<(Place, T), u64>>, AllocError>
+    requires few { cuts ≤ length book.now.cuts }
+    requires numbered { cuts < most_numbered_cuts }
+    requires columns { length area.now ≡ length problem.now.spans }
+    requires program { T.program_of program.old ≡ linear_program problem.now (take cuts book.now.cuts) problem.now.spans }
+    ensures ends { IfOk result (λ o. IfSome o (λ r. IfOk r (λ e. EndsAs (run (linear_program problem.now (take cuts book.now.cuts) area.now)) e.0 (T.tableau_of e.1)))) }
+    ensures few_pivots { IfOk result (λ o. IfSome o (λ r. IfOk r (λ e. (T.tableau_of e.1).pivots < 2 ^ 32))) }
+    ensures given_up { IfOk result (λ o. IfSome o (λ r. IfErr r (λ made. made ≤ 20 * (length problem.now.spans + (length problem.now.rows + cuts)) + 100))) }
+    ensures same { program.new ≡ program.old }
+{
+    T::run_over(alloc, program, area, pivot_limit(problem, cuts))
 }
 
 /// What a run answers that ended so, and its tableau. The one error is want of memory.
@@ -93,26 +115,25 @@ pub(crate) fn solve_by<T: WholeTableau>(
     book: &Book,
     cuts: usize,
     area: &IntBox,
-    program: &T::Program,
+    program: &mut T::Program,
 ) -> Result<Option<Solution>, AllocError>
     requires few { cuts ≤ length book.now.cuts }
     requires numbered { cuts < most_numbered_cuts }
     requires columns { length area.now ≡ length problem.now.spans }
-    requires program { T.program_of program.now ≡ linear_program problem.now (take cuts book.now.cuts) problem.now.spans }
+    requires program { T.program_of program.old ≡ linear_program problem.now (take cuts book.now.cuts) problem.now.spans }
     requires integers { T.is_of_integers ≡ true → IsIntegerRelaxation problem.now (take cuts book.now.cuts) }
-    ensures { IfOk result (λ o. IfSome o (IsSolution problem.now (take cuts book.now.cuts) area.now)) }
+    ensures solution { IfOk result (λ o. IfSome o (IsSolution problem.now (take cuts book.now.cuts) area.now)) }
+    ensures same { program.new ≡ program.old }
 {
-    let Some(first) = start::<T>(alloc, problem, book, cuts, area, program)? else {
-        return Ok(None);
-    };
-    match first.run(pivot_limit(problem, cuts)) {
-        Ok((place, tableau)) => {
+    match run_over::<T>(alloc, problem, book, cuts, area, program)? {
+        Some(Ok((place, tableau))) => {
             let solution = solution_of(alloc, problem, book, cuts, area, place, tableau)?;
             Ok(Some(solution))
         }
-        Err(pivots) => match start::<T>(alloc, problem, book, cuts, area, program)? {
+        Some(Err(pivots)) => match start::<T>(alloc, problem, book, cuts, area, program)? {
             Some(again) => solve_from(alloc, problem, book, cuts, area, again, pivots),
             None => Ok(None),
         },
+        None => Ok(None),
     }
 }

@@ -3,7 +3,8 @@
 ghost use Rattle.std.specs.Prelude.{◌≡◌, ◌<◌, ◌≤◌, ◌+◌, ◌^◌, ℕ, Bool, true, length, IsTrue, IfOk, IfErr, IfSome, Some};
 ghost use Rattle.tableau.specs.LinearProgram.{over};
 ghost use Rattle.tableau.specs.Start.{started};
-ghost use Rattle.tableau.specs.Run.{EndsAs, run_from};
+ghost use Rattle.tableau.specs.Run.{run_from};
+ghost use Rattle.integer_tableau.specs.Run.{IsRunOver};
 ghost use Rattle.dual_simplex.specs.Ends.{IsSmallEnd};
 
 use crate::final_tableau::FinalTableau;
@@ -41,13 +42,19 @@ pub(crate) trait WholeTableau: Sized + Drop {
         ensures value { IfOk result (λ o. IfSome o (λ t. started (over (program_of program.now) area.now) ≡ Some (tableau_of t))) }
         ensures pivots { IfOk result (λ o. IfSome o (λ t. (tableau_of t).pivots ≡ 0)) };
 
-    /// The run with at most `cap` further pivots: its last place, and the tableau there. The error says that it is given up, and how many pivots it
-    /// made before.
-    fn run(self, cap: u64) -> Result<(Place, Self), u64>
-        requires { (tableau_of self).pivots + cap < 2 ^ 64 }
-        ensures value { IfOk result (λ e. EndsAs (run_from cap (tableau_of self)) e.0 (tableau_of e.1)) }
-        ensures capped { IfOk result (λ e. (tableau_of e.1).pivots ≤ (tableau_of self).pivots + cap) }
-        ensures given_up { IfErr result (λ made. made ≤ cap) };
+    /// The run of a program over a box from the start with at most `cap` pivots: its last place, and the tableau there; none where there is no start on
+    /// such numbers. The error inside says that the run is given up, and how many pivots it made before. The one error outside is want of memory.
+    fn run_over(
+        alloc: Global,
+        program: &mut Self::Program,
+        area: &IntBox,
+        cap: u64,
+    ) -> Result<Option<Result<(Place, Self), u64>>, AllocError>
+        requires { length area.now ≡ length (program_of program.old).costs }
+        ensures value { IfOk result (λ o. IfSome o (λ r. IfOk r (λ e. IsRunOver (over (program_of program.old) area.now) cap e.0 (tableau_of e.1)))) }
+        ensures capped { IfOk result (λ o. IfSome o (λ r. IfOk r (λ e. (tableau_of e.1).pivots ≤ cap))) }
+        ensures given_up { IfOk result (λ o. IfSome o (λ r. IfErr r (λ made. made ≤ cap))) }
+        ensures same { program.new ≡ program.old };
 
     /// The tableau after so many pivots of the run; none where this is given up, and where there are fewer.
     fn after_pivots(self, count: u64) -> Option<Self>
@@ -89,9 +96,17 @@ impl WholeTableau for IntegerTableau {
         IntegerTableau::start(alloc, program, area)
     }
 
-    fn run(self, cap: u64) -> Result<(Place, IntegerTableau), u64> {
-        let end = IntegerTableau::run(self, cap)?;
-        Ok((end.place, end.tableau))
+    fn run_over(
+        alloc: Global,
+        program: &mut IntegerProgram,
+        area: &IntBox,
+        cap: u64,
+    ) -> Result<Option<Result<(Place, IntegerTableau), u64>>, AllocError> {
+        match program.run_over(alloc, area, cap)? {
+            Some(Ok(end)) => Ok(Some(Ok((end.place, end.tableau)))),
+            Some(Err(made)) => Ok(Some(Err(made))),
+            None => Ok(None),
+        }
     }
 
     fn after_pivots(self, count: u64) -> Option<IntegerTableau> {
@@ -130,9 +145,19 @@ impl WholeTableau for ScaledTableau {
         ScaledTableau::start(alloc, program, area)
     }
 
-    fn run(self, cap: u64) -> Result<(Place, ScaledTableau), u64> {
-        let end = ScaledTableau::run(self, cap)?;
-        Ok((end.place, end.tableau))
+    fn run_over(
+        alloc: Global,
+        program: &mut ScaledProgram,
+        area: &IntBox,
+        cap: u64,
+    ) -> Result<Option<Result<(Place, ScaledTableau), u64>>, AllocError> {
+        let Some(start) = ScaledTableau::start(alloc, program, area)? else {
+            return Ok(None);
+        };
+        match start.run(cap) {
+            Ok(end) => Ok(Some(Ok((end.place, end.tableau)))),
+            Err(made) => Ok(Some(Err(made))),
+        }
     }
 
     fn after_pivots(self, count: u64) -> Option<ScaledTableau> {

@@ -1,11 +1,11 @@
 // The cuts that are found of a node.
-ghost use Rattle.std.specs.Prelude.{◌≡◌, IfOk, IfSome, Some, length};
+ghost use Rattle.std.specs.Prelude.{◌≡◌, ◌≤◌, IfOk, IfSome, Some, length};
+ghost use Rattle.problem.specs.Limits.{most_cuts};
 ghost use Rattle.problem.specs.Linear.{Multipliers};
 ghost use Rattle.dual_simplex.specs.declared.answer.Answer.TheVariants.{Optimal};
 ghost use Rattle.dual_simplex.specs.Answers.{linear_program, run, answer};
 ghost use Rattle.expand.specs.Columns.{fractional_columns};
 ghost use Rattle.expand.specs.Expansion.{cuts_found};
-ghost use Rattle.expand.specs.Subproblems.{IsSubproblem};
 
 use crate::mults::Mults;
 use crate::optimum::is_reached;
@@ -27,7 +27,8 @@ pub(crate) fn cuts_found(
     columns: &[usize],
     room: usize,
 ) -> Result<Mults, AllocError>
-    requires subproblem { IsSubproblem subproblem.now.problem.now subproblem.now.book.now.cuts subproblem.now.relaxation.now subproblem.now.area.now }
+    requires few { length subproblem.now.book.now.cuts ≤ most_cuts }
+    requires area { length subproblem.now.area.now ≡ length subproblem.now.problem.now.spans }
     requires tableau { IfSome (run (linear_program subproblem.now.problem.now subproblem.now.book.now.cuts subproblem.now.area.now)).tableau (λ t. tableau.now ≡ Some t) }
     requires optimal { (mult : Multipliers) × (answer subproblem.now.problem.now subproblem.now.book.now.cuts subproblem.now.area.now ≡ Optimal point.now mult value) }
     requires point { length point.now ≡ length subproblem.now.problem.now.spans }

@@ -19,7 +19,7 @@ use crate::mults::Mults;
 use crate::notes::{gain_of, note};
 use crate::origin::Origin;
 use crate::subproblem::Subproblem;
-use dual_simplex::{Answer, FinalTableau, Solution};
+use dual_simplex::{Answer, FinalTableau, Relaxation, Solution};
 use event_core::middle;
 use fraction::Frac;
 use node_events::{Mult, Proof, RationalPoint, Reason};
@@ -85,7 +85,8 @@ fn at_optimum(
     mult: Mult,
     value: Frac,
 ) -> Result<Finding, AllocError>
-    requires subproblem { IsSubproblem subproblem.now.problem.now subproblem.now.book.now.cuts subproblem.now.relaxation.now subproblem.now.area.now }
+    requires few { length subproblem.now.book.now.cuts ≤ most_cuts }
+    requires area { length subproblem.now.area.now ≡ length subproblem.now.problem.now.spans }
     requires costs { length costs.old ≡ length subproblem.now.problem.now.spans }
     requires origin { IfSome origin.now (λ o. o.column < length costs.old) }
     requires gain { IfSome gain (λ g. g ≤ largest_gain) }
@@ -109,11 +110,12 @@ fn at_optimum(
 pub(crate) fn relax(
     alloc: Global,
     subproblem: &Subproblem,
+    relaxation: &mut Relaxation,
     costs: &mut Costs,
     origin: &Option<Origin>,
     room: usize,
 ) -> Result<Finding, AllocError>
-    requires subproblem { IsSubproblem subproblem.now.problem.now subproblem.now.book.now.cuts subproblem.now.relaxation.now subproblem.now.area.now }
+    requires subproblem { IsSubproblem subproblem.now.problem.now subproblem.now.book.now.cuts relaxation.old subproblem.now.area.now }
     requires free { IsOpen subproblem.now.area.now }
     requires costs { length costs.old ≡ length subproblem.now.problem.now.spans }
     requires origin { IfSome origin.now (λ o. o.column < length costs.old) }
@@ -121,9 +123,10 @@ pub(crate) fn relax(
     ensures noted { OnOk result (costs.new ≡ with_note origin.now (answer subproblem.now.problem.now subproblem.now.book.now.cuts subproblem.now.area.now) costs.old) }
     ensures failed { OnErr result (costs.new ≡ costs.old) }
     ensures columns { length costs.new ≡ length costs.old }
+    ensures same { relaxation.new ≡ relaxation.old }
 {
     subproblem.problem.limits_hold();
-    let Solution { answer, tableau } = subproblem.relaxation.solve(
+    let Solution { answer, tableau } = relaxation.solve(
         alloc,
         subproblem.problem,
         subproblem.book,

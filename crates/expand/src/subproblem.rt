@@ -1,7 +1,6 @@
 // What is known when a node is looked at.
 
 use derivation_book::Book;
-use dual_simplex::Relaxation;
 use fraction::Frac;
 use problem::Problem;
 use problem_box::IntBox;
@@ -13,8 +12,6 @@ pub struct Subproblem<'a> {
     pub problem: &'a Problem,
     /// The problem's cuts.
     pub book: &'a Book,
-    /// The relaxation of the problem with all these cuts.
-    pub relaxation: &'a Relaxation,
     /// The node's box.
     pub area: &'a IntBox,
     /// The incumbent's aim, if there is an incumbent.

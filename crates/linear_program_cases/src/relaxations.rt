@@ -114,7 +114,7 @@ fn solution(alloc: Global, problem: &Problem, book: &Book, area: &IntBox) -> Res
     if cuts > 1 || area.len() != problem.columns() {
         bail!("many cuts, or a box of another problem");
     }
-    let relaxation = Relaxation::new(alloc, problem, book, cuts)?;
+    let mut relaxation = Relaxation::new(alloc, problem, book, cuts)?;
     Ok(relaxation.solve(alloc, problem, book, area)?)
 }
 

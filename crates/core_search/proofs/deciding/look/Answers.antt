@@ -48,7 +48,7 @@ returns-clause-last c =
 
 pub returns-clause-prepared : goal.returns-clause-prepared
 returns-clause-prepared c =
-    prepared_still c.args.state.now.state c.args.worker.now (record c.args.worker.now { costs = c.expand.new.costs }) c.requires.prepared refl refl c.expand.ensures.columns
+    prepared_still c.args.state.now.state c.args.worker.now (record c.args.worker.now { relaxation = c.expand.new.relaxation; costs = c.expand.new.costs }) c.requires.prepared c.expand.ensures.same refl c.expand.ensures.columns
 
 pub returns-clause-found : goal.returns-clause-found
 returns-clause-found c =

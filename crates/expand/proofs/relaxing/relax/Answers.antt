@@ -20,18 +20,18 @@ none_stalled (Some o) costs = refl
 pub at_optimum-requires-clause-tableau : goal.at_optimum-requires-clause-tableau
 at_optimum-requires-clause-tableau c =
     let g = c.args.subproblem.now in
-    tableau_left g.problem.now g.book.now.cuts g.area.now g.relaxation.now.cuts c.requires.subproblem.all_cuts c.in_ok-answer.field-0.tableau c.in_ok-answer.ensures.tableau
+    tableau_left g.problem.now g.book.now.cuts g.area.now c.args.relaxation.now.cuts c.requires.subproblem.all_cuts c.in_ok-answer.field-0.tableau c.in_ok-answer.ensures.tableau
 
 pub returns-in-Cramped-clause-noted : goal.returns-in-Cramped-clause-noted
 returns-in-Cramped-clause-noted c =
     let g = c.args.subproblem.now in
-    let e = answered g.problem.now g.book.now.cuts g.area.now g.relaxation.now.cuts c.requires.subproblem.all_cuts _ c.in_ok-answer.ensures.answer in
+    let e = answered g.problem.now g.book.now.cuts g.area.now c.args.relaxation.now.cuts c.requires.subproblem.all_cuts _ c.in_ok-answer.ensures.answer in
     none_cramped c.args.origin.now c.in-Cramped.pivots c.args.costs.now ∙ ap (λ (a : Answer). with_note c.args.origin.now a c.args.costs.now) (sym c.in-Cramped.is ∙ e)
 
 pub returns-clause-noted : goal.returns-clause-noted
 returns-clause-noted c =
     let g = c.args.subproblem.now in
-    let e = answered g.problem.now g.book.now.cuts g.area.now g.relaxation.now.cuts c.requires.subproblem.all_cuts _ c.in_ok-answer.ensures.answer in
+    let e = answered g.problem.now g.book.now.cuts g.area.now c.args.relaxation.now.cuts c.requires.subproblem.all_cuts _ c.in_ok-answer.ensures.answer in
     none_stalled c.args.origin.now c.args.costs.now ∙ ap (λ (a : Answer). with_note c.args.origin.now a c.args.costs.now) (sym c.in-Stalled.is ∙ e)
 
 pub at_optimum-requires-clause-point : goal.at_optimum-requires-clause-point
@@ -40,6 +40,6 @@ at_optimum-requires-clause-point c =
     let cs = c.args.subproblem.now.book.now.cuts in
     let box = c.args.subproblem.now.area.now in
     let e : answer p cs box ≡ Optimal c.in-Optimal.point c.in-Optimal.mult c.in-Optimal.value =
-    cc (answered p cs box c.args.subproblem.now.relaxation.now.cuts c.requires.subproblem.all_cuts _ c.in_ok-answer.ensures.answer, c.in-Optimal.is)
+    cc (answered p cs box c.args.relaxation.now.cuts c.requires.subproblem.all_cuts _ c.in_ok-answer.ensures.answer, c.in-Optimal.is)
     in
     point_columns p cs box c.in-Optimal.point c.in-Optimal.mult c.in-Optimal.value (record { columns = c.requires.subproblem.columns; nonempty = c.requires.free.nonempty }) e
