@@ -17,8 +17,10 @@ pub(crate) struct Opened {
     found: Metadata,
     /// Whether nobody else may take it for writing, until it is closed.
     taken: bool,
-    /// How long it was at the last sync, if there was one.
-    synced: Option<u64>,
+    /// How long it is, as far as this disk has made it so: nobody else writes to it once it is taken.
+    length: u64,
+    /// Whether it may have another length than at the last sync, or wasn't synced yet.
+    resized: bool,
 }
 
 impl Opened {
@@ -64,12 +66,14 @@ impl Opened {
         if !found.is_file() || file.as_raw_fd() <= 2 {
             return Err(no_plain_file());
         }
+        let length = found.len();
         Ok(Opened {
             file,
             writable,
             found,
             taken: false,
-            synced: None,
+            length,
+            resized: true,
         })
     }
 
@@ -118,24 +122,34 @@ impl Opened {
             return Ok(());
         }
         self.take()?;
-        self.file.write_all_at(bytes, at)
+        let end = at.saturating_add(bytes.len() as u64);
+        if end <= self.length {
+            return self.file.write_all_at(bytes, at);
+        }
+        // Also where it fails, some of the bytes may be there.
+        self.resized = true;
+        self.file.write_all_at(bytes, at)?;
+        self.length = end;
+        Ok(())
     }
 
     /// Sets the file's length.
     pub(crate) fn cut(&mut self, size: u64) -> io::Result<()> {
         self.take()?;
-        self.file.set_len(size)
+        self.resized = true;
+        self.file.set_len(size)?;
+        self.length = size;
+        Ok(())
     }
 
     // Where the length is that of the last sync, the system need not write what it keeps of the file besides its bytes: on ext4 that takes half
     // of the time (docs/DECISIONS.md, entry 79).
     fn sync_bytes(&mut self) -> io::Result<()> {
-        let length = Some(self.metadata()?.len());
-        if length == self.synced {
+        if !self.resized {
             return self.file.sync_data();
         }
         self.file.sync_all()?;
-        self.synced = length;
+        self.resized = false;
         Ok(())
     }
 
