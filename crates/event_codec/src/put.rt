@@ -15,6 +15,12 @@ use node_events::{Mult, RationalPoint};
 use problem::{Point, Term};
 use std::alloc::AllocError;
 
+/// How many bytes a fraction takes at least, in encoding 2. Room for so many is made ahead of a list.
+const FRACTION_SIZE: usize = 2;
+
+/// How many bytes a row with its factor takes at least, in encoding 2.
+const FACTOR_SIZE: usize = 3;
+
 /// A number of 32 bits.
 #[tactic(auto, unfolding(crate::specs::Codes::u32_code))]
 pub(crate) fn put_u32(out: &mut Vec<u8>, enc: Enc, number: u32) -> Result<(), AllocError>
@@ -46,6 +52,7 @@ pub(crate) fn put_i64(out: &mut Vec<u8>, enc: Enc, number: i64) -> Result<(), Al
 }
 
 /// A signed number of 128 bits.
+#[inline(always)]
 #[tactic(auto, unfolding(crate::specs::Codes::i128_code))]
 fn put_i128(out: &mut Vec<u8>, enc: Enc, number: i128) -> Result<(), AllocError>
     ensures { OnOk result (out.new.items ≡ out.old.items ++ i128_code enc number) }
@@ -55,7 +62,11 @@ fn put_i128(out: &mut Vec<u8>, enc: Enc, number: i128) -> Result<(), AllocError>
             out.extend_from_slice(&number.to_le_bytes())?;
             Ok(())
         }
-        Enc::Two => put_wide_varint(out, wide_zigzag(number)),
+        // Nearly all numbers have 64 bits.
+        Enc::Two => match i64::try_from(number) {
+            Ok(narrow) => put_varint(out, zigzag(narrow)),
+            Err(_) => put_wide_varint(out, wide_zigzag(number)),
+        },
     }
 }
 
@@ -94,6 +105,7 @@ pub(crate) fn put_mult(out: &mut Vec<u8>, enc: Enc, mult: &Mult) -> Result<(), A
     ensures typed { OnOk result (IsMult mult.now) }
 {
     put_u32(out, enc, mult.len() as u32)?;
+    out.reserve(mult.len() * FACTOR_SIZE)?;
     for term in mult.as_slice() {
         put_factor(out, enc, term)?;
     }
@@ -127,6 +139,7 @@ pub(crate) fn put_rational_point(
     ensures typed { OnOk result (AllByRecursion FitsFraction point.now) }
 {
     put_u32(out, enc, point.len() as u32)?;
+    out.reserve(point.len() * FRACTION_SIZE)?;
     for column in 0..point.len() {
         put_fraction(out, enc, point.get(column))?;
     }

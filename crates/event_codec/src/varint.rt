@@ -10,7 +10,21 @@ use crate::fault::CodecFault;
 use std::alloc::AllocError;
 
 /// A number of 64 bits behind other bytes.
+#[inline(always)]
 pub(crate) fn put_varint(out: &mut Vec<u8>, number: u64) -> Result<(), AllocError>
+    ensures { OnOk result (out.new.items ≡ out.old.items ++ varint_code number) }
+{
+    // Most numbers take one byte.
+    if number < 128 {
+        out.push(number as u8)?;
+        return Ok(());
+    }
+    put_groups(out, number)
+}
+
+/// The same, by its groups of 7 bits.
+#[inline(never)]
+fn put_groups(out: &mut Vec<u8>, number: u64) -> Result<(), AllocError>
     ensures { OnOk result (out.new.items ≡ out.old.items ++ varint_code number) }
 {
     let mut rest = number;

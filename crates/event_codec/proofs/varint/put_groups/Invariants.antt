@@ -1,6 +1,6 @@
 use Rattle.std.proofs.Common.{◌≡◌, ◌++◌}
 use Rattle.event_codec.specs.Varints.{varint_code}
-use Rattle.event_codec.proofs.varint.put_varint.Given as goal
+use Rattle.event_codec.proofs.varint.put_groups.Given as goal
 
 -- what is put and what is left spell the number
 abbrev pub invariant-loop-rest : goal.invariant-loop-rest
