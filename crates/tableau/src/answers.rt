@@ -1,6 +1,6 @@
 // What a tableau answers: the point, and the multipliers of rows that it names.
 
-ghost use Rattle.std.specs.Prelude.{◌≡◌, ◌<◌, ◌++◌, map, drop, length, slice_set, IfOk, OnOk, if◌then◌else◌};
+ghost use Rattle.std.specs.Prelude.{◌≡◌, ◌<◌, ◌≤◌, ◌++◌, map, drop, length, slice_set, IfOk, OnOk, if◌then◌else◌};
 ghost use Rattle.fraction.specs.Rational.{neg_ℚ};
 ghost use Rattle.problem.specs.Linear.{Multipliers};
 ghost use Rattle.tableau.specs.Leaving.{is_below};
@@ -23,11 +23,24 @@ fn push_multiplier(multipliers: &mut Terms, number: u32, multiplier: Frac) -> Re
     Ok(())
 }
 
+/// How many numbers aren't 0.
+fn nonzero_count(numbers: &[Frac]) -> usize
+    ensures { result ≤ length numbers.now }
+{
+    let mut count = 0;
+    for number in numbers {
+        if number.numer() != 0 {
+            count += 1;
+        }
+    }
+    count
+}
+
 /// The numbers of rows with their multipliers, but those that are 0. The one error is want of memory.
 fn numbered(alloc: Global, numbers: &[u32], multipliers: &[Frac]) -> Result<Terms, AllocError>
     ensures { IfOk result (λ m. m ≡ numbered numbers.now multipliers.now) }
 {
-    let mut named = Terms::new(alloc);
+    let mut named = Terms::with_capacity(alloc, nonzero_count(multipliers))?;
     for (i, number) in numbers.iter().enumerate() {
         if i >= multipliers.len() {
             return Ok(named);

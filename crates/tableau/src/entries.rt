@@ -153,6 +153,7 @@ impl Entries {
         ensures entries { OnOk result (self.new ≡ self.old ++ kept_below width terms.now) }
         ensures fractions { All HasFraction self.old → OnOk result (All HasFraction self.new) }
     {
+        self.items.reserve(terms.len())?;
         for term in terms {
             let (column, coefficient) = term.pair();
             self.push_below(width, column, coefficient)?;
