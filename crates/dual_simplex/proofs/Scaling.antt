@@ -66,7 +66,7 @@ zero-product : (k : ℤ) → k *ℤ pos 0 ≡ pos 0
 zero-product k = rw (is_diff k) (simp (diff-pos, diff-mul) (diff-same _ _ _ _ (omega arith)))
 
 module _ (d : ℕ) (o : IsDenominator d) where
-  term_over : (t z : ℤ) (c : ℚ) → nat_abs t ≤ most_columns * largest_product → nat_abs z ≤ largest_numerator → IsIntegerTo largest_factor c → with_product (frac t d) c (frac z d) ≡ Some (frac (t +ℤ c.num *ℤ z) d)
+  pub term_over : (t z : ℤ) (c : ℚ) → nat_abs t ≤ most_columns * largest_product → nat_abs z ≤ largest_numerator → IsIntegerTo largest_factor c → with_product (frac t d) c (frac z d) ≡ Some (frac (t +ℤ c.num *ℤ z) d)
   term_over t z c ht hz hc =
       let small : d < 2 ^ 127 = omega (arith, o.small) in
       let size = product_small c.num z hc.is_small hz in

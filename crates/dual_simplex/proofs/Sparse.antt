@@ -1,6 +1,6 @@
 -- The sum over all columns, by the terms alone.
 use Rattle.std.specs.Prelude.{if◌then◌else◌, nat_lt}
-use Rattle.std.proofs.Common.{◌≡◌, ℕ, zero, suc, ◌+◌, ◌<◌, ◌≤◌, arith, refl, ap, sym, ◌∙◌, Bool, true, false, Option, Some, None, List, [], ◌∷◌, length, drop, inl, inr}
+use Rattle.std.proofs.Common.{◌≡◌, ℕ, zero, suc, ◌+◌, ◌<◌, ◌≤◌, arith, refl, ap, sym, ◌∙◌, Bool, true, false, Option, Some, None, List, [], ◌∷◌, length, get_or, drop, inl, inr}
 use Rattle.std.specs.Option.{option_and_then}
 use Rattle.std.proofs.lemmas.Bool.{cases_eq, ltb-true, ltb-false}
 use Rattle.std.proofs.lemmas.List.{get_or_default}
@@ -25,6 +25,17 @@ abbrev pub sum_of_terms : ℚ → Terms → RationalPoint → Option ℚ
 sum_of_terms s [] x = Some s
 sum_of_terms s (t ∷ ts) x =
     if nat_lt t.0 (length x) then option_and_then (λ u. sum_of_terms u ts x) (with_product s t.1 (rational_at x t.0)) else sum_of_terms s ts x
+
+-- the step of one term, whose column may not be there
+same_step : (b : Bool) (o : Option ℚ) (f : ℚ → Option ℚ) (s u : ℚ) → (if b then o else Some s) ≡ Some u → (if b then option_and_then f o else f s) ≡ f u
+same_step true o f s u h = ap (option_and_then f) h
+same_step false o f s u h = ap (option_and_then f) h
+
+pub next_term : (x : RationalPoint) (ts : Terms) (i : ℕ) (t : ℕ × ℚ) (s u : ℚ) → i < length ts → t ≡ get_or ts i t → (if nat_lt t.0 (length x) then with_product s t.1 (rational_at x t.0) else Some s) ≡ Some u
+    → sum_of_terms u (drop (i + 1) ts) x ≡ sum_of_terms s (drop i ts) x
+next_term x ts i t s u l e h =
+    sym (ap (λ us. sum_of_terms s us x) (next_item ts i t l e)
+    ∙ same_step (nat_lt t.0 (length x)) (with_product s t.1 (rational_at x t.0)) (λ v. sum_of_terms v (drop (i + 1) ts) x) s u h)
 
 -- ---- steps
 one_step : (s c x : ℚ) (cs xs : List ℚ) → dot_from s (c ∷ cs) (x ∷ xs) ≡ option_and_then (λ t. dot_from t cs xs) (with_product s c x)

@@ -12,7 +12,7 @@ ghost use Rattle.dual_simplex.specs.Ends.{IsEnd, AreMultipliers, IsOptimumThere,
 
 use crate::answer::Answer;
 use crate::final_tableau::FinalTableau;
-use crate::point_sums::checked_sum;
+use crate::single_sum::single_sum;
 use crate::sums::sums_fit;
 use derivation_book::Book;
 use fraction::Frac;
@@ -89,7 +89,7 @@ fn aim_price(
     problem.limits_hold();
     let aim = problem.aim().as_slice();
     if is_there {
-        Ok(checked_sum(point, aim))
+        Ok(single_sum(point, aim))
     } else {
         book.price(alloc, problem, area, aim, mult)
     }

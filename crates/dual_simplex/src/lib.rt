@@ -15,6 +15,7 @@ mod program;
 mod reading;
 mod relaxation;
 mod scaled_point;
+mod single_sum;
 mod sizes;
 mod solution;
 mod sums;

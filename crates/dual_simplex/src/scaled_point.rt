@@ -58,8 +58,8 @@ fn with_denominator(common: u128, other: u128) -> Option<u128>
     requires small { other < 2 ^ 127 }
     ensures { IfSome result IsDenominator }
 {
-    // Most numbers of a vertex are whole.
-    if other == 1 || common % other == 0 {
+    // Most numbers of a vertex are whole, and most others have one denominator.
+    if other == 1 || other == common || common % other == 0 {
         return Some(common);
     }
     let factor = Frac::make(common as i128, other as i128).denom();
@@ -81,7 +81,7 @@ fn with_number(common: u128, number: Frac) -> Option<u128>
 }
 
 /// A common multiple of the denominators of a point's numbers; none where it is above 2^74.
-fn common_denominator(point: &RationalPoint) -> Option<u128>
+pub(crate) fn common_denominator(point: &RationalPoint) -> Option<u128>
     ensures { IfSome result IsDenominator }
 {
     let mut common = 1;
@@ -117,6 +117,9 @@ fn factor_to(denominator: u128, other: u128) -> Option<u128>
     if other == 1 {
         return Some(denominator);
     }
+    if other == denominator {
+        return Some(1);
+    }
     if denominator % other != 0 {
         return None;
     }
@@ -124,7 +127,7 @@ fn factor_to(denominator: u128, other: u128) -> Option<u128>
 }
 
 /// The numerator of a number over a denominator; none where it isn't whole, or its size is above 2^74.
-fn numerator_over(number: Frac, denominator: u128) -> Option<i128>
+pub(crate) fn numerator_over(number: Frac, denominator: u128) -> Option<i128>
     requires { IsDenominator denominator }
     ensures value { IfSome result (λ z. frac z denominator ≡ number) }
     ensures small { IfSome result (λ z. nat_abs z ≤ largest_numerator) }
