@@ -1,6 +1,7 @@
 //! What a filling does to one column, by whole numbers.
 
 ghost use Rattle.std.specs.Prelude.{◌≡◌, ◌<◌, ◌≤◌, ◌^◌, ◌+◌, ◌++◌, ◌∷◌, ◌+ℤ◌, ◌*ℤ◌, List, pos, nat_abs, IfOk, IfSome, OnOk};
+ghost use Rattle.std.specs.Int.{int_div_euclid, int_rem_euclid};
 ghost use Rattle.fraction.specs.Rational.{ℚ, frac, whole};
 ghost use Rattle.derivation_book.specs.Rounded.{nonzero_terms};
 ghost use Rattle.derivation_book.specs.Sizes.{denominator_limit};
@@ -31,6 +32,26 @@ fn is_at_upper(status: BasisStatus) -> bool
     }
 }
 
+/// The product of two numbers of 64 bits, which needs no test.
+#[inline(always)]
+fn short_product(factor: i64, number: i64) -> i128
+    ensures value { result ≡ factor *ℤ number }
+    ensures small { nat_abs result ≤ 2 ^ 126 }
+{
+    i128::from(factor) * i128::from(number)
+}
+
+/// What is left of a numerator above its quotient times the denominator: to divide once more would take far longer.
+#[inline(always)]
+fn remainder(numerator: i64, denominator: u64, quotient: i64) -> i64
+    requires positive { 0 < denominator }
+    requires small { denominator < denominator_limit }
+    requires quotient { quotient ≡ int_div_euclid numerator (pos denominator) }
+    ensures { result ≡ int_rem_euclid numerator (pos denominator) }
+{
+    (i128::from(numerator) - short_product(quotient, denominator as i64)) as i64
+}
+
 /// What the filling makes of a numerator over a denominator: rounded down at the upper bound, else up.
 #[inline(always)]
 fn filled_numerator(status: BasisStatus, numerator: i64, denominator: u64) -> Filled
@@ -41,8 +62,9 @@ fn filled_numerator(status: BasisStatus, numerator: i64, denominator: u64) -> Fi
     ensures small_coefficient { nat_abs result.coefficient ≤ 2 ^ 63 }
 {
     let divisor = denominator as i64;
-    let down = i128::from(numerator.div_euclid(divisor));
-    let part = numerator.rem_euclid(divisor);
+    let quotient = numerator.div_euclid(divisor);
+    let part = remainder(numerator, denominator, quotient);
+    let down = i128::from(quotient);
     if part == 0 {
         Filled {
             coefficient: down,
@@ -70,14 +92,6 @@ fn bound_at(status: BasisStatus, span: Span) -> i64
         BasisStatus::AtUpper => span.hi,
         BasisStatus::AtLower | BasisStatus::Basic => span.lo,
     }
-}
-
-/// The product of two numbers of 64 bits, which needs no test.
-#[inline(always)]
-fn short_product(filling: i64, bound: i64) -> i128
-    ensures { result ≡ filling *ℤ bound }
-{
-    i128::from(filling) * i128::from(bound)
 }
 
 /// The numerator of a right side with a multiple of a bound more; none where that is too large.

@@ -30,6 +30,7 @@ fn below_ceiling(number: Frac) -> Option<Frac>
 }
 
 /// The multiplier of a row whose variable has this coefficient; none exactly where it is cramped.
+#[inline(always)]
 fn multiplier(sign: Sign, sense: Sense, coefficient: Frac) -> Option<Frac>
     ensures { result ≡ multiplier sign sense coefficient }
 {
@@ -37,6 +38,14 @@ fn multiplier(sign: Sign, sense: Sense, coefficient: Frac) -> Option<Frac>
     if coefficient.numer() == 0 {
         return Some(coefficient);
     }
+    multiplier_by_sense(sign, sense, coefficient)
+}
+
+/// The same by the row's sense.
+#[inline(never)]
+fn multiplier_by_sense(sign: Sign, sense: Sense, coefficient: Frac) -> Option<Frac>
+    ensures { result ≡ multiplier sign sense coefficient }
+{
     match sense {
         Sense::G => above_floor(signed(sign, coefficient)),
         Sense::L => below_ceiling(signed(sign, coefficient)),

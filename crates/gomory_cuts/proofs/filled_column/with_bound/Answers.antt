@@ -12,4 +12,4 @@ returns c =
     let p_fits : SFits w128 p = search rules in
     let s_fits : SFits w128 s = search rules in
     to_z-of_z w128 s s_fits ∙ c.in_ok-sum.ensures.1
-    ∙ (λ i. to_z-of_z w128 c.args.side c.ranges.side i +ℤ (to_z-of_z w128 p p_fits ∙ c.short_product.ensures ∙ (λ k. to_z-of_z w64 c.args.filling c.ranges.filling k *ℤ to_z-of_z w64 c.args.bound c.ranges.bound k)) i)
+    ∙ (λ i. to_z-of_z w128 c.args.side c.ranges.side i +ℤ (to_z-of_z w128 p p_fits ∙ c.short_product.ensures.value ∙ (λ k. to_z-of_z w64 c.args.filling c.ranges.filling k *ℤ to_z-of_z w64 c.args.bound c.ranges.bound k)) i)
