@@ -73,6 +73,13 @@ module _ (j : ℕ) (w : Direction) (s : BasisStatus) (b : Bounds) (d t : ℤ) wh
       by_test true = better best l
       by_test false = more best l
 
+-- the variable of a column
+pub variable_there : (ss : List Position) (nonbasic : List ℕ) → AreNonbasic ss nonbasic → (k : ℕ) → k < length nonbasic → get_or nonbasic k 0 < length ss
+variable_there ss nonbasic are k l = elim (cases_lt (get_or nonbasic k 0) (length ss)) [
+  | inl m ↦ m
+  | inr m ↦ absurd (let wrong : InBasis ≡ InColumn k = sym (get_or_past ss (get_or nonbasic k 0) InBasis m) ∙ are.there k l in cc)
+]
+
 -- ---- all of them
 -- the candidate that a variable of these lists is
 abbrev pub candidate_at : Direction → List Position → List Bool → List IntegerBounds → List ℤ → List ℤ → ℕ → Option Candidate
@@ -118,29 +125,32 @@ module _ (w : Direction) (ss : List Position) (us : List Bool) (bs : List Intege
             let wrong : None ≡ Some c = sym none ∙ e in cc
         by_position (InColumn k) q = let a = are.all v k q in (k, a.0, ap at a.1)
 
-    pub variable_there : (k : ℕ) → k < length nonbasic → get_or nonbasic k 0 < length ss
-    variable_there k l = elim (cases_lt (get_or nonbasic k 0) (length ss)) [
-      | inl m ↦ m
-      | inr m ↦ absurd (let wrong : InBasis ≡ InColumn k = sym (get_or_past ss (get_or nonbasic k 0) InBasis m) ∙ are.there k l in cc)
-    ]
+    from_start : (i : ℕ) → at (0 + i) ≡ candidate_of (0 + i) w (status (get_or ss i InBasis) (get_or us i false)) (fraction_bounds (get_or bs i (record { lower = None; upper = None }))) (numerator costs (get_or ss i InBasis)) (numerator row (get_or ss i InBasis))
+    from_start i = subst (λ n. at (0 + i) ≡ candidate_of (0 + i) w (status (get_or ss n InBasis) (get_or us n false)) (fraction_bounds (get_or bs n (record { lower = None; upper = None }))) (numerator costs (get_or ss n InBasis)) (numerator row (get_or ss n InBasis)))
+        (let q : 0 + i ≡ i = omega arith in q) refl
+
+    by_variables : IsFirst at (length ss) (entering_by_numerators 0 w None ss us bs costs row)
+    by_variables = subst (λ n. IsFirst at n (entering_by_numerators 0 w None ss us bs costs row)) (let q : 0 + length ss ≡ length ss = omega arith in q)
+        (by_variable 0 None ss us bs us_there bs_there (λ i l. from_start i) tt (λ i l. absurd (omega (arith, l))))
 
     -- the choice by columns is the one by variables
-    entering_by_columns : (best : Option Candidate) → IsFirst in_column (length nonbasic) best → best ≡ entering_by_numerators 0 w None ss us bs costs row
+    pub entering_by_columns : (best : Option Candidate) → IsFirst in_column (length nonbasic) best → best ≡ entering_by_numerators 0 w None ss us bs costs row
     entering_by_columns best h =
-        same_first_of at in_column (length ss) (length nonbasic) numbered into (λ k l. (get_or nonbasic k 0, variable_there k l, refl)) best (entering_by_numerators 0 w None ss us bs costs row) h
-        (subst (λ n. IsFirst at n (entering_by_numerators 0 w None ss us bs costs row)) (let q : 0 + length ss ≡ length ss = omega arith in q)
-        (by_variable 0 None ss us bs us_there bs_there (λ i l. from_start i) tt (λ i l. absurd (omega (arith, l)))))
-      where
-        from_start : (i : ℕ) → at (0 + i) ≡ candidate_of (0 + i) w (status (get_or ss i InBasis) (get_or us i false)) (fraction_bounds (get_or bs i (record { lower = None; upper = None }))) (numerator costs (get_or ss i InBasis)) (numerator row (get_or ss i InBasis))
-        from_start i = subst (λ n. at (0 + i) ≡ candidate_of (0 + i) w (status (get_or ss n InBasis) (get_or us n false)) (fraction_bounds (get_or bs n (record { lower = None; upper = None }))) (numerator costs (get_or ss n InBasis)) (numerator row (get_or ss n InBasis)))
-            (let q : 0 + i ≡ i = omega arith in q) refl
+        same_first_of at in_column (length ss) (length nonbasic) numbered into (λ k l. (get_or nonbasic k 0, variable_there ss nonbasic are k l, refl)) best (entering_by_numerators 0 w None ss us bs costs row) h by_variables
+
+    -- the variable that enters is that of a column
+    pub entered_column : (b : Candidate) → entering_by_numerators 0 w None ss us bs costs row ≡ Some b → (k : ℕ) × (k < length nonbasic) × (in_column k ≡ Some b)
+    entered_column b e =
+        let first = subst (IsFirst at (length ss)) e by_variables in
+        let k = into first.0.0 b first.0.2 in
+        (k.0, k.1, k.2 ∙ first.0.2)
 
     entering_within : (best : Option Candidate) → IsFirst in_column (length nonbasic) best → IfSome best (λ c. c.variable < length ss)
     entering_within None h = tt
     entering_within (Some c) h =
         let k = h.0.0 in
         let e : c.variable ≡ get_or nonbasic k 0 = subst (λ o. IfSome o (λ c. c.variable ≡ get_or nonbasic k 0)) h.0.2 (numbered (get_or nonbasic k 0)) in
-        omega (arith, e, variable_there k h.0.1)
+        omega (arith, e, variable_there ss nonbasic are k h.0.1)
 
     -- as the code has the best one, once all columns were gone through
     module _ (k : ℕ) (best : Candidate) (l : length nonbasic ≤ k) (m : k ≤ length nonbasic) (h : IsFirst in_column k (candidate_if_there best)) where

@@ -14,13 +14,13 @@ abbrev pub Precedes : Candidate → Candidate → Type 0
 Precedes b c = (b.reduced_cost * c.coefficient < c.reduced_cost * b.coefficient)
     ⊎ ((b.reduced_cost * c.coefficient ≡ c.reduced_cost * b.coefficient) × (b.variable ≤ c.variable))
 
-itself : (b : Candidate) → Precedes b b
+pub itself : (b : Candidate) → Precedes b b
 itself b = inr (refl, omega arith)
 
-by_test_true : (p q m n : ℕ) → (int_lt (pos p) (pos q) || (nat_eq p q && nat_lt m n)) ≡ true → (p < q) ⊎ ((p ≡ q) × (m ≤ n))
+pub by_test_true : (p q m n : ℕ) → (int_lt (pos p) (pos q) || (nat_eq p q && nat_lt m n)) ≡ true → (p < q) ⊎ ((p ≡ q) × (m ≤ n))
 by_test_true p q m n e = grind (arith, ints, nat_tests)
 
-by_test_false : (p q m n : ℕ) → (int_lt (pos p) (pos q) || (nat_eq p q && nat_lt m n)) ≡ false → (q < p) ⊎ ((q ≡ p) × (n ≤ m))
+pub by_test_false : (p q m n : ℕ) → (int_lt (pos p) (pos q) || (nat_eq p q && nat_lt m n)) ≡ false → (q < p) ⊎ ((q ≡ p) × (n ≤ m))
 by_test_false p q m n e = grind (arith, ints, nat_tests)
 
 -- of ratios x/u ≤ y/v ≤ z/w
@@ -46,7 +46,7 @@ and_number b c h e = elim h [
   | inr e ↦ e.1
 ]
 
-onward : (a b c : Candidate) → 0 < a.coefficient → 0 < b.coefficient → 0 < c.coefficient → Precedes a b → Precedes b c → Precedes a c
+pub onward : (a b c : Candidate) → 0 < a.coefficient → 0 < b.coefficient → 0 < c.coefficient → Precedes a b → Precedes b c → Precedes a c
 onward a b c oa ob oc h k =
     let first = no_later a b h in
     let second = no_later b c k in

@@ -5,3 +5,4 @@ pub mod Runs
 pub mod Fractions
 pub mod Comparing
 pub mod NotCramped
+pub mod RankedColumns

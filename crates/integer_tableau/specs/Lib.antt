@@ -23,3 +23,8 @@ pub mod SmallDictionary
 pub mod DictionaryLaws
 pub mod Laws
 pub mod Lemmas
+pub mod RankedColumns
+pub mod Exits
+pub mod Arena
+pub mod Kept
+pub mod StoredRun

@@ -5,7 +5,7 @@ ghost use Rattle.std.specs.List.{insert, remove};
 ghost use Rattle.integer_tableau.specs.BasicColumns.{count_below, basic_exchanged};
 
 /// How many of these numbers, which rise, are less than this one.
-fn place_of(numbers: &[usize], number: usize) -> usize
+pub(crate) fn place_of(numbers: &[usize], number: usize) -> usize
     ensures value { result ≡ count_below number numbers.now }
     ensures within { result ≤ length numbers.now }
 {

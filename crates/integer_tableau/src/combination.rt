@@ -84,6 +84,20 @@ pub(crate) fn sum_of_products(coefficients: &ProgramRow, numbers: &[i64]) -> i12
     total
 }
 
+/// The same where no sum on the way has more than 63 bits.
+pub(crate) fn narrow_sum_of_products(coefficients: &ProgramRow, numbers: &[i64]) -> i64
+    requires width { length numbers.now ≡ length coefficients.now }
+    requires small { (size : ℕ) × IsWithin size numbers.now × (total_size coefficients.now * size < 2 ^ 63) }
+    ensures { result ≡ products coefficients.now numbers.now }
+{
+    let entries = coefficients.entries();
+    let mut total = 0;
+    for entry in entries {
+        total += entry.number * numbers[entry.place];
+    }
+    total
+}
+
 /// The numerator of the value of a row's variable.
 pub(crate) fn combined_value(
     coefficients: &ProgramRow,

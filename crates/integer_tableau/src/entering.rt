@@ -1,14 +1,13 @@
 // The entering variable, by the ratio test.
 
-ghost use Rattle.std.specs.Prelude.{◌≡◌, ◌<◌, ◌&&◌, false, length, slice_index_or, IfSome, None};
+ghost use Rattle.std.specs.Prelude.{◌≡◌, ◌<◌, ◌&&◌, List, false, length, slice_index_or, IfSome, None};
 ghost use Rattle.tableau.specs.Leaving.{bounds_differ};
 ghost use Rattle.integer_tableau.specs.IntegerTableau.{bound_status, fraction_bounds};
 ghost use Rattle.integer_tableau.specs.Positions.{AreNonbasic};
 ghost use Rattle.integer_tableau.specs.Entering.{candidate_if_there, candidate_of, comes_first, entering_by_numerators, first_of, is_eligible_at};
+ghost use Rattle.integer_tableau.specs.declared.position.Position.{Position};
 
 use crate::integer_bounds::IntegerBounds;
-use crate::integer_row::IntegerRow;
-use crate::position::Position;
 use tableau::Direction;
 
 /// A variable that may enter, with its ratio: the sizes of the numerators of its reduced cost and of its coefficient.
@@ -28,7 +27,7 @@ const NO_CANDIDATE: Candidate = Candidate {
 
 /// Whether the new one comes first: its ratio is less, or it is the same and its number is less.
 #[inline(always)]
-fn comes_first(new: Candidate, best: Candidate) -> bool
+pub(crate) fn comes_first(new: Candidate, best: Candidate) -> bool
     ensures { result ≡ comes_first new best }
 {
     let new_product = u128::from(new.reduced_cost) * u128::from(best.coefficient);
@@ -48,7 +47,12 @@ fn is_eligible(direction: Direction, at_upper: bool, numerator: i64) -> bool
 
 /// Whether a nonbasic variable may enter: it is eligible, and isn't fixed. It is a call of its own, since few are asked.
 #[inline(never)]
-fn may_enter(direction: Direction, at_upper: bool, bounds: &IntegerBounds, numerator: i64) -> bool
+pub(crate) fn may_enter(
+    direction: Direction,
+    at_upper: bool,
+    bounds: &IntegerBounds,
+    numerator: i64,
+) -> bool
     ensures { result ≡ (is_eligible_at direction at_upper numerator && bounds_differ (fraction_bounds bounds.now)) }
 {
     is_eligible(direction, at_upper, numerator) && bounds.differ()
@@ -90,23 +94,19 @@ fn with_candidate(
 /// by column, and so not in the order of their numbers.
 pub(crate) fn entering(
     direction: Direction,
-    positions: &[Position],
     nonbasic: &[usize],
     at_upper: &[bool],
     bounds: &[IntegerBounds],
-    reduced_costs: &IntegerRow,
-    row: &IntegerRow,
+    reduced_costs: &[i64],
+    row: &[i64],
 ) -> Option<Candidate>
-    requires nonbasic_are { AreNonbasic positions.now nonbasic.now }
-    requires at_upper_there { length at_upper.now ≡ length positions.now }
-    requires bounds_there { length bounds.now ≡ length positions.now }
+    requires nonbasic_are { (positions : List Position) × AreNonbasic positions nonbasic.now × (length at_upper.now ≡ length positions) }
+    requires bounds_there { length bounds.now ≡ length at_upper.now }
     requires reduced_costs_there { length reduced_costs.now ≡ length nonbasic.now }
     requires row_there { length row.now ≡ length nonbasic.now }
-    ensures value { result ≡ entering_by_numerators 0 direction None positions.now at_upper.now bounds.now reduced_costs.now row.now }
-    ensures within { IfSome result (λ b. b.variable < length positions.now) }
+    ensures value { (positions : List Position) → AreNonbasic positions nonbasic.now → length at_upper.now ≡ length positions → result ≡ entering_by_numerators 0 direction None positions at_upper.now bounds.now reduced_costs.now row.now }
+    ensures within { IfSome result (λ b. b.variable < length at_upper.now) }
 {
-    let costs = reduced_costs.numerators();
-    let numerators = row.numerators();
     let mut best = NO_CANDIDATE;
     for (column, variable) in nonbasic.iter().enumerate() {
         best = with_candidate(
@@ -115,8 +115,8 @@ pub(crate) fn entering(
             best,
             at_upper,
             bounds,
-            costs[column],
-            numerators[column],
+            reduced_costs[column],
+            row[column],
         );
     }
     if best.coefficient == 0 {

@@ -8,8 +8,9 @@ ghost use Rattle.integer_tableau.specs.Numbers.{IsWithin, total_size};
 ghost use Rattle.integer_tableau.specs.Entries.{entry_by};
 ghost use Rattle.integer_tableau.specs.Range.{size_limit};
 ghost use Rattle.integer_tableau.specs.IntegerTableau.{fraction_bounds};
-ghost use Rattle.integer_tableau.specs.IntegerProgram.{column_bounds};
+ghost use Rattle.integer_tableau.specs.IntegerProgram.{column_bounds, fraction_program, CanStart};
 
+use crate::dictionary_store::DictionaryStore;
 use crate::integer_bounds::IntegerBounds;
 use crate::integer_row::IntegerRow;
 use crate::program_row::{ProgramEntry, ProgramRow};
@@ -30,17 +31,20 @@ pub struct IntegerProgram {
     pub(crate) costs: IntegerRow,
     pub(crate) bounds: Vec<IntegerBounds>,
     pub(crate) numbers: Vec<u32>,
+    /// What runs over boxes leave for later ones.
+    pub(crate) store: DictionaryStore,
 }
 
 impl Model for IntegerProgram {
     ghost use Rattle.tableau.specs.LinearProgram.{LinearProgram as Described};
     ghost use Rattle.integer_tableau.specs.IntegerProgram.{fraction_program, CanStart};
+    ghost use Rattle.integer_tableau.specs.Kept.{AreKept};
 
     ghost Value = { Described };
 
     ghost view = { λ p. fraction_program p.rows.items.value.items p.costs p.bounds.items p.numbers.items };
 
-    ghost invariant = { λ p. CanStart p.rows.items.value.items p.weight p.costs p.bounds.items };
+    ghost invariant = { λ p. CanStart p.rows.items.value.items p.weight p.costs p.bounds.items × AreKept p.rows.items.value.items p.weight p.costs p.store.kept };
 }
 
 /// The whole number of a fraction; none where it isn't whole, or has more than 64 bits.
@@ -213,10 +217,10 @@ fn column_bounds(span: Span) -> IntegerBounds
 }
 
 /// The bounds of the columns of a box. The one error is want of memory.
-fn box_bounds(alloc: Global, area: &IntBox) -> Result<Vec<IntegerBounds>, AllocError>
+fn box_bounds(alloc: Global, area: &IntBox, room: usize) -> Result<Vec<IntegerBounds>, AllocError>
     ensures { IfOk result (λ v. v.items ≡ map column_bounds area.now) }
 {
-    let mut bounds = Vec::with_capacity(alloc, area.len())?;
+    let mut bounds = Vec::with_capacity(alloc, room)?;
     for column in 0..area.len() {
         bounds.push(column_bounds(area.span(column)))?;
     }
@@ -233,7 +237,7 @@ pub(crate) fn bounds_over(
     requires { columns ≤ length bounds.now }
     ensures { IfOk result (λ v. v.items ≡ map column_bounds area.now ++ drop columns bounds.now) }
 {
-    let mut all = box_bounds(alloc, area)?;
+    let mut all = box_bounds(alloc, area, bounds.len())?;
     all.extend_from_slice(&bounds[columns..])?;
     Ok(all)
 }
@@ -260,13 +264,35 @@ impl IntegerProgram {
             return Ok(None);
         }
         let numbers = Vec::from_slice(alloc, program.numbers())?;
-        Ok(Some(IntegerProgram {
-            rows: RcSlice::from_vec(rows)?,
+        let rows = RcSlice::from_vec(rows)?;
+        Ok(Some(IntegerProgram::from_parts(alloc, rows, weight, costs, bounds, numbers)))
+    }
+
+    /// The linear program of these parts, for which nothing is kept yet.
+    pub(crate) fn from_parts(
+        alloc: Global,
+        rows: RcSlice<ProgramRow>,
+        weight: u64,
+        costs: IntegerRow,
+        bounds: Vec<IntegerBounds>,
+        numbers: Vec<u32>,
+    ) -> IntegerProgram
+        requires { CanStart rows.items.value.items weight costs bounds.items }
+        ensures { result ≡ fraction_program rows.items.value.items costs bounds.items numbers.items }
+    {
+        IntegerProgram {
+            rows,
             weight,
             costs,
             bounds,
             numbers,
-        }))
+            store: DictionaryStore::new(alloc),
+        }
+    }
+
+    /// How many pivots of runs over boxes went to a dictionary that an earlier pivot had left. No contract tells: it is there for tests.
+    pub fn kept_pivots(&self) -> u64 {
+        self.store.met()
     }
 
     /// How many columns there are.

@@ -1,9 +1,12 @@
 // Rows of numerators.
 
-ghost use Rattle.std.specs.Prelude.{◌≡◌, ℕ, [], ◌<◌, ◌≤◌, ◌-◌, pos, nat_abs, neg_ℤ, ◌<ℤ◌, length, IsTrue, IfOk, OnOk, IfSome, IsSome, replicate, slice_index_or, slice_set};
+ghost use Rattle.std.specs.Prelude.{◌≡◌, ℕ, List, [], ◌<◌, ◌*◌, ◌≤◌, ◌-◌, pos, nat_abs, neg_ℤ, ◌<ℤ◌, length, IsTrue, IfOk, OnOk, IfSome, IsSome, replicate, slice_index_or, slice_set};
 ghost use Rattle.integer_tableau.specs.Numbers.{number_at, IsWithin};
 ghost use Rattle.integer_tableau.specs.Range.{size_limit};
+ghost use Rattle.integer_tableau.specs.Arena.{rows_by};
+ghost use Rattle.integer_tableau.specs.BasicColumns.{basic_from};
 ghost use Rattle.integer_tableau.specs.Combined.{combined_row};
+ghost use Rattle.integer_tableau.specs.Positions.{AreNonbasic};
 ghost use Rattle.integer_tableau.specs.Substitution.{IsSubstituted, IsSolvedFor, IsSubstitutedRow, IsSolvedRow, IsSubstitutedIfFull, substituted_size};
 
 use crate::divisor::Divisor;
@@ -37,7 +40,7 @@ impl Model for IntegerRow {
 }
 
 /// The greatest size.
-fn greatest_size(row: &[i64]) -> u64
+pub(crate) fn greatest_size(row: &[i64]) -> u64
     ensures { IsWithin result row.now }
 {
     let mut size = 0;
@@ -84,7 +87,7 @@ fn substituted_size(
 /// Substitutes the variable of a column in a row, by its solved row. The answer is a bound on the new sizes, none where a division isn't
 /// exact; the sizes bound the rows.
 #[inline(always)]
-fn substitute_column(
+pub(crate) fn substitute_column(
     row: &mut [i64],
     row_size: u64,
     column: usize,
@@ -220,6 +223,16 @@ impl IntegerRow {
         self.size = 0;
     }
 
+    /// Puts these numerators in the place of the row's own. The one error is want of memory, after which there are none.
+    pub(crate) fn put(&mut self, numerators: &[i64]) -> Result<(), AllocError>
+        ensures { OnOk result (self.new ≡ numerators.now) }
+    {
+        self.clear();
+        self.numerators.extend_from_slice(numerators)?;
+        self.size = greatest_size(&self.numerators);
+        Ok(())
+    }
+
     /// Puts so many zeros into the row. The one error is want of memory, after which there are none.
     fn fill(&mut self, width: usize) -> Result<(), AllocError>
         ensures { OnOk result (self.new ≡ replicate width (pos 0)) }
@@ -255,6 +268,30 @@ impl IntegerRow {
         );
         self.size = greatest_size(&self.numerators);
         is_full && self.is_small()
+    }
+
+    /// The same of a dictionary that is kept, by the coefficients of all columns.
+    pub(crate) fn combine_kept(
+        &mut self,
+        coefficients: &[i64],
+        nonbasic: &[usize],
+        basic_columns: &[usize],
+        rows: &[i64],
+        denominator: i64,
+    ) -> bool
+        requires rows_there { length rows.now ≡ length basic_columns.now * length nonbasic.now }
+        requires columns_there { (p : ℕ) → p < length basic_columns.now → slice_index_or basic_columns.now p 0 < length coefficients.now }
+        ensures { IsTrue result → (positions : List Position) → AreNonbasic positions nonbasic.now → length coefficients.now ≤ length positions → basic_columns.now ≡ basic_from 0 (length coefficients.now) positions → length coefficients.now ≡ length nonbasic.now
+            → IsWithin (size_limit - 1) (combined_row (nat_abs denominator) positions (rows_by (length nonbasic.now) basic_columns.now rows.now) coefficients.now) → pos 0 <ℤ denominator
+            → self.new ≡ combined_row (nat_abs denominator) positions (rows_by (length nonbasic.now) basic_columns.now rows.now) coefficients.now }
+    {
+        if self.fill(nonbasic.len()).is_err() {
+            return false;
+        }
+        low_sums::put_nonbasic(&mut self.numerators, coefficients, nonbasic, denominator);
+        low_sums::add_basic(&mut self.numerators, coefficients, basic_columns, rows);
+        self.size = greatest_size(&self.numerators);
+        self.is_small()
     }
 
     /// Whether each number is below `SIZE_LIMIT` in size.

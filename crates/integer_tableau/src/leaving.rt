@@ -1,16 +1,16 @@
 // The leaving variable.
 
-ghost use Rattle.std.specs.Prelude.{◌≡◌, ℕ, ◌+◌, ◌*◌, ◌<◌, ◌≤◌, ◌^◌, [], map, drop, pos, nat_abs, ◌<ℤ◌, length, IfOk, IfSome, slice_index_or};
-ghost use Rattle.integer_tableau.specs.Numbers.{number_at, total_size};
+ghost use Rattle.std.specs.Prelude.{◌≡◌, ℕ, ◌+◌, ◌*◌, ◌<◌, ◌≤◌, ◌^◌, [], map, drop, pos, nat_abs, ◌<ℤ◌, length, IfOk, IfSome, IsTrue, slice_index_or};
+ghost use Rattle.integer_tableau.specs.Numbers.{number_at, IsWithin, total_size};
 ghost use Rattle.integer_tableau.specs.Range.{size_limit};
 ghost use Rattle.integer_tableau.specs.BasicColumns.{basic_from};
 ghost use Rattle.integer_tableau.specs.Combined.{combined_value, expanded_values};
 ghost use Rattle.integer_tableau.specs.Positions.{products};
 ghost use Rattle.integer_tableau.specs.Leaving.{violation_at, leaving_by_numerators};
 
-use crate::combination::{column_numerators, sum_of_products};
+use crate::combination::{column_numerators, narrow_sum_of_products, sum_of_products};
 use crate::integer_bounds::IntegerBounds;
-use crate::integer_row::IntegerRow;
+use crate::integer_row::greatest_size;
 use crate::position::Position;
 use crate::program_row::ProgramRow;
 use std::alloc::{AllocError, Global};
@@ -40,37 +40,67 @@ fn leaving_column(
     None
 }
 
+/// Whether a row's sizes, times this size, come to less than 64 bits.
+#[inline(always)]
+fn is_narrow(coefficients: &ProgramRow, size: u64) -> bool
+    ensures { IsTrue result → total_size coefficients.now * size < 2 ^ 63 }
+{
+    match coefficients.weight() {
+        Some(weight) => u128::from(weight) * u128::from(size) < 1 << 63,
+        None => false,
+    }
+}
+
+/// The numerator of the value of a row's variable, by those of the columns' values, which have at most this size.
+#[inline(always)]
+fn row_value(coefficients: &ProgramRow, numerators: &[i64], size: u64) -> i128
+    requires width { length numerators.now ≡ length coefficients.now }
+    requires within { IsWithin size numerators.now }
+    requires light { total_size coefficients.now < size_limit }
+    ensures { result ≡ products coefficients.now numerators.now }
+{
+    if is_narrow(coefficients, size) {
+        i128::from(narrow_sum_of_products(coefficients, numerators))
+    } else {
+        sum_of_products(coefficients, numerators)
+    }
+}
+
 /// In which direction the variable of a row has to go, if it is basic and outside its bounds.
 fn row_violation(
     position: Position,
     bounds: &IntegerBounds,
     coefficients: &ProgramRow,
     numerators: &[i64],
+    size: u64,
     denominator: i64,
 ) -> Option<Direction>
     requires width { length numerators.now ≡ length coefficients.now }
+    requires within { IsWithin size numerators.now }
     requires light { total_size coefficients.now < size_limit }
     requires positive { pos 0 <ℤ denominator }
     ensures { result ≡ violation_at (nat_abs denominator) position bounds.now (products coefficients.now numerators.now) }
 {
     match position {
         Position::InBasis => {
-            bounds.violation(sum_of_products(coefficients, numerators), denominator)
+            bounds.violation(row_value(coefficients, numerators, size), denominator)
         }
         Position::InColumn(_) => None,
     }
 }
 
-/// The same for the variables of rows, by the numerators of the columns' values.
+/// The same for the variables of rows, by the numerators of the columns' values, which have at most this size.
 fn leaving_row(
     program_rows: &[ProgramRow],
     positions: &[Position],
     bounds: &[IntegerBounds],
     numerators: &[i64],
+    size: u64,
     denominator: i64,
 ) -> Option<(usize, Direction)>
     requires positions_there { length positions.now ≡ length numerators.now + length program_rows.now }
     requires bounds_there { length bounds.now ≡ length positions.now }
+    requires within { IsWithin size numerators.now }
     requires full { (i : ℕ) → i < length program_rows.now → length (slice_index_or program_rows.now i []) ≡ length numerators.now }
     requires light { (i : ℕ) → i < length program_rows.now → total_size (slice_index_or program_rows.now i []) < size_limit }
     requires positive { pos 0 <ℤ denominator }
@@ -85,6 +115,7 @@ fn leaving_row(
             &bounds[variable],
             coefficients,
             numerators,
+            size,
             denominator,
         ) {
             return Some((variable, direction));
@@ -125,7 +156,15 @@ pub(crate) fn leaving(
                 values,
                 denominator,
             )?;
-            Ok(leaving_row(program_rows, positions, bounds, &numerators, denominator))
+            let size = greatest_size(&numerators);
+            Ok(leaving_row(
+                program_rows,
+                positions,
+                bounds,
+                &numerators,
+                size,
+                denominator,
+            ))
         }
     }
 }

@@ -26,7 +26,7 @@ use std::mem;
 use tableau::Direction;
 
 /// Whether a leaving variable goes to its upper bound.
-fn is_upper(direction: Direction) -> bool
+pub(crate) fn is_upper(direction: Direction) -> bool
     ensures { result ≡ is_upper direction }
 {
     match direction {
@@ -36,7 +36,7 @@ fn is_upper(direction: Direction) -> bool
 }
 
 /// The size of a pivot, if it isn't 0.
-fn size_of(pivot: i64) -> Option<i64>
+pub(crate) fn size_of(pivot: i64) -> Option<i64>
     ensures { IfSome result (λ e. (e ≡ pos (nat_abs pivot)) × (0 < nat_abs pivot)) }
 {
     if pivot > 0 {

@@ -40,12 +40,11 @@ fn place_by_row(
 {
     match entering(
         direction,
-        positions,
         nonbasic,
         at_upper,
         bounds,
-        reduced_costs,
-        row,
+        reduced_costs.numerators(),
+        row.numerators(),
     ) {
         None => Place::NoColumn { row: leaving },
         Some(best) => Place::Pivot {

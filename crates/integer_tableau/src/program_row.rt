@@ -24,12 +24,13 @@ pub(crate) struct ProgramEntry {
 pub(crate) struct ProgramRow {
     width: usize,
     entries: Vec<ProgramEntry>,
+    weight: Option<u64>,
 }
 
 impl Model for ProgramRow {
-    ghost use Rattle.std.specs.Prelude.{List, ℤ};
+    ghost use Rattle.std.specs.Prelude.{◌≡◌, List, ℤ, IfSome};
     ghost use Rattle.std.specs.Coded.{coded_list, coded_ℤ};
-    ghost use Rattle.integer_tableau.specs.Entries.{spread, RiseWithin};
+    ghost use Rattle.integer_tableau.specs.Entries.{spread, RiseWithin, entry_size};
 
     ghost Value = { List ℤ };
 
@@ -37,7 +38,7 @@ impl Model for ProgramRow {
 
     ghost view = { λ r. spread 0 r.width r.entries.items };
 
-    ghost invariant = { λ r. RiseWithin 0 r.width r.entries.items };
+    ghost invariant = { λ r. RiseWithin 0 r.width r.entries.items × IfSome r.weight (λ t. t ≡ entry_size r.entries.items) };
 }
 
 /// The sum of the sizes, if it has 64 bits.
@@ -68,7 +69,12 @@ impl ProgramRow {
         requires { RiseWithin 0 width entries.items }
         ensures { result ≡ spread 0 width entries.items }
     {
-        ProgramRow { width, entries }
+        let weight = total_size(&entries);
+        ProgramRow {
+            width,
+            entries,
+            weight,
+        }
     }
 
     /// The coefficients that aren't 0, with their places.
@@ -80,10 +86,11 @@ impl ProgramRow {
     }
 
     /// The sum of the coefficients' sizes, if it has 64 bits.
+    #[inline(always)]
     pub(crate) fn weight(&self) -> Option<u64>
         ensures { IfSome result (λ t. t ≡ total_size self.now) }
     {
-        total_size(self.entries())
+        self.weight
     }
 
     /// Whether each coefficient is below `SIZE_LIMIT` in size.

@@ -5,14 +5,36 @@ ghost use Rattle.tableau.specs.LinearProgram.{over};
 ghost use Rattle.tableau.specs.Place.{PlaceIsWithin};
 ghost use Rattle.integer_tableau.specs.Run.{IsRunOver};
 
-use crate::integer_program::IntegerProgram;
+use crate::integer_program::{IntegerProgram, bounds_over};
 use crate::integer_tableau::IntegerTableau;
+use crate::node::Node;
 use crate::run::IntegerRunEnd;
+use crate::stored_run::run_stored;
 use problem_box::IntBox;
 use std::alloc::{AllocError, Global};
 use tableau::Place;
 
 impl IntegerProgram {
+    /// The run over a box, by a tableau of its own.
+    fn run_apart(
+        &self,
+        alloc: Global,
+        area: &IntBox,
+        cap: u64,
+    ) -> Result<Option<Result<IntegerRunEnd, u64>>, AllocError>
+        requires { length area.now ≡ length self.now.costs }
+        ensures value { IfOk result (λ o. IfSome o (λ r. IfOk r (λ e. IsRunOver (over self.now area.now) cap e.place e.tableau))) }
+        ensures within { IfOk result (λ o. IfSome o (λ r. IfOk r (λ e. PlaceIsWithin (length e.tableau.statuses) e.place))) }
+        ensures exact { IfOk result (λ o. IfSome o (λ r. IfOk r (λ e. e.place ≢ Place.Cramped))) }
+        ensures capped { IfOk result (λ o. IfSome o (λ r. IfOk r (λ e. e.tableau.pivots ≤ cap))) }
+        ensures given_up { IfOk result (λ o. IfSome o (λ r. IfErr r (λ made. made ≤ cap))) }
+    {
+        match IntegerTableau::start(alloc, self, area)? {
+            Some(start) => Ok(Some(start.run(cap))),
+            None => Ok(None),
+        }
+    }
+
     /// The run over a box from the start with at most `cap` pivots, each the one that the tableau before it asks for. Its place is a pivot
     /// exactly where it met the cap. None where there is no start on such numbers.
     ///
@@ -32,9 +54,21 @@ impl IntegerProgram {
         ensures given_up { IfOk result (λ o. IfSome o (λ r. IfErr r (λ made. made ≤ cap))) }
         ensures same { self.new ≡ self.old }
     {
-        match IntegerTableau::start(alloc, self, area)? {
-            Some(start) => Ok(Some(start.run(cap))),
-            None => Ok(None),
+        if !self.store.is_ready(self.rows.len(), &self.costs) {
+            return self.run_apart(alloc, area, cap);
         }
+        let bounds = bounds_over(alloc, area, self.costs.width(), &self.bounds)?;
+        let Some(node) = Node::start(alloc, self.rows.len(), &self.costs, bounds)? else {
+            return Ok(None);
+        };
+        Ok(Some(run_stored(
+            alloc,
+            &self.numbers,
+            &self.rows,
+            self.weight,
+            &mut self.store,
+            node,
+            cap,
+        )))
     }
 }

@@ -208,12 +208,7 @@ impl IntegerProgram {
             return Ok(None);
         }
         let numbers = Vec::from_slice(alloc, program.numbers())?;
-        Ok(Some(IntegerProgram {
-            rows: RcSlice::from_vec(rows)?,
-            weight,
-            costs,
-            bounds,
-            numbers,
-        }))
+        let rows = RcSlice::from_vec(rows)?;
+        Ok(Some(IntegerProgram::from_parts(alloc, rows, weight, costs, bounds, numbers)))
     }
 }

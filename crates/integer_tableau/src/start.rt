@@ -32,7 +32,11 @@ fn column_positions(alloc: Global, columns: usize) -> Result<Vec<Position>, Allo
 }
 
 /// The position of each variable, so many rows being basic. The one error is want of memory.
-fn start_positions(alloc: Global, columns: usize, rows: usize) -> Result<Vec<Position>, AllocError>
+pub(crate) fn start_positions(
+    alloc: Global,
+    columns: usize,
+    rows: usize,
+) -> Result<Vec<Position>, AllocError>
     ensures { IfOk result (λ v. v.items ≡ columns_from 0 columns ++ replicate rows Position.InBasis) }
 {
     let mut positions = column_positions(alloc, columns)?;
@@ -66,7 +70,11 @@ fn columns_at_upper(alloc: Global, costs: &[i64]) -> Result<Vec<bool>, AllocErro
 }
 
 /// Whether each variable is at its upper bound. The one error is want of memory.
-fn start_at_upper(alloc: Global, costs: &[i64], rows: usize) -> Result<Vec<bool>, AllocError>
+pub(crate) fn start_at_upper(
+    alloc: Global,
+    costs: &[i64],
+    rows: usize,
+) -> Result<Vec<bool>, AllocError>
     ensures { IfOk result (λ v. v.items ≡ map is_negative costs.now ++ replicate rows false) }
 {
     let mut at_upper = columns_at_upper(alloc, costs)?;
@@ -104,7 +112,7 @@ fn column_numbers(
 }
 
 /// The bound at which each variable is; 0 for each row. The one error is want of memory.
-fn start_numbers(
+pub(crate) fn start_numbers(
     alloc: Global,
     costs: &[i64],
     bounds: &[IntegerBounds],
@@ -121,7 +129,7 @@ fn start_numbers(
 }
 
 /// So many rows without numerators. The one error is want of memory.
-fn empty_rows(alloc: Global, count: usize) -> Result<Vec<IntegerRow>, AllocError>
+pub(crate) fn empty_rows(alloc: Global, count: usize) -> Result<Vec<IntegerRow>, AllocError>
     ensures { IfOk result (λ v. v.items ≡ replicate count []) }
 {
     let mut rows = Vec::with_capacity(alloc, count)?;
@@ -132,7 +140,7 @@ fn empty_rows(alloc: Global, count: usize) -> Result<Vec<IntegerRow>, AllocError
 }
 
 /// Whether the sizes of all bounds add up to less than `SIZE_LIMIT`.
-fn has_room(bounds: &[IntegerBounds]) -> bool
+pub(crate) fn has_room(bounds: &[IntegerBounds]) -> bool
     ensures { IsTrue result → total_bound_size bounds.now < size_limit }
 {
     let mut total = 0u64;
@@ -146,7 +154,7 @@ fn has_room(bounds: &[IntegerBounds]) -> bool
 }
 
 /// The greatest size of the columns' bounds.
-fn reach_of(bounds: &[IntegerBounds], columns: usize) -> u64
+pub(crate) fn reach_of(bounds: &[IntegerBounds], columns: usize) -> u64
     requires { columns ≤ length bounds.now }
     ensures { (j : ℕ) → j < columns → bound_size (slice_index_or bounds.now j (record { lower = None; upper = None })) ≤ result }
 {

@@ -12,7 +12,7 @@ use crate::wide_numbers::{exact_quotient, less_product, quotient_numerator, sum,
 
 /// The numerator of the entering variable's value, over the size of the pivot: the leaving variable, whose value this is so far, goes to
 /// its bound, and the entering one leaves its own.
-fn entering_value(
+pub(crate) fn entering_value(
     value: i128,
     pivot: i64,
     nonbasic_value: i64,
@@ -27,7 +27,7 @@ fn entering_value(
 }
 
 /// The numerator of another variable's value, where the division by the denominator is exact.
-fn substituted_value(
+pub(crate) fn substituted_value(
     value: i64,
     factor: i64,
     nonbasic_value: i64,
@@ -109,7 +109,7 @@ fn substitute_values(
 }
 
 /// Puts the value of the entering variable into its place, if it is a column; false where it is too large.
-fn put_value(values: &mut [i64], entering: usize, value: i128) -> bool
+pub(crate) fn put_value(values: &mut [i64], entering: usize, value: i128) -> bool
     ensures { IsTrue result → values.new ≡ slice_set values.old entering value }
 {
     if entering < values.len() {

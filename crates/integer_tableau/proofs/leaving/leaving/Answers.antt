@@ -20,13 +20,13 @@ returns-in-Some-clause-value c =
 pub returns-in_ok-numerators-in-None-clause-value : goal.returns-in_ok-numerators-in-None-clause-value
 returns-in_ok-numerators-in-None-clause-value c =
     let n = length c.args.values.now in
-    let ns = c.deref.result.now in
+    let ns = c.deref-in-None.result.now in
     let d = to_z-of_z w64 c.args.denominator c.ranges.denominator in
     let ws = map (λ a. products a ns) c.args.program_rows.now in
     let made : ns ≡ value_numerators (pos (nat_abs c.args.denominator)) c.args.positions.now c.args.nonbasic_values.now c.args.values.now =
-    c.deref.ensures.value ∙ c.in_ok-numerators-in-None.ensures.value
+    c.deref-in-None.ensures.value ∙ c.in_ok-numerators-in-None.ensures.value
     ∙ ap (λ z. value_numerators z c.args.positions.now c.args.nonbasic_values.now c.args.values.now) (d ∙ size_is c.args.denominator c.requires.positive) in
-    let same : length ns ≡ n = ap length c.deref.ensures.value ∙ c.in_ok-numerators-in-None.ensures.count in
+    let same : length ns ≡ n = ap length c.deref-in-None.ensures.value ∙ c.in_ok-numerators-in-None.ensures.count in
     let zero : length ns ≡ 0 + n = omega (arith, same) in
     c.leaving_row.ensures.value
     ∙ (λ i. leaving_by_numerators (nat_abs (d i)) (zero i) (drop (same i) c.args.positions.now) (drop (same i) c.args.bounds.now) ws)

@@ -8,4 +8,4 @@ pub returns : goal.returns
 returns c =
     let r = c.self.inside in
     subst (λ (cs : List ℤ). AreEntries cs c.deref.result.now) c.self.view_is
-    (subst (λ (es : List ProgramEntry). AreEntries (spread 0 r.width r.entries.items) es) (sym c.deref.ensures.value) (are_entries r.width r.entries.items c.self.invariant))
+    (subst (λ (es : List ProgramEntry). AreEntries (spread 0 r.width r.entries.items) es) (sym c.deref.ensures.value) (are_entries r.width r.entries.items c.self.invariant.0))

@@ -1,0 +1,89 @@
+-- Runs by kept dictionaries, step by step.
+use Rattle.std.proofs.Common.{◌≡◌, ◌≢◌, ℕ, suc, ◌+◌, ◌-◌, ◌<◌, arith, refl, ap, sym, ◌∙◌, subst, List, [], length}
+use Rattle.std.specs.Prelude.{ℤ, pos, nat_abs, ◌*◌, ◌^◌, Result, Ok, Err, IfOk}
+use mathlib.Core.Logic.{inr}
+use Rattle.integer_tableau.proofs.Requests.{at_same, same_places}
+use Rattle.integer_tableau.specs.IntegerDictionary.{IntegerDictionary}
+use Rattle.integer_tableau.specs.Kept.{HaveSameDictionaries, IsAt, KeptDictionaries, kept_at}
+use Rattle.integer_tableau.specs.StoredRun.{IsLastPlace, IsMove, IsTurnAt, IsTurned, IsTurning, IsUnmoved, dictionary_at, view_with}
+use Rattle.integer_tableau.specs.declared.node.Node.{Node}
+use Rattle.integer_tableau.specs.declared.request.Turn.{Turn}
+use Rattle.integer_tableau.specs.declared.run.IntegerRunEnd.{IntegerRunEnd}
+use Rattle.tableau.specs.Place.{PlaceIsWithin, place}
+use Rattle.tableau.specs.Run.{EndsAs, RunEnd, continued, run_from, step_at}
+use Rattle.tableau.specs.Tableau.{Tableau}
+use Rattle.tableau.specs.declared.place.Place.{Place}
+use Rattle.tableau.specs.declared.place.Place.TheVariants.{Cramped, Done, NoColumn, Pivot}
+
+-- ---- lists with the same dictionaries
+pub at_same_place : (ps : List (List ℤ)) (weight : ℕ) (k l : KeptDictionaries) (p : ℕ) (n : Node) → HaveSameDictionaries k l → p < length l.all → IsAt ps weight (kept_at l.all p) n
+    → IsAt ps weight (kept_at k.all p) n
+at_same_place ps weight k l p n e b h = at_same ps weight (kept_at l.all p) (kept_at k.all p) n (sym (same_places k l p e b)) h
+
+-- ---- a node that moves
+pub turn_same : (ps : List (List ℤ)) (k l : KeptDictionaries) (p : ℕ) (n : Node) (w : Turn) → HaveSameDictionaries k l → p < length l.all → IsTurnAt ps (dictionary_at l p) n w
+    → IsTurnAt ps (dictionary_at k p) n w
+turn_same ps k l p n w e b h = subst (λ m. IsTurnAt ps m n w) (sym (same_places k l p e b)) h
+
+pub turning : (ps : List (List ℤ)) (weight : ℕ) (k : KeptDictionaries) (p : ℕ) (n : Node) (w : Turn) (size : ℤ) (m : Node) → IsAt ps weight (kept_at k.all p) n
+    → IsTurnAt ps (dictionary_at k p) n w → size ≡ pos (nat_abs w.coefficient) → 0 < nat_abs w.coefficient → n.reach * nat_abs size < 2 ^ 63
+    → (bound : ℤ) × IsTurned ps (dictionary_at k p) n w size bound m → IsTurning ps weight k p n w size m
+turning ps weight k p n w size m at turn size_is some near turned = record {
+  at = at;
+  turn = turn;
+  size_is = size_is;
+  some = some;
+  near = near;
+  bound = turned.0;
+  turned = turned.1;
+}
+
+pub move_same : (ps : List (List ℤ)) (weight : ℕ) (k l : KeptDictionaries) (p : ℕ) (n : Node) (new : KeptDictionaries) (q : ℕ) (m : Node) → HaveSameDictionaries k l → p < length l.all
+    → IsMove ps weight (dictionary_at k p) n new q m → IsMove ps weight (dictionary_at l p) n new q m
+move_same ps weight k l p n new q m e b h = subst (λ d. IsMove ps weight d n new q m) (same_places k l p e b) h
+
+-- ---- a node that hasn't moved
+pub unmoved_at : (ps : List (List ℤ)) (weight : ℕ) (old new : KeptDictionaries) (p : ℕ) (n m : Node) → IsUnmoved old new n m → p < length old.all → IsAt ps weight (kept_at old.all p) n
+    → IsAt ps weight (kept_at new.all p) m
+unmoved_at ps weight old new p n m u l h = subst (IsAt ps weight (kept_at new.all p)) (sym u.node) (at_same_place ps weight new old p n u.dictionaries l h)
+
+pub unmoved_view : (numbers : List ℕ) (ps : List (List ℤ)) (old new : KeptDictionaries) (p : ℕ) (n m : Node) → IsUnmoved old new n m → p < length old.all
+    → view_with numbers ps (dictionary_at new p) m ≡ view_with numbers ps (dictionary_at old p) n
+unmoved_view numbers ps old new p n m u l = λ i. view_with numbers ps (same_places new old p u.dictionaries l i) (u.node i)
+
+-- the last place doesn't depend on the numbers of the rows
+pub last_numbered : (numbers : List ℕ) (ps : List (List ℤ)) (m : IntegerDictionary) (n : Node) (l : Place) → IsLastPlace (view_with [] ps m n) l → IsLastPlace (view_with numbers ps m n) l
+last_numbered numbers ps m n l h = record { place = h.place; within = h.within; exact = h.exact; other = h.other }
+
+-- ---- runs
+-- it ends where no pivot is asked for
+ends_here : (k : ℕ) (t : Tableau) (p : Place) → p ≡ place t → ((r c : ℕ) → p ≢ Pivot r c) → EndsAs (run_from (suc k) t) p t
+ends_here k t p e n = subst (λ q. EndsAs (continued (run_from k) (step_at t q)) p t) e (at p n)
+  where
+    at : (q : Place) → ((r c : ℕ) → q ≢ Pivot r c) → EndsAs (continued (run_from k) (step_at t q)) q t
+    at Done n = record { place = refl; pivots = refl; tableau = refl }
+    at (NoColumn r) n = record { place = refl; pivots = refl; tableau = refl }
+    at Cramped n = record { place = refl; pivots = refl; tableau = refl }
+    at (Pivot r c) n = absurd (n r c refl)
+
+-- it goes on where one is made
+pub goes_on : (cap made : ℕ) (t u : Tableau) (e : RunEnd) → made < cap → step_at t (place t) ≡ inr u → run_from (cap - made) t ≡ e → run_from (cap - (made + 1)) u ≡ e
+goes_on cap made t u e l s h =
+    let q : cap - made ≡ suc (cap - (made + 1)) = omega (arith, l) in
+    sym (ap (continued (run_from (cap - (made + 1)))) s) ∙ ap (λ k. run_from k t) (sym q) ∙ h
+
+-- the last place of a run, and the tableau there
+pub run_ended : {E : Type 0} (cap made : ℕ) (t : Tableau) (e : RunEnd) (p : Place) (r : Result IntegerRunEnd E) → made < cap → IsLastPlace t p → run_from (cap - made) t ≡ e
+    → IfOk r (λ end. end.place ≡ p) → IfOk r (λ end. end.tableau ≡ t) → IfOk r (λ end. EndsAs e end.place end.tableau)
+run_ended cap made t e p (Ok end) l last h at_place at_tableau =
+    let q : cap - made ≡ suc (cap - (made + 1)) = omega (arith, l) in
+    subst (λ e. EndsAs e end.place end.tableau) (ap (λ k. run_from k t) (sym q) ∙ h)
+    (subst (λ u. EndsAs (run_from (suc (cap - (made + 1))) t) end.place u) (sym at_tableau)
+    (subst (λ p. EndsAs (run_from (suc (cap - (made + 1))) t) p t) (sym at_place) (ends_here (cap - (made + 1)) t p last.place last.other)))
+run_ended cap made t e p (Err x) l last h at_place at_tableau = tt
+
+pub ended_within : {E : Type 0} (t : Tableau) (p : Place) (r : Result IntegerRunEnd E) → IsLastPlace t p → IfOk r (λ end. end.place ≡ p) → IfOk r (λ end. end.tableau ≡ t)
+    → IfOk r (λ end. PlaceIsWithin (length end.tableau.statuses) end.place)
+ended_within t p (Ok end) last at_place at_tableau =
+    subst (λ q. PlaceIsWithin (length end.tableau.statuses) q) (sym at_place) (subst (λ (u : Tableau). PlaceIsWithin (length u.statuses) p) (sym at_tableau) last.within)
+ended_within t p (Err x) last at_place at_tableau = tt

@@ -1,0 +1,46 @@
+-- Runs from the first of kept dictionaries.
+use Rattle.std.proofs.Common.{◌≡◌, ℕ, ◌<◌, arith, Some, List, [], ◌∷◌, ◌++◌, length, drop, map, take, All}
+use Rattle.std.specs.Prelude.{ℤ, Result, Ok, Err, IfOk}
+use Rattle.std.proofs.lemmas.List.{length-append, length-drop, length-map}
+use Rattle.integer_tableau.specs.IntegerProgram.{CanStart, column_bounds, fraction_program}
+use Rattle.integer_tableau.specs.Kept.{AreKept, IsAt, IsStartDictionary, IsStartNode, KeptDictionaries, KeptDictionary, kept_at}
+use Rattle.integer_tableau.specs.Run.{IsRunOver}
+use Rattle.integer_tableau.specs.StoredRun.{dictionary_at, view_with}
+use Rattle.integer_tableau.specs.declared.integer_bounds.IntegerBounds.{IntegerBounds}
+use Rattle.integer_tableau.specs.declared.node.Node.{Node}
+use Rattle.integer_tableau.specs.declared.run.IntegerRunEnd.{IntegerRunEnd}
+use Rattle.problem_box.specs.declared.span.Span.{Span}
+use Rattle.tableau.specs.LinearProgram.{LinearProgram}
+use Rattle.tableau.specs.Run.{EndsAs, run_from}
+use Rattle.tableau.specs.Start.{started}
+use Rattle.tableau.specs.Tableau.{Tableau}
+
+-- over a box
+pub can_start_over : (ps : List (List ℤ)) (weight : ℕ) (costs : List ℤ) (bs : List IntegerBounds) (area : List Span) → length area ≡ length costs → CanStart ps weight costs bs
+    → CanStart ps weight costs (map column_bounds area ++ drop (length costs) bs)
+can_start_over ps weight costs bs area many can = record {
+  rows_full = can.rows_full;
+  bounds_there = omega (arith, length-append (map column_bounds area) (drop (length costs) bs), length-map area column_bounds, length-drop (length costs) bs, many, can.bounds_there);
+  rows_within = can.rows_within;
+  costs_within = can.costs_within;
+  weights = can.weights;
+  light = can.light;
+}
+
+first_is : (ps : List (List ℤ)) (costs : List ℤ) (ds : List KeptDictionary) → 0 < length ds → All (IsStartDictionary ps costs) (take 1 ds) → IsStartDictionary ps costs (kept_at ds 0)
+first_is ps costs [] l a = absurd (let f : ⊥ = omega (arith, l) in f)
+first_is ps costs (x ∷ xs) l a = a 0 x (omega arith)
+
+module _ (ps : List (List ℤ)) (weight : ℕ) (costs : List ℤ) (bounds : List IntegerBounds) (k : KeptDictionaries) (n : Node) (can : CanStart ps weight costs bounds)
+    (kept : AreKept ps weight costs k) (some : 0 < length k.all) (start : IsStartNode costs bounds n) where
+  pub at_first : IsAt ps weight (kept_at k.all 0) n
+  at_first = start.at ps weight (kept_at k.all 0) can (first_is ps costs k.all some kept.first)
+
+  pub started_at : (numbers : List ℕ) → started (fraction_program ps costs bounds numbers) ≡ Some (view_with numbers ps (dictionary_at k 0) n)
+  started_at numbers = start.started ps weight numbers (kept_at k.all 0) can (first_is ps costs k.all some kept.first)
+
+-- the run of a linear program, by that from its start
+pub run_over_box : {E : Type 0} (p : LinearProgram) (cap : ℕ) (t : Tableau) (r : Result IntegerRunEnd E) → started p ≡ Some t → IfOk r (λ e. EndsAs (run_from cap t) e.place e.tableau)
+    → IfOk r (λ e. IsRunOver p cap e.place e.tableau)
+run_over_box p cap t (Ok e) starts ends = record { start = t; starts = starts; ends = ends }
+run_over_box p cap t (Err x) starts ends = tt

@@ -1,0 +1,133 @@
+use Rattle.std.proofs.Common.{◌≡◌, ◌+◌, ◌-◌, ap, arith, sym, subst, ◌∙◌}
+use Rattle.std.proofs.lemmas.Result.{IfOk-weaker}
+use Rattle.std.specs.Prelude.{IfOk}
+use Rattle.tableau.specs.Run.{EndsAs, run_from}
+use Rattle.integer_tableau.proofs.Requests.{as_many}
+use Rattle.integer_tableau.proofs.StoredRuns.{ended_within, goes_on, last_numbered, run_ended, unmoved_at, unmoved_view}
+use Rattle.integer_tableau.specs.Kept.{AreKept}
+use Rattle.integer_tableau.specs.StoredRun.{IsStep, dictionary_at, view_with}
+use Rattle.integer_tableau.specs.declared.stored_run.Step.TheVariants.{Ended, Moved}
+use Rattle.integer_tableau.proofs.stored_run.run_stored.Goals as goal
+
+pub make_step-requires-clause-kept : goal.make_step-requires-clause-kept
+make_step-requires-clause-kept c =
+    let a = c.args in
+    let costs = c.requires.kept.0 in
+    (costs, subst (λ ps. AreKept ps a.weight costs c.loop-made.store.kept) (sym c.deref.ensures.value) (c.loop-made.invariant.kept costs c.requires.kept.1))
+
+pub ended-requires-clause-kept : goal.ended-requires-clause-kept
+ended-requires-clause-kept c =
+    let a = c.args in
+    let costs = c.requires.kept.0 in (
+      costs,
+      subst (λ ps. AreKept ps a.weight costs c.loop-made.store.kept → AreKept ps a.weight costs c.make_step.new.store.kept) c.deref.ensures.value (c.make_step.ensures.kept costs)
+          (c.loop-made.invariant.kept costs c.requires.kept.1),
+    )
+
+pub ended-requires-clause-there : goal.ended-requires-clause-there
+ended-requires-clause-there c = omega (arith, c.loop-made.invariant.there, as_many c.make_step.new.store.kept c.loop-made.store.kept c.in-Ended.ensures.step.0.dictionaries)
+
+pub ended-requires-clause-at_dictionary : goal.ended-requires-clause-at_dictionary
+ended-requires-clause-at_dictionary c =
+    let a = c.args in
+    let l = c.loop-made in
+    unmoved_at a.program_rows.now.items.value.items a.weight l.store.kept c.make_step.new.store.kept l.place l.node c.make_step.new.node c.in-Ended.ensures.step.0 l.invariant.there l.invariant.at
+
+pub returns-in-Ended-clause-value : goal.returns-in-Ended-clause-value
+returns-in-Ended-clause-value c =
+    let a = c.args in
+    let l = c.loop-made in
+    let ps = a.program_rows.now.items.value.items in
+    let old = l.store.kept in
+    let new = c.make_step.new.store.kept in
+    let m = c.make_step.new.node in
+    let s = subst (λ ps. IsStep ps a.weight old l.place l.node new m (Ended c.in-Ended.last)) c.deref.ensures.value c.in-Ended.ensures.step in
+    let v = unmoved_view a.numbers.now ps old new l.place l.node m s.0 l.invariant.there in
+    run_ended a.cap l.made (view_with a.numbers.now ps (dictionary_at old l.place) l.node) _ c.in-Ended.last c.ended.result c.loop-made-test.true
+    (last_numbered a.numbers.now ps (dictionary_at old l.place) l.node c.in-Ended.last s.1) l.invariant.same c.ended.ensures.place (IfOk-weaker c.ended.result _ _ (λ e h. h ∙ v) c.ended.ensures.tableau)
+
+pub returns-in-Ended-clause-within : goal.returns-in-Ended-clause-within
+returns-in-Ended-clause-within c =
+    let a = c.args in
+    let l = c.loop-made in
+    let ps = a.program_rows.now.items.value.items in
+    let old = l.store.kept in
+    let new = c.make_step.new.store.kept in
+    let m = c.make_step.new.node in
+    let s = subst (λ ps. IsStep ps a.weight old l.place l.node new m (Ended c.in-Ended.last)) c.deref.ensures.value c.in-Ended.ensures.step in
+    let v = unmoved_view a.numbers.now ps old new l.place l.node m s.0 l.invariant.there in
+    ended_within (view_with a.numbers.now ps (dictionary_at old l.place) l.node) c.in-Ended.last c.ended.result (last_numbered a.numbers.now ps (dictionary_at old l.place) l.node c.in-Ended.last s.1)
+    c.ended.ensures.place (IfOk-weaker c.ended.result _ _ (λ e h. h ∙ v) c.ended.ensures.tableau)
+
+pub returns-in-Ended-clause-kept : goal.returns-in-Ended-clause-kept
+returns-in-Ended-clause-kept c = λ costs h.
+    let a = c.args in
+    subst (λ ps. AreKept ps a.weight costs c.loop-made.store.kept → AreKept ps a.weight costs c.make_step.new.store.kept) c.deref.ensures.value (c.make_step.ensures.kept costs) (c.loop-made.invariant.kept costs h)
+
+pub run_alone-requires-clause-kept : goal.run_alone-requires-clause-kept
+run_alone-requires-clause-kept c =
+    let a = c.args in
+    let costs = c.requires.kept.0 in (
+      costs,
+      subst (λ ps. AreKept ps a.weight costs c.loop-made.store.kept → AreKept ps a.weight costs c.make_step.new.store.kept) c.deref.ensures.value (c.make_step.ensures.kept costs)
+          (c.loop-made.invariant.kept costs c.requires.kept.1),
+    )
+
+pub run_alone-requires-clause-there : goal.run_alone-requires-clause-there
+run_alone-requires-clause-there c = omega (arith, c.loop-made.invariant.there, as_many c.make_step.new.store.kept c.loop-made.store.kept c.in-Closed.ensures.step.dictionaries)
+
+pub run_alone-requires-clause-at : goal.run_alone-requires-clause-at
+run_alone-requires-clause-at c =
+    let a = c.args in
+    let l = c.loop-made in
+    unmoved_at a.program_rows.now.items.value.items a.weight l.store.kept c.make_step.new.store.kept l.place l.node c.make_step.new.node c.in-Closed.ensures.step l.invariant.there l.invariant.at
+
+pub returns-in-Closed-clause-value : goal.returns-in-Closed-clause-value
+returns-in-Closed-clause-value c =
+    let a = c.args in
+    let l = c.loop-made in
+    let ps = a.program_rows.now.items.value.items in
+    let old = l.store.kept in
+    let new = c.make_step.new.store.kept in
+    let m = c.make_step.new.node in
+    let v = unmoved_view a.numbers.now ps old new l.place l.node m c.in-Closed.ensures.step l.invariant.there in
+    subst (λ e. IfOk c.run_alone.result (λ end. EndsAs e end.place end.tableau)) (ap (run_from (a.cap - l.made)) v ∙ l.invariant.same) c.run_alone.ensures.value
+
+pub returns-in-Closed-clause-kept : goal.returns-in-Closed-clause-kept
+returns-in-Closed-clause-kept c = λ costs h.
+    let a = c.args in
+    subst (λ ps. AreKept ps a.weight costs c.loop-made.store.kept → AreKept ps a.weight costs c.make_step.new.store.kept) c.deref.ensures.value (c.make_step.ensures.kept costs) (c.loop-made.invariant.kept costs h)
+
+pub returns-in-GivenUp-clause-kept : goal.returns-in-GivenUp-clause-kept
+returns-in-GivenUp-clause-kept c = λ costs h.
+    let a = c.args in
+    subst (λ ps. AreKept ps a.weight costs c.loop-made.store.kept → AreKept ps a.weight costs c.make_step.new.store.kept) c.deref.ensures.value (c.make_step.ensures.kept costs) (c.loop-made.invariant.kept costs h)
+
+pub loop-made-preserved : goal.loop-made-preserved
+loop-made-preserved c =
+    let a = c.args in
+    let l = c.loop-made in
+    let ps = a.program_rows.now.items.value.items in
+    let old = l.store.kept in
+    let new = c.make_step.new.store.kept in
+    let m = c.make_step.new.node in
+    let h = subst (λ ps. IsStep ps a.weight old l.place l.node new m (Moved c.in-Moved.next)) c.deref.ensures.value c.in-Moved.ensures.step in
+    record {
+      kept = λ costs h. subst (λ ps. AreKept ps a.weight costs old → AreKept ps a.weight costs new) c.deref.ensures.value (c.make_step.ensures.kept costs) (l.invariant.kept costs h);
+      there = h.there;
+      at = h.at;
+      same = goes_on a.cap l.made (view_with a.numbers.now ps (dictionary_at old l.place) l.node) (view_with a.numbers.now ps (dictionary_at new c.in-Moved.next) m) _ c.loop-made-test.true (h.step a.numbers.now)
+          l.invariant.same;
+      counted = h.counted ∙ ap (λ n. n + 1) l.invariant.counted;
+    }
+
+pub run_alone-requires-2-clause-kept : goal.run_alone-requires-2-clause-kept
+run_alone-requires-2-clause-kept c = (c.requires.kept.0, c.loop-made.invariant.kept c.requires.kept.0 c.requires.kept.1)
+
+pub returns-clause-value : goal.returns-clause-value
+returns-clause-value c =
+    let a = c.args in
+    let l = c.loop-made in
+    let none : 0 ≡ a.cap - l.made = omega (arith, c.loop-made-test.false) in
+    subst (λ e. IfOk c.run_alone-2.result (λ end. EndsAs e end.place end.tableau)) (ap (λ k. run_from k (view_with a.numbers.now a.program_rows.now.items.value.items (dictionary_at l.store.kept l.place) l.node)) none ∙ l.invariant.same)
+    c.run_alone-2.ensures.value

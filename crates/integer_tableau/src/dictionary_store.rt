@@ -1,0 +1,385 @@
+// A store of dictionaries, by their bases.
+
+ghost use Rattle.std.specs.Prelude.{◌≡◌, ◌<◌, ◌+◌, ◌^◌, ℕ, ℤ, List, length, slice_index_or, IfOk, IfSome, IsTrue, OnOk};
+ghost use Rattle.integer_tableau.specs.IntegerProgram.{CanStart};
+ghost use Rattle.integer_tableau.specs.StoredRun.{HasTurnRow, IsMove, IsOfEdge, IsTurning, dictionary_at};
+ghost use Rattle.integer_tableau.specs.Kept.{AreKept, HaveSameBasis, IsKept, kept_at, row_in};
+ghost use Rattle.integer_tableau.specs.declared.integer_bounds.IntegerBounds.{IntegerBounds};
+
+use crate::dictionary::Dictionaries;
+use crate::integer_row::IntegerRow;
+use crate::node::Node;
+use crate::position::Position;
+use crate::program_row::ProgramRow;
+use crate::ranked_column::RankedColumn;
+use crate::request::Turn;
+use crate::same_basis::is_same;
+use std::alloc::{AllocError, Global};
+
+/// How many words the dictionaries take at most, about.
+const MOST_WORDS: usize = 1 << 19;
+
+/// How many places there are in the table of hashes, a power of 2.
+const TABLE: usize = 1 << 13;
+
+/// How much more credit than none the store has at most. A step to a dictionary that is kept already brings 1.
+const MOST_CREDIT: u32 = 1 << 13;
+
+/// What a new dictionary costs.
+const PRICE: u32 = 3;
+
+/// With how much credit the store begins, and goes on after a rest.
+const FIRST_CREDIT: u32 = 256 * PRICE;
+
+/// How many dictionaries tell how large those of a linear program are.
+const SAMPLE: usize = 8;
+
+/// How many words a dictionary takes at most on average: of larger ones fewer than 128 could be kept.
+const MOST_AVERAGE: usize = MOST_WORDS / 128;
+
+/// For how many runs the store rests the first time. It rests twice as long each time, until it has been of use.
+const FIRST_REST: u32 = 32;
+
+/// For how many runs it rests at most.
+const MOST_REST: u32 = 4096;
+
+/// Dictionaries of one linear program, whatever the bounds are: the runs over its boxes share them.
+///
+/// They are dropped all together where they take too many bytes. Where few are met again, or they are so large that few could be kept, the store rests for
+/// some runs.
+#[derive(Drop)]
+pub(crate) struct DictionaryStore {
+    pub(crate) kept: Dictionaries,
+    /// Room for the row of a variable that leaves.
+    pub(crate) row: IntegerRow,
+    /// Room for coefficients.
+    pub(crate) coefficients: Vec<i64>,
+    /// Room for basic columns.
+    basic: Vec<usize>,
+    /// Room for columns.
+    pub(crate) columns: Vec<RankedColumn>,
+    /// Places of dictionaries by their hashes; 0 where there is none.
+    table: Vec<usize>,
+    /// None is left where too few dictionaries were met again.
+    credit: u32,
+    /// For how many runs it rests.
+    rest: u32,
+    /// For how many it rests the next time.
+    next_rest: u32,
+    /// How many steps went to a dictionary that was kept already.
+    met: u64,
+}
+
+/// A word for a variable. The words of a basis together are its hash.
+fn word_of(variable: usize) -> u64 {
+    let word = (variable as u64)
+        .wrapping_add(1)
+        .wrapping_mul(0x9e3779b97f4a7c15);
+    let word = (word ^ (word >> 30)).wrapping_mul(0xbf58476d1ce4e5b9);
+    let word = (word ^ (word >> 27)).wrapping_mul(0x94d049bb133111eb);
+    word ^ (word >> 31)
+}
+
+impl DictionaryStore {
+    /// An empty store.
+    pub(crate) fn new(alloc: Global) -> DictionaryStore
+        ensures { (ps : List (List ℤ)) (weight : ℕ) (costs : List ℤ) → AreKept ps weight costs result.kept }
+    {
+        DictionaryStore {
+            kept: Dictionaries::new(alloc),
+            row: IntegerRow::empty(alloc),
+            coefficients: Vec::new(alloc),
+            basic: Vec::new(alloc),
+            columns: Vec::new(alloc),
+            table: Vec::new(alloc),
+            credit: FIRST_CREDIT,
+            rest: 0,
+            next_rest: FIRST_REST,
+            met: 0,
+        }
+    }
+
+    /// How many steps went to a dictionary that was kept already.
+    pub(crate) fn met(&self) -> u64 {
+        self.met
+    }
+
+    /// Drops all dictionaries but that at the start. The one error is want of memory.
+    fn begin(&mut self, rows: usize, costs: &IntegerRow) -> Result<(), AllocError>
+        requires room { length costs.now + rows < 2 ^ 64 }
+        requires program { (ps : List (List ℤ)) × (weight : ℕ) × (bounds : List IntegerBounds) × (length ps ≡ rows) × CanStart ps weight costs.now bounds }
+        ensures some { OnOk result (0 < length self.new.kept.all) }
+        ensures kept { (ps : List (List ℤ)) (weight : ℕ) (bounds : List IntegerBounds) → length ps ≡ rows → CanStart ps weight costs.now bounds → AreKept ps weight costs.now self.new.kept }
+    {
+        self.kept.clear();
+        self.kept.push_start(rows, costs)?;
+        self.table.clear();
+        self.table.resize(TABLE, 0)
+    }
+
+    /// Whether there is no room for more dictionaries.
+    #[inline(always)]
+    fn is_full(&self) -> bool {
+        self.kept.count() >= TABLE / 2 || self.kept.words() >= MOST_WORDS
+    }
+
+    /// Whether the dictionaries are so large that few could be kept.
+    fn are_large(&self) -> bool {
+        let count = self.kept.count();
+        count >= SAMPLE && self.kept.words() / count > MOST_AVERAGE
+    }
+
+    /// Whether new dictionaries aren't kept for now.
+    #[inline(always)]
+    pub(crate) fn is_closed(&self) -> bool {
+        self.rest > 0 || self.is_full()
+    }
+
+    /// Makes the store ready for a run of its linear program; false where it rests, or memory is wanting.
+    pub(crate) fn is_ready(&mut self, rows: usize, costs: &IntegerRow) -> bool
+        requires room { length costs.now + rows < 2 ^ 64 }
+        requires program { (ps : List (List ℤ)) × (weight : ℕ) × (bounds : List IntegerBounds) × (length ps ≡ rows) × CanStart ps weight costs.now bounds }
+        ensures some { IsTrue result → 0 < length self.new.kept.all }
+        ensures kept { (ps : List (List ℤ)) (weight : ℕ) (bounds : List IntegerBounds) → length ps ≡ rows → CanStart ps weight costs.now bounds → AreKept ps weight costs.now self.old.kept → AreKept ps weight costs.now self.new.kept }
+    {
+        if self.rest > 0 {
+            self.rest -= 1;
+            return false;
+        }
+        if self.are_large() {
+            self.rest = MOST_REST;
+            return false;
+        }
+        if self.kept.count() == 0 || self.table.is_empty() || self.is_full() {
+            return self.begin(rows, costs).is_ok();
+        }
+        true
+    }
+
+    /// Counts a step to a dictionary that was kept already.
+    #[inline(always)]
+    fn count_met(&mut self)
+        ensures { self.new.kept ≡ self.old.kept }
+    {
+        self.met = self.met.saturating_add(1);
+        if self.credit < MOST_CREDIT {
+            self.credit += 1;
+        } else {
+            self.next_rest = FIRST_REST;
+        }
+    }
+
+    /// Counts a new dictionary, and lets the store rest where there are too many of them.
+    fn count_made(&mut self)
+        ensures kept { self.new.kept ≡ self.old.kept }
+        ensures row { self.new.row ≡ self.old.row }
+    {
+        self.credit = self.credit.saturating_sub(PRICE);
+        if self.credit == 0 {
+            self.credit = FIRST_CREDIT;
+            self.rest = self.next_rest;
+            self.next_rest = MOST_REST.min(self.next_rest.saturating_mul(2));
+        }
+    }
+
+    /// The place of a dictionary of this hash; 0 where none is kept.
+    fn of_hash(&self, hash: u64) -> usize
+        ensures { 0 < result → result < length self.now.kept.all }
+    {
+        let mut slot = (hash as usize) % TABLE;
+        for _ in 0..TABLE {
+            if slot >= self.table.len() {
+                return 0;
+            }
+            let place = self.table[slot];
+            if place == 0 || place >= self.kept.count() {
+                return 0;
+            }
+            if self.kept.hash(place) == hash {
+                return place;
+            }
+            slot = (slot + 1) % TABLE;
+        }
+        0
+    }
+
+    /// Puts a place into the table.
+    fn put(&mut self, hash: u64, place: usize)
+        ensures { self.new.kept ≡ self.old.kept }
+    {
+        let mut slot = (hash as usize) % TABLE;
+        for _ in 0..TABLE {
+            if slot >= self.table.len() {
+                return;
+            }
+            if self.table[slot] == 0 {
+                self.table[slot] = place;
+                return;
+            }
+            slot = (slot + 1) % TABLE;
+        }
+    }
+
+    /// The place of the dictionary of the node's basis and this denominator, by its hash; 0 where it isn't kept, or memory is wanting.
+    fn found(&self, alloc: Global, node: &Node, denominator: i64, hash: u64) -> usize
+        requires { (ps : List (List ℤ)) × (weight : ℕ) × (costs : List ℤ) × AreKept ps weight costs self.now.kept }
+        ensures there { 0 < result → result < length self.now.kept.all }
+        ensures basis { 0 < result → HaveSameBasis node.now.positions.items (kept_at self.now.kept.all result).positions }
+        ensures denominator { 0 < result → (kept_at self.now.kept.all result).denominator ≡ denominator }
+    {
+        let place = self.of_hash(hash);
+        if place == 0 || self.kept.divisor(place).number() != denominator {
+            return 0;
+        }
+        let Ok(positions) = self.kept.positions(alloc, place) else {
+            return 0;
+        };
+        if is_same(&node.positions, &positions) {
+            place
+        } else {
+            0
+        }
+    }
+
+    /// Makes the room for a row hold the leaving row of a turn. None where memory is wanting.
+    fn put_turn_row(&mut self, program_rows: &[ProgramRow], place: usize, turn: Turn) -> Option<()>
+        requires there { place < length self.old.kept.all }
+        requires kept { (weight : ℕ) × (costs : List ℤ) × IsKept program_rows.now weight costs (kept_at self.old.kept.all place) }
+        requires leaving_there { turn.leaving < length (kept_at self.old.kept.all place).positions }
+        requires basic { slice_index_or (kept_at self.old.kept.all place).positions turn.leaving Position.InBasis ≡ Position.InBasis }
+        requires row { HasTurnRow program_rows.now (kept_at self.old.kept.all place) self.old.row turn }
+        ensures kept { self.new.kept ≡ self.old.kept }
+        ensures row { IfSome result (λ u. self.new.row ≡ row_in program_rows.now (kept_at self.old.kept.all place) turn.leaving) }
+    {
+        if turn.row_made {
+            return Some(());
+        }
+        self.kept
+            .put_row(
+                place,
+                program_rows,
+                turn.leaving,
+                &mut self.coefficients,
+                &mut self.row,
+            )
+            .ok()
+    }
+
+    /// Makes the dictionary behind a turn. The answer is its place; none where it is given up.
+    fn make(
+        &mut self,
+        alloc: Global,
+        program_rows: &[ProgramRow],
+        weight: u64,
+        place: usize,
+        node: &Node,
+        turn: Turn,
+        pivot_size: i64,
+        hash: u64,
+    ) -> Option<usize>
+        requires kept { (costs : List ℤ) × AreKept program_rows.now weight costs self.old.kept }
+        requires there { place < length self.old.kept.all }
+        requires row { HasTurnRow program_rows.now (kept_at self.old.kept.all place) self.old.row turn }
+        requires turning { (n : Node) × IsTurning program_rows.now weight self.old.kept place n turn pivot_size node.now }
+        ensures kept { (costs : List ℤ) → AreKept program_rows.now weight costs self.old.kept → AreKept program_rows.now weight costs self.new.kept }
+        ensures moved { IfSome result (λ q. (n : Node) → IsTurning program_rows.now weight self.old.kept place n turn pivot_size node.now → IsMove program_rows.now weight (dictionary_at self.old.kept place) n self.new.kept q node.now) }
+        ensures exits { IfSome result (λ q. self.new.kept.exits ≡ self.old.kept.exits) }
+        ensures edges { IfSome result (λ q. self.new.kept.edges ≡ self.old.kept.edges) }
+        ensures pushed { IfSome result (λ q. (q ≡ length self.old.kept.all) × ((p : ℕ) → p < q → kept_at self.new.kept.all p ≡ kept_at self.old.kept.all p)) }
+    {
+        self.put_turn_row(program_rows, place, turn)?;
+        let denominator = self.kept.divisor(place).number();
+        if !self.row.solve(turn.column, denominator) {
+            return None;
+        }
+        let made = self.kept.count();
+        let Some(()) = self.kept.push_behind(
+            &mut self.basic,
+            &mut self.coefficients,
+            place,
+            turn,
+            &self.row,
+            pivot_size,
+            hash,
+        )
+        else {
+            self.kept.clear();
+            return None;
+        };
+        if !self.kept.is_small(alloc, program_rows, weight, made) {
+            self.kept.clear();
+            return None;
+        }
+        self.put(hash, made);
+        Some(made)
+    }
+
+    /// The place of the dictionary behind a turn, where that isn't noted; the node is there already. None where it is given up.
+    #[inline(never)]
+    fn found_or_made(
+        &mut self,
+        alloc: Global,
+        program_rows: &[ProgramRow],
+        weight: u64,
+        place: usize,
+        node: &Node,
+        turn: Turn,
+        pivot_size: i64,
+    ) -> Option<usize>
+        requires kept { (costs : List ℤ) × AreKept program_rows.now weight costs self.old.kept }
+        requires there { place < length self.old.kept.all }
+        requires edge { IsOfEdge self.old.kept place turn }
+        requires row { HasTurnRow program_rows.now (kept_at self.old.kept.all place) self.old.row turn }
+        requires turning { (n : Node) × IsTurning program_rows.now weight self.old.kept place n turn pivot_size node.now }
+        ensures kept { (costs : List ℤ) → AreKept program_rows.now weight costs self.old.kept → AreKept program_rows.now weight costs self.new.kept }
+        ensures moved { IfSome result (λ q. (n : Node) → IsTurning program_rows.now weight self.old.kept place n turn pivot_size node.now → IsMove program_rows.now weight (dictionary_at self.old.kept place) n self.new.kept q node.now) }
+    {
+        let hash = self.kept.hash(place) ^ word_of(turn.leaving) ^ word_of(turn.entering);
+        let found = self.found(alloc, node, pivot_size, hash);
+        if found != 0 {
+            self.count_met();
+            self.kept.note(turn.edge, found);
+            return Some(found);
+        }
+        self.count_made();
+        let made = self.make(
+            alloc,
+            program_rows,
+            weight,
+            place,
+            node,
+            turn,
+            pivot_size,
+            hash,
+        )?;
+        self.kept.note(turn.edge, made);
+        Some(made)
+    }
+
+    /// The place of the dictionary behind a turn; the node is there already. None where it is given up.
+    #[inline(always)]
+    pub(crate) fn target(
+        &mut self,
+        alloc: Global,
+        program_rows: &[ProgramRow],
+        weight: u64,
+        place: usize,
+        node: &Node,
+        turn: Turn,
+        pivot_size: i64,
+    ) -> Option<usize>
+        requires kept { (costs : List ℤ) × AreKept program_rows.now weight costs self.old.kept }
+        requires there { place < length self.old.kept.all }
+        requires edge { IsOfEdge self.old.kept place turn }
+        requires row { HasTurnRow program_rows.now (kept_at self.old.kept.all place) self.old.row turn }
+        requires turning { (n : Node) × IsTurning program_rows.now weight self.old.kept place n turn pivot_size node.now }
+        ensures kept { (costs : List ℤ) → AreKept program_rows.now weight costs self.old.kept → AreKept program_rows.now weight costs self.new.kept }
+        ensures moved { IfSome result (λ q. (n : Node) → IsTurning program_rows.now weight self.old.kept place n turn pivot_size node.now → IsMove program_rows.now weight (dictionary_at self.old.kept place) n self.new.kept q node.now) }
+    {
+        if turn.target != 0 && self.kept.divisor(turn.target).number() == pivot_size {
+            self.count_met();
+            return Some(turn.target);
+        }
+        self.found_or_made(alloc, program_rows, weight, place, node, turn, pivot_size)
+    }
+}

@@ -1,0 +1,141 @@
+// Nodes: what a tableau has beside its dictionary.
+
+ghost use Rattle.std.specs.Prelude.{◌≡◌, ◌<◌, ◌+◌, ℕ, ℤ, List, length, slice_index_or, IfOk, IfSome};
+ghost use Rattle.integer_tableau.specs.Exits.{IsOnceEach};
+ghost use Rattle.integer_tableau.specs.Kept.{IsAt, IsKept, IsStartNode, kept_at, view_of};
+ghost use Rattle.integer_tableau.specs.Positions.{AreNonbasic};
+
+use crate::dictionary::Dictionaries;
+use crate::integer_bounds::IntegerBounds;
+use crate::integer_row::IntegerRow;
+use crate::integer_tableau::{Fixed, IntegerTableau};
+use crate::pivot::is_near;
+use crate::position::Position;
+use crate::program_row::ProgramRow;
+use crate::start::{
+    empty_rows, has_room, reach_of, start_at_upper, start_numbers, start_positions,
+};
+use std::alloc::{AllocError, Global};
+use std::rc::RcSlice;
+
+/// A tableau but for its dictionary, which it shares with others.
+#[derive(Drop)]
+pub(crate) struct Node {
+    pub(crate) bounds: Vec<IntegerBounds>,
+    /// No column has a greater bound.
+    pub(crate) reach: u64,
+    /// Which variables are basic. The columns of the others are matters of the dictionary, and may be others here.
+    pub(crate) positions: Vec<Position>,
+    pub(crate) at_upper: Vec<bool>,
+    pub(crate) nonbasic_values: Vec<i64>,
+    /// Of each column.
+    pub(crate) values: Vec<i64>,
+    pub(crate) pivots: u64,
+}
+
+impl Dictionaries {
+    /// The rows of a dictionary, none of a column that isn't basic. The one error is want of memory.
+    pub(crate) fn rows_by_column(
+        &self,
+        alloc: Global,
+        place: usize,
+    ) -> Result<Vec<IntegerRow>, AllocError>
+        requires there { place < length self.now.all }
+        requires columns { (p : ℕ) → p < length (kept_at self.now.all place).basic_columns → slice_index_or (kept_at self.now.all place).basic_columns p 0 < self.now.width }
+        requires once { IsOnceEach (kept_at self.now.all place).basic_columns }
+        ensures { IfOk result (λ v. v.items ≡ (kept_at self.now.all place).rows) }
+    {
+        let mut rows = empty_rows(alloc, self.width)?;
+        let numerators = self.rows(place);
+        for (index, column) in self.basic_columns(place).iter().enumerate() {
+            let from = index * self.width;
+            let row = Vec::from_slice(alloc, &numerators[from..from + self.width])?;
+            rows[*column] = IntegerRow::make(row);
+        }
+        Ok(rows)
+    }
+
+    /// The position of each variable in a dictionary. The one error is want of memory.
+    pub(crate) fn positions(&self, alloc: Global, place: usize) -> Result<Vec<Position>, AllocError>
+        requires there { place < length self.now.all }
+        requires nonbasic { AreNonbasic (kept_at self.now.all place).positions (kept_at self.now.all place).nonbasic }
+        ensures { IfOk result (λ v. v.items ≡ (kept_at self.now.all place).positions) }
+    {
+        let mut positions = Vec::from_elem(alloc, Position::InBasis, self.variables)?;
+        for (column, variable) in self.nonbasic(place).iter().enumerate() {
+            positions[*variable] = Position::InColumn(column);
+        }
+        Ok(positions)
+    }
+}
+
+impl Node {
+    /// The node at the start, where each column is at the bound that its cost asks for, for so many rows. None where the numbers are too
+    /// large. The one error is want of memory.
+    pub(crate) fn start(
+        alloc: Global,
+        rows: usize,
+        costs: &IntegerRow,
+        bounds: Vec<IntegerBounds>,
+    ) -> Result<Option<Node>, AllocError>
+        requires { length bounds.items ≡ length costs.now + rows }
+        ensures { IfOk result (λ o. IfSome o (λ n. IsStartNode costs.now bounds.items n)) }
+    {
+        let columns = costs.width();
+        let reach = reach_of(&bounds, columns);
+        if !has_room(&bounds) || !is_near(reach, 1) {
+            return Ok(None);
+        }
+        let positions = start_positions(alloc, columns, rows)?;
+        let at_upper = start_at_upper(alloc, costs.numerators(), rows)?;
+        let nonbasic_values = start_numbers(alloc, costs.numerators(), &bounds, rows)?;
+        let values = Vec::from_elem(alloc, 0, columns)?;
+        Ok(Some(Node {
+            bounds,
+            reach,
+            positions,
+            at_upper,
+            nonbasic_values,
+            values,
+            pivots: 0,
+        }))
+    }
+
+    /// The tableau of the node, which has a copy of its dictionary. The one error is want of memory.
+    pub(crate) fn into_tableau(
+        self,
+        alloc: Global,
+        numbers: &[u32],
+        program_rows: &RcSlice<ProgramRow>,
+        weight: u64,
+        dictionaries: &Dictionaries,
+        place: usize,
+    ) -> Result<IntegerTableau, AllocError>
+        requires there { place < length dictionaries.now.all }
+        requires kept { (costs : List ℤ) × IsKept program_rows.now.items.value.items weight costs (kept_at dictionaries.now.all place) }
+        requires at { IsAt program_rows.now.items.value.items weight (kept_at dictionaries.now.all place) self }
+        ensures { IfOk result (λ t. t ≡ view_of numbers.now program_rows.now.items.value.items (kept_at dictionaries.now.all place) self) }
+    {
+        let costs = Vec::from_slice(alloc, dictionaries.reduced_costs(place))?;
+        Ok(IntegerTableau {
+            fixed: Fixed {
+                numbers: Vec::from_slice(alloc, numbers)?,
+                bounds: self.bounds,
+                rows: program_rows.clone()?,
+                weight,
+                reach: self.reach,
+            },
+            positions: dictionaries.positions(alloc, place)?,
+            nonbasic: Vec::from_slice(alloc, dictionaries.nonbasic(place))?,
+            at_upper: self.at_upper,
+            nonbasic_values: self.nonbasic_values,
+            rows: dictionaries.rows_by_column(alloc, place)?,
+            spare: IntegerRow::empty(alloc),
+            reduced_costs: IntegerRow::make(costs),
+            values: self.values,
+            basic_columns: Vec::from_slice(alloc, dictionaries.basic_columns(place))?,
+            denominator: dictionaries.divisor(place).number(),
+            pivots: self.pivots,
+        })
+    }
+}

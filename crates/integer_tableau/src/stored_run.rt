@@ -1,0 +1,196 @@
+// Runs by dictionaries that are kept.
+
+ghost use Rattle.std.specs.Prelude.{◌≡◌, ◌≢◌, ◌≤◌, ◌<◌, ◌+◌, ◌^◌, ℤ, List, length, IfErr, IfOk};
+ghost use Rattle.tableau.specs.Place.{PlaceIsWithin};
+ghost use Rattle.tableau.specs.Run.{EndsAs, run_from};
+ghost use Rattle.integer_tableau.specs.Kept.{AreKept, IsAt, kept_at, view_of};
+ghost use Rattle.integer_tableau.specs.StoredRun.{IsStep, dictionary_at, view_with};
+
+use crate::dictionary_store::DictionaryStore;
+use crate::node::Node;
+use crate::pivot::size_of;
+use crate::program_row::ProgramRow;
+use crate::request::Request;
+use crate::run::IntegerRunEnd;
+use std::alloc::Global;
+use std::rc::RcSlice;
+use tableau::Place;
+
+/// What comes of a node.
+#[derive(Clone, Copy)]
+pub(crate) enum Step {
+    /// It asks for no pivot: the run ends at this place.
+    Ended(Place),
+    /// It is at the dictionary of this place, by the pivot that it asks for.
+    Moved(usize),
+    /// It is where it was: no dictionary more is kept for now, or memory is wanting.
+    Closed,
+    /// The pivot is given up. The node is of no use.
+    GivenUp,
+}
+
+/// The step of a node at the dictionary of this place.
+#[inline(always)]
+fn make_step(
+    alloc: Global,
+    program_rows: &[ProgramRow],
+    weight: u64,
+    store: &mut DictionaryStore,
+    place: usize,
+    node: &mut Node,
+) -> Step
+    requires kept { (costs : List ℤ) × AreKept program_rows.now weight costs store.old.kept }
+    requires there { place < length store.old.kept.all }
+    requires at { IsAt program_rows.now weight (kept_at store.old.kept.all place) node.old }
+    requires room { node.old.pivots + 1 < 2 ^ 64 }
+    ensures kept { (costs : List ℤ) → AreKept program_rows.now weight costs store.old.kept → AreKept program_rows.now weight costs store.new.kept }
+    ensures step { IsStep program_rows.now weight store.old.kept place node.old store.new.kept node.new result }
+{
+    if store.is_closed() {
+        return Step::Closed;
+    }
+    let turn = match store.request(alloc, program_rows, place, node) {
+        Request::Stops(last) => return Step::Ended(last),
+        Request::Unknown => return Step::Closed,
+        Request::Goes(turn) => turn,
+    };
+    let Some(size) = size_of(turn.coefficient) else {
+        return Step::GivenUp;
+    };
+    if !node.turn(program_rows, &store.kept, place, turn, size) {
+        return Step::GivenUp;
+    }
+    match store.target(alloc, program_rows, weight, place, node, turn, size) {
+        Some(target) => Step::Moved(target),
+        None => Step::GivenUp,
+    }
+}
+
+/// The run of a node with at most `cap` further pivots, by a tableau of its own, after so many. The error says that it is given up, and how
+/// many pivots were made before.
+fn run_alone(
+    alloc: Global,
+    numbers: &[u32],
+    program_rows: &RcSlice<ProgramRow>,
+    weight: u64,
+    store: &DictionaryStore,
+    place: usize,
+    node: Node,
+    cap: u64,
+    made: u64,
+) -> Result<IntegerRunEnd, u64>
+    requires kept { (costs : List ℤ) × AreKept program_rows.now.items.value.items weight costs store.now.kept }
+    requires there { place < length store.now.kept.all }
+    requires at { IsAt program_rows.now.items.value.items weight (kept_at store.now.kept.all place) node }
+    requires room { node.pivots + cap < 2 ^ 64 }
+    requires few { made + cap < 2 ^ 64 }
+    ensures value { IfOk result (λ e. EndsAs (run_from cap (view_of numbers.now program_rows.now.items.value.items (kept_at store.now.kept.all place) node)) e.place e.tableau) }
+    ensures within { IfOk result (λ e. PlaceIsWithin (length e.tableau.statuses) e.place) }
+    ensures exact { IfOk result (λ e. e.place ≢ Place.Cramped) }
+    ensures capped { IfOk result (λ e. e.tableau.pivots ≤ node.pivots + cap) }
+    ensures given_up { IfErr result (λ m. m ≤ made + cap) }
+{
+    let Ok(tableau) = node.into_tableau(alloc, numbers, program_rows, weight, &store.kept, place)
+    else {
+        return Err(made);
+    };
+    match tableau.run(cap) {
+        Ok(end) => Ok(end),
+        Err(more) => Err(made + more),
+    }
+}
+
+/// The end of a run at the last place of a node, after so many pivots. The error says that it is given up.
+fn ended(
+    alloc: Global,
+    numbers: &[u32],
+    program_rows: &RcSlice<ProgramRow>,
+    weight: u64,
+    store: &DictionaryStore,
+    at: usize,
+    node: Node,
+    place: Place,
+    made: u64,
+) -> Result<IntegerRunEnd, u64>
+    requires kept { (costs : List ℤ) × AreKept program_rows.now.items.value.items weight costs store.now.kept }
+    requires there { at < length store.now.kept.all }
+    requires at_dictionary { IsAt program_rows.now.items.value.items weight (kept_at store.now.kept.all at) node }
+    ensures place { IfOk result (λ e. e.place ≡ place) }
+    ensures tableau { IfOk result (λ e. e.tableau ≡ view_of numbers.now program_rows.now.items.value.items (kept_at store.now.kept.all at) node) }
+    ensures given_up { IfErr result (λ m. m ≡ made) }
+{
+    match node.into_tableau(alloc, numbers, program_rows, weight, &store.kept, at) {
+        Ok(tableau) => Ok(IntegerRunEnd { place, tableau }),
+        Err(_) => Err(made),
+    }
+}
+
+/// The run of a node from the first dictionary with at most `cap` pivots. The error says that it is given up, and how many pivots were made
+/// before.
+pub(crate) fn run_stored(
+    alloc: Global,
+    numbers: &[u32],
+    program_rows: &RcSlice<ProgramRow>,
+    weight: u64,
+    store: &mut DictionaryStore,
+    node: Node,
+    cap: u64,
+) -> Result<IntegerRunEnd, u64>
+    requires kept { (costs : List ℤ) × AreKept program_rows.now.items.value.items weight costs store.old.kept }
+    requires some { 0 < length store.old.kept.all }
+    requires at { IsAt program_rows.now.items.value.items weight (kept_at store.old.kept.all 0) node }
+    requires fresh { node.pivots ≡ 0 }
+    ensures value { IfOk result (λ e. EndsAs (run_from cap (view_with numbers.now program_rows.now.items.value.items (dictionary_at store.old.kept 0) node)) e.place e.tableau) }
+    ensures within { IfOk result (λ e. PlaceIsWithin (length e.tableau.statuses) e.place) }
+    ensures exact { IfOk result (λ e. e.place ≢ Place.Cramped) }
+    ensures capped { IfOk result (λ e. e.tableau.pivots ≤ cap) }
+    ensures given_up { IfErr result (λ made. made ≤ cap) }
+    ensures kept { (costs : List ℤ) → AreKept program_rows.now.items.value.items weight costs store.old.kept → AreKept program_rows.now.items.value.items weight costs store.new.kept }
+{
+    let mut node = node;
+    let mut place = 0;
+    for made in 0..cap {
+        match make_step(alloc, program_rows, weight, store, place, &mut node) {
+            Step::Moved(next) => place = next,
+            Step::Ended(last) => {
+                return ended(
+                    alloc,
+                    numbers,
+                    program_rows,
+                    weight,
+                    store,
+                    place,
+                    node,
+                    last,
+                    made,
+                );
+            }
+            Step::Closed => {
+                let rest = cap - made;
+                return run_alone(
+                    alloc,
+                    numbers,
+                    program_rows,
+                    weight,
+                    store,
+                    place,
+                    node,
+                    rest,
+                    made,
+                );
+            }
+            Step::GivenUp => return Err(made),
+        }
+    }
+    run_alone(
+        alloc,
+        numbers,
+        program_rows,
+        weight,
+        store,
+        place,
+        node,
+        0,
+        cap,
+    )
+}
