@@ -1,7 +1,5 @@
 // Runs over boxes of one linear program, which go by dictionaries that earlier ones have left.
 
-ghost use Rattle.std.specs.Prelude.{◌≡◌, length, IfOk};
-
 use anyhow::{Result, bail};
 use case_tools::problem_of;
 use integer_tableau::IntegerProgram;
@@ -17,9 +15,7 @@ const BY_HAND: &[u8] =
 const BOUNDS: [(i64, i64); 4] = [(0, 3), (0, 0), (1, 3), (0, 3)];
 
 /// The box of x from one bound to another, and of y from 0 to 3. The one error is want of memory.
-fn area_of(alloc: Global, low: i64, high: i64) -> Result<IntBox, AllocError>
-    ensures { IfOk result (λ area. length area ≡ 2) }
-{
+fn area_of(alloc: Global, low: i64, high: i64) -> Result<IntBox, AllocError> {
     let spans = vec![in alloc; Span { lo: low, hi: high }, Span { lo: 0, hi: 3 }]?;
     Ok(IntBox::make(spans))
 }
@@ -30,11 +26,11 @@ fn show_run<R: Print + Alloc<A = Global>>(
     program: &mut IntegerProgram,
     low: i64,
     high: i64,
-) -> Result<()>
-    requires { length program.old.costs ≡ 2 }
-    ensures { program.new ≡ program.old }
-{
+) -> Result<()> {
     let area = area_of(rt.alloc(), low, high)?;
+    if program.columns() != area.len() {
+        bail!("another number of columns");
+    }
     let Some(Ok(end)) = program.run_over(rt.alloc(), &area, 180)? else {
         bail!("a run that is given up");
     };
@@ -46,12 +42,9 @@ fn show_run<R: Print + Alloc<A = Global>>(
 }
 
 /// Prints the runs.
-pub fn show<R: Print + Alloc<A = Global>>(rt: &R) -> Result<()> {
+pub(crate) fn show<R: Print + Alloc<A = Global>>(rt: &R) -> Result<()> {
     let problem = problem_of(rt.alloc(), BY_HAND)?;
     let whole = LinearProgram::of(rt.alloc(), &problem, problem.root())?;
-    if whole.columns() != 2 {
-        bail!("another number of columns");
-    }
     let Some(mut program) = IntegerProgram::of(rt.alloc(), &whole)? else {
         bail!("a program of other numbers");
     };
