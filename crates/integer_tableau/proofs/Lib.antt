@@ -61,6 +61,8 @@ mod Statuses
 mod ToFractions
 mod Products
 mod LowSums
+mod RowSums
+mod CoefficientColumns
 mod SmallTimes
 mod ScaledNumbers
 mod ScaledPrograms

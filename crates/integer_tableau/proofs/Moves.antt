@@ -169,6 +169,7 @@ module _ (ps : List (List ℤ)) (weight : ℕ) (k : KeptDictionaries) (p : ℕ) 
     compact = subst (λ r. IsCompact ps weight r (tableau_at e m)) (sym t.turned.reach) h.compact;
     basis = subst (λ ss. HaveSameBasis ss e.positions) (sym t.turned.positions)
         (same_behind n.positions.items d.positions e.positions w.leaving w.entering w.column t.at.basis t.turn.basic t.turn.column t.turn.leaving t.turn.entering behind);
+    sums = t.turned.sums;
   }
 
   pub pivot_moves : (after : KeptDictionaries) (q : ℕ) → q < length after.all → IsPivoted ps weight n.reach w.leaving w.entering before (tableau_at (kept_at after.all q) m)

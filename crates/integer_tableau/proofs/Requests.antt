@@ -53,6 +53,7 @@ pub at_same : (ps : List (List ℤ)) (weight : ℕ) (d e : KeptDictionary) (n : 
 at_same ps weight d e n same h = record {
   compact = subst (λ (m : IntegerDictionary). IsCompact ps weight n.reach (tableau_with m n)) same h.compact;
   basis = subst (λ (m : IntegerDictionary). HaveSameBasis n.positions.items m.positions) same h.basis;
+  sums = h.sums;
 }
 
 -- the row of a variable

@@ -1,11 +1,13 @@
 -- Runs from the first of kept dictionaries.
-use Rattle.std.proofs.Common.{◌≡◌, ℕ, ◌<◌, arith, Some, List, [], ◌∷◌, ◌++◌, length, drop, map, take, All}
-use Rattle.std.specs.Prelude.{ℤ, Result, Ok, Err, IfOk}
+use Rattle.std.proofs.Common.{◌≡◌, ℕ, ◌<◌, arith, Option, Some, List, [], ◌∷◌, ◌++◌, length, drop, map, take, All}
+use Rattle.std.specs.Prelude.{ℤ, Result, Ok, Err, IfOk, IfSome}
 use Rattle.std.proofs.lemmas.List.{length-append, length-drop, length-map}
 use Rattle.integer_tableau.specs.IntegerProgram.{CanStart, column_bounds, fraction_program}
 use Rattle.integer_tableau.specs.Kept.{AreKept, IsAt, IsStartDictionary, IsStartNode, KeptDictionaries, KeptDictionary, kept_at}
+use Rattle.integer_tableau.specs.RowSums.{AreColumnsOf}
 use Rattle.integer_tableau.specs.Run.{IsRunOver}
 use Rattle.integer_tableau.specs.StoredRun.{dictionary_at, view_with}
+use Rattle.integer_tableau.specs.declared.coefficient_columns.CoefficientColumns.{CoefficientColumns}
 use Rattle.integer_tableau.specs.declared.integer_bounds.IntegerBounds.{IntegerBounds}
 use Rattle.integer_tableau.specs.declared.node.Node.{Node}
 use Rattle.integer_tableau.specs.declared.run.IntegerRunEnd.{IntegerRunEnd}
@@ -32,9 +34,9 @@ first_is ps costs [] l a = absurd (let f : ⊥ = omega (arith, l) in f)
 first_is ps costs (x ∷ xs) l a = a 0 x (omega arith)
 
 module _ (ps : List (List ℤ)) (weight : ℕ) (costs : List ℤ) (bounds : List IntegerBounds) (k : KeptDictionaries) (n : Node) (can : CanStart ps weight costs bounds)
-    (kept : AreKept ps weight costs k) (some : 0 < length k.all) (start : IsStartNode costs bounds n) where
-  pub at_first : IsAt ps weight (kept_at k.all 0) n
-  at_first = start.at ps weight (kept_at k.all 0) can (first_is ps costs k.all some kept.first)
+    (kept : AreKept ps weight costs k) (some : 0 < length k.all) (columns : Option CoefficientColumns) (start : IsStartNode columns costs bounds n) where
+  pub at_first : IfSome columns (AreColumnsOf ps) → IsAt ps weight (kept_at k.all 0) n
+  at_first are = start.at ps weight (kept_at k.all 0) are can (first_is ps costs k.all some kept.first)
 
   pub started_at : (numbers : List ℕ) → started (fraction_program ps costs bounds numbers) ≡ Some (view_with numbers ps (dictionary_at k 0) n)
   started_at numbers = start.started ps weight numbers (kept_at k.all 0) can (first_is ps costs k.all some kept.first)

@@ -15,8 +15,10 @@ use Rattle.integer_tableau.specs.IntegerTableau.{IntegerTableau, of_parts, table
 use Rattle.integer_tableau.specs.Numbers.{IsWithin}
 use Rattle.integer_tableau.specs.Positions.{AreNonbasic}
 use Rattle.integer_tableau.specs.Range.{size_limit}
+use Rattle.integer_tableau.specs.RowSums.{AreColumnsOf, AreRowSums}
 use Rattle.integer_tableau.specs.Start.{columns_from}
 use Rattle.integer_tableau.specs.Substitution.{IsSubstitutedIfFull, IsSubstitutedRow}
+use Rattle.integer_tableau.specs.declared.coefficient_columns.CoefficientColumns.{CoefficientColumns}
 use Rattle.integer_tableau.specs.declared.dictionary.Dictionary.{Dictionary}
 use Rattle.integer_tableau.specs.declared.exits.Edge.{Edge}
 use Rattle.integer_tableau.specs.declared.exits.Exit.{Exit}
@@ -116,6 +118,7 @@ view_of numbers ps d n = tableau_of (length d.rows) numbers (expanded ps (tablea
 pub record IsAt (ps : List (List ℤ)) (weight : ℕ) (d : KeptDictionary) (n : Node) : Type 0 where
   pub compact : IsCompact ps weight n.reach (tableau_at d n)
   pub basis : HaveSameBasis n.positions.items d.positions
+  pub sums : AreRowSums ps n.positions.items n.nonbasic_values.items n.row_sums.items
 
 -- ---- exits
 -- the edges of an exit are the first ones of its variable's row
@@ -167,9 +170,9 @@ pub record IsNewStart (ps : List (List ℤ)) (costs : List ℤ) (d : KeptDiction
   pub first_exit : d.first_exit ≡ 0
   pub exits : d.exits ≡ 0
 
--- what each linear program of these costs and bounds has beside its dictionary at the start
-pub record IsStartNode (costs : List ℤ) (bounds : List IntegerBounds) (n : Node) : Type 0 where
-  pub at : (ps : List (List ℤ)) (weight : ℕ) (d : KeptDictionary) → CanStart ps weight costs bounds → IsStartDictionary ps costs d → IsAt ps weight d n
+-- what each linear program of these costs and bounds has beside its dictionary at the start; where columns are kept, they are its own
+pub record IsStartNode (columns : Option CoefficientColumns) (costs : List ℤ) (bounds : List IntegerBounds) (n : Node) : Type 0 where
+  pub at : (ps : List (List ℤ)) (weight : ℕ) (d : KeptDictionary) → IfSome columns (AreColumnsOf ps) → CanStart ps weight costs bounds → IsStartDictionary ps costs d → IsAt ps weight d n
   pub started : (ps : List (List ℤ)) (weight : ℕ) (numbers : List ℕ) (d : KeptDictionary) → CanStart ps weight costs bounds → IsStartDictionary ps costs d
       → started (fraction_program ps costs bounds numbers) ≡ Some (view_of numbers ps d n)
   pub pivots : n.pivots ≡ 0

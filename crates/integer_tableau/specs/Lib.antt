@@ -27,4 +27,5 @@ pub mod RankedColumns
 pub mod Exits
 pub mod Arena
 pub mod Kept
+pub mod RowSums
 pub mod StoredRun

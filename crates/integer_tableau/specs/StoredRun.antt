@@ -16,6 +16,7 @@ use Rattle.integer_tableau.specs.IntegerTableau.{IntegerTableau, fraction_bounds
 use Rattle.integer_tableau.specs.Kept.{HaveSameDictionaries, IsAt, IsKept, KeptDictionaries, KeptDictionary, dictionary_in, kept_at, row_in}
 use Rattle.integer_tableau.specs.Numbers.{number_at}
 use Rattle.integer_tableau.specs.Pivot.{AreSubstitutedValues, IsPivotOf, is_upper}
+use Rattle.integer_tableau.specs.RowSums.{AreRowSums}
 use Rattle.integer_tableau.specs.Substitution.{quotient_numerator}
 use Rattle.integer_tableau.specs.declared.exits.Edge.{Edge}
 use Rattle.integer_tableau.specs.declared.node.Node.{Node}
@@ -109,6 +110,7 @@ pub record IsTurned (ps : List (List ℤ)) (d : IntegerDictionary) (n : Node) (w
   pub nonbasic_values : m.nonbasic_values.items ≡ slice_set (slice_set n.nonbasic_values.items w.leaving bound) w.entering (pos 0)
   pub positions : m.positions.items ≡ slice_set (slice_set n.positions.items w.leaving (InColumn w.column)) w.entering InBasis
   pub at_upper : m.at_upper.items ≡ slice_set (slice_set n.at_upper.items w.leaving (is_upper w.direction)) w.entering false
+  pub sums : AreRowSums ps m.positions.items m.nonbasic_values.items m.row_sums.items
   pub bounds : m.bounds.items ≡ n.bounds.items
   pub reach : m.reach ≡ n.reach
   pub pivots : m.pivots ≡ n.pivots + 1

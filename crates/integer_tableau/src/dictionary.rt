@@ -76,7 +76,7 @@ fn push_numbers(list: &mut Vec<usize>, count: usize) -> Result<(), AllocError>
 }
 
 impl Dictionaries {
-    /// None.
+    /// No dictionaries.
     pub(crate) fn new(alloc: Global) -> Dictionaries
         ensures all { result.all ≡ [] }
         ensures exits { result.exits ≡ [] }

@@ -34,8 +34,8 @@ const FIRST_CREDIT: u32 = 256 * PRICE;
 /// How many dictionaries tell how large those of a linear program are.
 const SAMPLE: usize = 8;
 
-/// How many words a dictionary takes at most on average: of larger ones fewer than 128 could be kept.
-const MOST_AVERAGE: usize = MOST_WORDS / 128;
+/// How many words a dictionary takes at most on average: of larger ones fewer than 256 could be kept.
+const MOST_AVERAGE: usize = MOST_WORDS / 256;
 
 /// For how many runs the store rests the first time. It rests twice as long each time, until it has been of use.
 const FIRST_REST: u32 = 32;

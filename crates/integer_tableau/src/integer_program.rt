@@ -10,6 +10,7 @@ ghost use Rattle.integer_tableau.specs.Range.{size_limit};
 ghost use Rattle.integer_tableau.specs.IntegerTableau.{fraction_bounds};
 ghost use Rattle.integer_tableau.specs.IntegerProgram.{column_bounds, fraction_program, CanStart};
 
+use crate::coefficient_columns::CoefficientColumns;
 use crate::dictionary_store::DictionaryStore;
 use crate::integer_bounds::IntegerBounds;
 use crate::integer_row::IntegerRow;
@@ -26,6 +27,8 @@ use tableau::{Bounds, Entry, LinearProgram};
 #[derive(Drop)]
 pub struct IntegerProgram {
     pub(crate) rows: RcSlice<ProgramRow>,
+    /// The coefficients of the rows by column; none where they are too many.
+    pub(crate) columns: Option<CoefficientColumns>,
     /// No row has coefficients that are greater together.
     pub(crate) weight: u64,
     pub(crate) costs: IntegerRow,
@@ -38,13 +41,15 @@ pub struct IntegerProgram {
 impl Model for IntegerProgram {
     ghost use Rattle.tableau.specs.LinearProgram.{LinearProgram as Described};
     ghost use Rattle.integer_tableau.specs.IntegerProgram.{fraction_program, CanStart};
+    ghost use Rattle.std.specs.Prelude.{IfSome};
     ghost use Rattle.integer_tableau.specs.Kept.{AreKept};
+    ghost use Rattle.integer_tableau.specs.RowSums.{AreColumnsOf};
 
     ghost Value = { Described };
 
     ghost view = { λ p. fraction_program p.rows.items.value.items p.costs p.bounds.items p.numbers.items };
 
-    ghost invariant = { λ p. CanStart p.rows.items.value.items p.weight p.costs p.bounds.items × AreKept p.rows.items.value.items p.weight p.costs p.store.kept };
+    ghost invariant = { λ p. CanStart p.rows.items.value.items p.weight p.costs p.bounds.items × AreKept p.rows.items.value.items p.weight p.costs p.store.kept × IfSome p.columns (AreColumnsOf p.rows.items.value.items) };
 }
 
 /// The whole number of a fraction; none where it isn't whole, or has more than 64 bits.
@@ -280,8 +285,10 @@ impl IntegerProgram {
         requires { CanStart rows.items.value.items weight costs bounds.items }
         ensures { result ≡ fraction_program rows.items.value.items costs bounds.items numbers.items }
     {
+        let columns = CoefficientColumns::make(alloc, &rows, costs.width(), weight);
         IntegerProgram {
             rows,
+            columns,
             weight,
             costs,
             bounds,

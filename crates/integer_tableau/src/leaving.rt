@@ -17,7 +17,7 @@ use std::alloc::{AllocError, Global};
 use tableau::Direction;
 
 /// The least basic column outside its bounds, if there is one, and the direction in which it has to go.
-fn leaving_column(
+pub(crate) fn leaving_column(
     positions: &[Position],
     bounds: &[IntegerBounds],
     values: &[i64],

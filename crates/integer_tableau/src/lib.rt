@@ -3,6 +3,7 @@
 
 mod answers;
 mod basic_columns;
+mod coefficient_columns;
 mod combination;
 mod combined_sizes;
 mod conversion;
@@ -36,6 +37,7 @@ mod rank_order;
 mod ranked_column;
 mod reading;
 mod request;
+mod row_sums;
 mod run;
 mod same_basis;
 mod scaling;

@@ -4,7 +4,9 @@ ghost use Rattle.std.specs.Prelude.{◌≡◌, ◌<◌, ◌+◌, ℕ, ℤ, List,
 ghost use Rattle.integer_tableau.specs.Exits.{IsOnceEach};
 ghost use Rattle.integer_tableau.specs.Kept.{IsAt, IsKept, IsStartNode, kept_at, view_of};
 ghost use Rattle.integer_tableau.specs.Positions.{AreNonbasic};
+ghost use Rattle.integer_tableau.specs.RowSums.{AreColumnsOf};
 
+use crate::coefficient_columns::CoefficientColumns;
 use crate::dictionary::Dictionaries;
 use crate::integer_bounds::IntegerBounds;
 use crate::integer_row::IntegerRow;
@@ -12,6 +14,7 @@ use crate::integer_tableau::{Fixed, IntegerTableau};
 use crate::pivot::is_near;
 use crate::position::Position;
 use crate::program_row::ProgramRow;
+use crate::row_sums::kept_start_sums;
 use crate::start::{
     empty_rows, has_room, reach_of, start_at_upper, start_numbers, start_positions,
 };
@@ -30,6 +33,8 @@ pub(crate) struct Node {
     pub(crate) nonbasic_values: Vec<i64>,
     /// Of each column.
     pub(crate) values: Vec<i64>,
+    /// Of each row, the sum over the nonbasic columns, modulo 2^64; none where they aren't kept.
+    pub(crate) row_sums: Vec<i64>,
     pub(crate) pivots: u64,
 }
 
@@ -75,21 +80,24 @@ impl Node {
     pub(crate) fn start(
         alloc: Global,
         rows: usize,
+        columns: &Option<CoefficientColumns>,
         costs: &IntegerRow,
         bounds: Vec<IntegerBounds>,
     ) -> Result<Option<Node>, AllocError>
-        requires { length bounds.items ≡ length costs.now + rows }
-        ensures { IfOk result (λ o. IfSome o (λ n. IsStartNode costs.now bounds.items n)) }
+        requires there { length bounds.items ≡ length costs.now + rows }
+        requires columns { (ps : List (List ℤ)) × IfSome columns.now (AreColumnsOf ps) }
+        ensures { IfOk result (λ o. IfSome o (λ n. IsStartNode columns.now costs.now bounds.items n)) }
     {
-        let columns = costs.width();
-        let reach = reach_of(&bounds, columns);
+        let width = costs.width();
+        let reach = reach_of(&bounds, width);
         if !has_room(&bounds) || !is_near(reach, 1) {
             return Ok(None);
         }
-        let positions = start_positions(alloc, columns, rows)?;
+        let positions = start_positions(alloc, width, rows)?;
         let at_upper = start_at_upper(alloc, costs.numerators(), rows)?;
         let nonbasic_values = start_numbers(alloc, costs.numerators(), &bounds, rows)?;
-        let values = Vec::from_elem(alloc, 0, columns)?;
+        let values = Vec::from_elem(alloc, 0, width)?;
+        let row_sums = kept_start_sums(alloc, columns, width, &nonbasic_values)?;
         Ok(Some(Node {
             bounds,
             reach,
@@ -97,6 +105,7 @@ impl Node {
             at_upper,
             nonbasic_values,
             values,
+            row_sums,
             pivots: 0,
         }))
     }

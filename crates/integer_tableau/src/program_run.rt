@@ -58,13 +58,15 @@ impl IntegerProgram {
             return self.run_apart(alloc, area, cap);
         }
         let bounds = bounds_over(alloc, area, self.costs.width(), &self.bounds)?;
-        let Some(node) = Node::start(alloc, self.rows.len(), &self.costs, bounds)? else {
+        let Some(node) = Node::start(alloc, self.rows.len(), &self.columns, &self.costs, bounds)?
+        else {
             return Ok(None);
         };
         Ok(Some(run_stored(
             alloc,
             &self.numbers,
             &self.rows,
+            &self.columns,
             self.weight,
             &mut self.store,
             node,

@@ -1,18 +1,20 @@
 // What a node asks for at its dictionary.
 
-ghost use Rattle.std.specs.Prelude.{◌≡◌, ◌<◌, ℕ, ℤ, List, false, length, All, IfOk, OnOk, Some};
+ghost use Rattle.std.specs.Prelude.{◌≡◌, ◌<◌, ℕ, ℤ, List, false, length, All, IfOk, IfSome, OnOk, Some};
 ghost use Rattle.integer_tableau.specs.Combined.{expanded_values};
 ghost use Rattle.integer_tableau.specs.Exits.{edge_at, edge_enters};
 ghost use Rattle.integer_tableau.specs.Kept.{AreKept, HaveSameDictionaries, IsAt, IsTaken, edges_of, exit_at, kept_at, row_in};
 ghost use Rattle.integer_tableau.specs.Leaving.{leaving_by_numerators};
+ghost use Rattle.integer_tableau.specs.RowSums.{AreColumnsOf};
 ghost use Rattle.integer_tableau.specs.declared.exits.Edge.{Edge};
 ghost use Rattle.integer_tableau.specs.StoredRun.{HasEdge, HasRow, IsNodeOf, IsRequestAt, dictionary_at, turn_of};
 
+use crate::coefficient_columns::CoefficientColumns;
 use crate::dictionary::Dictionaries;
 use crate::dictionary_store::DictionaryStore;
-use crate::leaving::leaving;
 use crate::node::Node;
 use crate::program_row::ProgramRow;
+use crate::row_sums::leaving_with_sums;
 use std::alloc::{AllocError, Global};
 use tableau::{Direction, Place};
 
@@ -51,16 +53,21 @@ pub(crate) enum Request {
 fn leaving_at(
     alloc: Global,
     program_rows: &[ProgramRow],
+    columns: &Option<CoefficientColumns>,
     dictionaries: &Dictionaries,
     place: usize,
     node: &Node,
 ) -> Result<Option<(usize, Direction)>, AllocError>
+    requires columns { IfSome columns.now (AreColumnsOf program_rows.now) }
     requires there { place < length dictionaries.now.all }
     requires node { IsNodeOf program_rows.now (kept_at dictionaries.now.all place) node.now }
     ensures { IfOk result (λ l. l ≡ leaving_by_numerators (dictionary_at dictionaries.now place).denominator 0 (dictionary_at dictionaries.now place).positions node.now.bounds.items (expanded_values (dictionary_at dictionaries.now place).denominator program_rows.now (dictionary_at dictionaries.now place).positions node.now.nonbasic_values.items node.now.values.items)) }
 {
-    leaving(
+    leaving_with_sums(
         alloc,
+        columns,
+        &node.row_sums,
+        node.reach,
         program_rows,
         &node.positions,
         &node.bounds,
@@ -166,9 +173,11 @@ impl DictionaryStore {
         &mut self,
         alloc: Global,
         program_rows: &[ProgramRow],
+        columns: &Option<CoefficientColumns>,
         place: usize,
         node: &Node,
     ) -> Request
+        requires columns { IfSome columns.now (AreColumnsOf program_rows.now) }
         requires there { place < length self.old.kept.all }
         requires node { (weight : ℕ) × (costs : List ℤ) × AreKept program_rows.now weight costs self.old.kept × IsAt program_rows.now weight (kept_at self.old.kept.all place) node.now }
         ensures same { HaveSameDictionaries self.new.kept self.old.kept }
@@ -177,7 +186,7 @@ impl DictionaryStore {
         ensures edge { HasEdge self.new.kept place result }
         ensures row { HasRow program_rows.now (kept_at self.new.kept.all place) self.new.row result }
     {
-        let Ok(found) = leaving_at(alloc, program_rows, &self.kept, place, node) else {
+        let Ok(found) = leaving_at(alloc, program_rows, columns, &self.kept, place, node) else {
             return Request::Unknown;
         };
         let Some((variable, direction)) = found else {

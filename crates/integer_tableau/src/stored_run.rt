@@ -1,11 +1,13 @@
 // Runs by dictionaries that are kept.
 
-ghost use Rattle.std.specs.Prelude.{◌≡◌, ◌≢◌, ◌≤◌, ◌<◌, ◌+◌, ◌^◌, ℤ, List, length, IfErr, IfOk};
+ghost use Rattle.std.specs.Prelude.{◌≡◌, ◌≢◌, ◌≤◌, ◌<◌, ◌+◌, ◌^◌, ℤ, List, length, IfErr, IfOk, IfSome};
 ghost use Rattle.tableau.specs.Place.{PlaceIsWithin};
 ghost use Rattle.tableau.specs.Run.{EndsAs, run_from};
 ghost use Rattle.integer_tableau.specs.Kept.{AreKept, IsAt, kept_at, view_of};
+ghost use Rattle.integer_tableau.specs.RowSums.{AreColumnsOf};
 ghost use Rattle.integer_tableau.specs.StoredRun.{IsStep, dictionary_at, view_with};
 
+use crate::coefficient_columns::CoefficientColumns;
 use crate::dictionary_store::DictionaryStore;
 use crate::node::Node;
 use crate::pivot::size_of;
@@ -34,12 +36,14 @@ pub(crate) enum Step {
 fn make_step(
     alloc: Global,
     program_rows: &[ProgramRow],
+    columns: &Option<CoefficientColumns>,
     weight: u64,
     store: &mut DictionaryStore,
     place: usize,
     node: &mut Node,
 ) -> Step
     requires kept { (costs : List ℤ) × AreKept program_rows.now weight costs store.old.kept }
+    requires columns { IfSome columns.now (AreColumnsOf program_rows.now) }
     requires there { place < length store.old.kept.all }
     requires at { IsAt program_rows.now weight (kept_at store.old.kept.all place) node.old }
     requires room { node.old.pivots + 1 < 2 ^ 64 }
@@ -49,7 +53,7 @@ fn make_step(
     if store.is_closed() {
         return Step::Closed;
     }
-    let turn = match store.request(alloc, program_rows, place, node) {
+    let turn = match store.request(alloc, program_rows, columns, place, node) {
         Request::Stops(last) => return Step::Ended(last),
         Request::Unknown => return Step::Closed,
         Request::Goes(turn) => turn,
@@ -57,7 +61,7 @@ fn make_step(
     let Some(size) = size_of(turn.coefficient) else {
         return Step::GivenUp;
     };
-    if !node.turn(program_rows, &store.kept, place, turn, size) {
+    if !node.turn(program_rows, columns, &store.kept, place, turn, size) {
         return Step::GivenUp;
     }
     match store.target(alloc, program_rows, weight, place, node, turn, size) {
@@ -131,12 +135,14 @@ pub(crate) fn run_stored(
     alloc: Global,
     numbers: &[u32],
     program_rows: &RcSlice<ProgramRow>,
+    columns: &Option<CoefficientColumns>,
     weight: u64,
     store: &mut DictionaryStore,
     node: Node,
     cap: u64,
 ) -> Result<IntegerRunEnd, u64>
     requires kept { (costs : List ℤ) × AreKept program_rows.now.items.value.items weight costs store.old.kept }
+    requires columns { IfSome columns.now (AreColumnsOf program_rows.now.items.value.items) }
     requires some { 0 < length store.old.kept.all }
     requires at { IsAt program_rows.now.items.value.items weight (kept_at store.old.kept.all 0) node }
     requires fresh { node.pivots ≡ 0 }
@@ -150,7 +156,15 @@ pub(crate) fn run_stored(
     let mut node = node;
     let mut place = 0;
     for made in 0..cap {
-        match make_step(alloc, program_rows, weight, store, place, &mut node) {
+        match make_step(
+            alloc,
+            program_rows,
+            columns,
+            weight,
+            store,
+            place,
+            &mut node,
+        ) {
             Step::Moved(next) => place = next,
             Step::Ended(last) => {
                 return ended(

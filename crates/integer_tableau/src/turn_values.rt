@@ -1,11 +1,13 @@
 // What a turn changes of a node.
 
-ghost use Rattle.std.specs.Prelude.{◌≡◌, ◌<◌, ◌+◌, ◌*◌, ◌^◌, ◌+ℤ◌, ◌-ℤ◌, ◌*ℤ◌, ℕ, ℤ, pos, nat_abs, length, slice_index_or, IsTrue};
+ghost use Rattle.std.specs.Prelude.{◌≡◌, ◌<◌, ◌+◌, ◌*◌, ◌^◌, ◌+ℤ◌, ◌-ℤ◌, ◌*ℤ◌, ℕ, ℤ, pos, nat_abs, length, slice_index_or, IfSome, IsTrue};
 ghost use Rattle.integer_tableau.specs.Arena.{flat_row};
 ghost use Rattle.integer_tableau.specs.Kept.{kept_at};
 ghost use Rattle.integer_tableau.specs.Numbers.{number_at};
+ghost use Rattle.integer_tableau.specs.RowSums.{AreColumnsOf};
 ghost use Rattle.integer_tableau.specs.StoredRun.{IsNodeOf, IsTurnAt, IsTurned, dictionary_at};
 
+use crate::coefficient_columns::CoefficientColumns;
 use crate::dictionary::Dictionaries;
 use crate::divisor::Divisor;
 use crate::node::Node;
@@ -13,6 +15,7 @@ use crate::pivot::{is_near, is_upper, size_of, value_of};
 use crate::position::Position;
 use crate::program_row::ProgramRow;
 use crate::request::Turn;
+use crate::row_sums::turn_kept_sums;
 use crate::values::{entering_value, put_value, substituted_value};
 
 /// The values of the basic columns behind a turn, by the column of the entering variable in their rows; false where one isn't exact, or is too large.
@@ -58,12 +61,14 @@ impl Node {
     pub(crate) fn turn(
         &mut self,
         program_rows: &[ProgramRow],
+        columns: &Option<CoefficientColumns>,
         dictionaries: &Dictionaries,
         place: usize,
         turn: Turn,
         size: i64,
     ) -> bool
         requires node { IsNodeOf program_rows.now (kept_at dictionaries.now.all place) self.old }
+        requires columns { IfSome columns.now (AreColumnsOf program_rows.now) }
         requires there { place < length dictionaries.now.all }
         requires turn { IsTurnAt program_rows.now (dictionary_at dictionaries.now place) self.old turn }
         requires size { size ≡ pos (nat_abs turn.coefficient) }
@@ -104,6 +109,14 @@ impl Node {
         {
             return false;
         }
+        turn_kept_sums(
+            &mut self.row_sums,
+            columns,
+            turn.leaving,
+            bound,
+            turn.entering,
+            left,
+        );
         self.nonbasic_values[turn.leaving] = bound;
         self.nonbasic_values[turn.entering] = 0;
         self.positions[turn.leaving] = Position::InColumn(turn.column);

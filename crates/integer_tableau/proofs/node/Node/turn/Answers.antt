@@ -9,6 +9,7 @@ use Rattle.integer_tableau.proofs.Arenas.{rows_many}
 use Rattle.integer_tableau.proofs.BasicColumns.{column_within, columns_rise}
 use Rattle.integer_tableau.proofs.FromCode.{near_from_code}
 use Rattle.integer_tableau.proofs.Lists.{size_is}
+use Rattle.integer_tableau.proofs.RowSums.{in_some_column}
 use Rattle.integer_tableau.proofs.SameBasis.{same_values}
 use Rattle.integer_tableau.proofs.Sizes.{written}
 use Rattle.integer_tableau.proofs.Turns.{turned_values}
@@ -19,6 +20,7 @@ use Rattle.integer_tableau.specs.Kept.{KeptDictionaries, KeptDictionary, kept_at
 use Rattle.integer_tableau.specs.Numbers.{number_at}
 use Rattle.integer_tableau.specs.Pivot.{AreSubstitutedValues}
 use Rattle.integer_tableau.specs.Substitution.{quotient_numerator}
+use Rattle.integer_tableau.specs.declared.position.Position.TheVariants.{InBasis, InColumn}
 use Rattle.integer_tableau.proofs.node.Node.turn.Goals as goal
 
 pub value_of-value-requires-clause-near : goal.value_of-value-requires-clause-near
@@ -66,6 +68,9 @@ returns-clause-turned c = λ _.
     let fm : SFits w64 c.number-2.result = search rules in
     let fv : SFits w128 c.value_of-value.result = search rules in
     let fy : SFits w128 c.in-Some.entering = search rules in
+    let same = c.requires.node.at.basis in
+    let entering_at = in_some_column (get_or n.positions.items t.entering InBasis)
+    (λ e. let no : InBasis ≡ InColumn t.column = sym (same.to t.entering e) ∙ c.requires.turn.column in cc) in
     let own = c.index.result.now in
     let own_there : t.leaving < length n.bounds.items = omega (arith, c.requires.turn.leaving, compact.consistent.bounds) in
     let own_is : get_or (map fraction_bounds n.bounds.items) t.leaving unbounded ≡ fraction_bounds own =
@@ -113,6 +118,8 @@ returns-clause-turned c = λ _.
         nonbasic_values = refl;
         positions = refl;
         at_upper = search (rules, c.is_upper.ensures);
+        sums = c.turn_kept_sums.ensures ps n.positions.items xs t.column entering_at.0 c.requires.columns c.requires.node.at.sums (compact.consistent.nonbasic_values ∙ sym same.count)
+            (omega (arith, c.requires.turn.leaving, same.count)) (omega (arith, c.requires.turn.entering, same.count)) (same.back t.leaving c.requires.turn.basic) entering_at.1 (sym left);
         bounds = refl;
         reach = refl;
         pivots = refl;
