@@ -14,7 +14,7 @@ use Rattle.tableau.specs.declared.bounds.Bounds.{Bounds}
 use Rattle.tableau.specs.declared.bounds.Direction.{Direction}
 
 -- of two that may both enter the old one stays, if the new one doesn't come first
-kept : (new best : Candidate) → 0 < new.coefficient → (best.coefficient ≡ 0 → 0 < best.reduced_cost) → comes_first new best ≡ false
+pub kept : (new best : Candidate) → 0 < new.coefficient → (best.coefficient ≡ 0 → 0 < best.reduced_cost) → comes_first new best ≡ false
     → candidate_if_there best ≡ first_of (Some new) (candidate_if_there best)
 kept new best o great l = by_test (nat_eq best.coefficient 0) refl
   where

@@ -93,7 +93,7 @@ module _ (w : Direction) (ss : List Position) (us : List Bool) (bs : List Intege
   pub have : (v : ℕ) → IfSome (at v) (λ c. 0 < c.coefficient)
   have v = candidate_has v w (status (get_or ss v InBasis) (get_or us v false)) (fraction_bounds (get_or bs v (record { lower = None; upper = None }))) (numerator costs (get_or ss v InBasis)) (numerator row (get_or ss v InBasis))
 
-  numbered : (v : ℕ) → IfSome (at v) (λ c. c.variable ≡ v)
+  pub numbered : (v : ℕ) → IfSome (at v) (λ c. c.variable ≡ v)
   numbered v = candidate_numbered v w (status (get_or ss v InBasis) (get_or us v false)) (fraction_bounds (get_or bs v (record { lower = None; upper = None }))) (numerator costs (get_or ss v InBasis)) (numerator row (get_or ss v InBasis))
 
   -- from variable j on, which these further lists have

@@ -79,12 +79,12 @@ module _ {X : Type 0} (test : X → Bool) (xs : List X) where
       sym ((λ j. cond (nat_lt (at j) n) (Some (at j)) None) ∙ ap (λ t. cond t (Some n) None) below)
 
 -- ---- coefficients that are 0
-zero_or : (t : ℤ) → (t ≡ pos 0) ⊎ (0 < nat_abs t)
+pub zero_or : (t : ℤ) → (t ≡ pos 0) ⊎ (0 < nat_abs t)
 zero_or (pos zero) = inl refl
 zero_or (pos (suc n)) = inr (omega arith)
 zero_or (negsuc n) = inr (omega arith)
 
-not_eligible : (w : Direction) (s : BasisStatus) → is_eligible_numerator w s (pos 0) ≡ false
+pub not_eligible : (w : Direction) (s : BasisStatus) → is_eligible_numerator w s (pos 0) ≡ false
 not_eligible Rise Basic = refl
 not_eligible Rise AtLower = refl
 not_eligible Rise AtUpper = refl

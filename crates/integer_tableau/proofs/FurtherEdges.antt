@@ -25,7 +25,7 @@ use Rattle.integer_tableau.specs.declared.ranked_column.RankedColumn.{RankedColu
 use Rattle.tableau.specs.declared.bounds.Direction.{Direction}
 
 -- ---- the order
-abbrev Comes : Candidate → Candidate → Type 0
+abbrev pub Comes : Candidate → Candidate → Type 0
 Comes b c = comes_first b c ≡ true
 
 -- by products p and q and by numbers m and n
@@ -41,11 +41,11 @@ precedes b c e = by_test_true (b.reduced_cost * c.coefficient) (c.reduced_cost *
 no_later : (b c : Candidate) → comes_first b c ≡ false → Precedes c b
 no_later b c e = by_test_false (b.reduced_cost * c.coefficient) (c.reduced_cost * b.coefficient) b.variable c.variable e
 
-never_both : (b c : Candidate) → Comes b c → Comes c b → ⊥
+pub never_both : (b c : Candidate) → Comes b c → Comes c b → ⊥
 never_both b c e f = not_after b c e (precedes c b f)
 
 -- a is no later than b, which comes before c
-before : (a b c : Candidate) → 0 < a.coefficient → 0 < b.coefficient → 0 < c.coefficient → comes_first b a ≡ false → Comes b c → Comes a c
+pub before : (a b c : Candidate) → 0 < a.coefficient → 0 < b.coefficient → 0 < c.coefficient → comes_first b a ≡ false → Comes b c → Comes a c
 before a b c oa ob oc e f = by_test (comes_first a c) refl
   where
     by_test : (t : Bool) → comes_first a c ≡ t → Comes a c
@@ -60,10 +60,10 @@ not_itself b = by_test (comes_first b b) refl
     by_test false e = e
 
 -- ---- between two candidates
-abbrev IsBehind : Option Candidate → Candidate → Type 0
+abbrev pub IsBehind : Option Candidate → Candidate → Type 0
 IsBehind last c = IfSome last (λ l. Comes l c)
 
-turned : (t : Bool) → not t ≡ true → t ≡ false
+pub turned : (t : Bool) → not t ≡ true → t ≡ false
 turned true e = cc
 turned false e = refl
 
@@ -76,11 +76,11 @@ both_true true true e = (refl, refl)
 both_true true false e = cc
 both_true false t e = cc
 
-not_behind_best : (last : Option Candidate) (best c : Candidate) → is_between last best c ≡ true → comes_first best c ≡ false
+pub not_behind_best : (last : Option Candidate) (best c : Candidate) → is_between last best c ≡ true → comes_first best c ≡ false
 not_behind_best None best c e = turned (comes_first best c) e
 not_behind_best (Some l) best c e = turned (comes_first best c) (both_true (comes_first l c) (not (comes_first best c)) e).1
 
-behind_last : (last : Option Candidate) (best c : Candidate) → is_between last best c ≡ true → IsBehind last c
+pub behind_last : (last : Option Candidate) (best c : Candidate) → is_between last best c ≡ true → IsBehind last c
 behind_last None best c e = tt
 behind_last (Some l) best c e = (both_true (comes_first l c) (not (comes_first best c)) e).0
 
@@ -88,7 +88,7 @@ behind_best : (last : Option Candidate) (best c : Candidate) → IsBehind last c
 behind_best None best c h e = turned_back (comes_first best c) e
 behind_best (Some l) best c h e = turned_back (comes_first best c) (ap (λ t. t && not (comes_first best c)) (sym h) ∙ e)
 
-is_there : (last : Option Candidate) (best c : Candidate) → IsBehind last c → comes_first best c ≡ false → is_between last best c ≡ true
+pub is_there : (last : Option Candidate) (best c : Candidate) → IsBehind last c → comes_first best c ≡ false → is_between last best c ≡ true
 is_there None best c h e = ap not e
 is_there (Some l) best c h e = (λ i. h i && not (e i))
 

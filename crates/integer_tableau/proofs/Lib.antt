@@ -23,6 +23,7 @@ mod KeptSums
 mod KeptRows
 mod MadeKept
 mod Moves
+mod NonbasicCounts
 mod MadeMoves
 mod StartKept
 mod StoredRuns
@@ -33,6 +34,7 @@ mod ExitPieces
 mod ExitsKept
 mod ExitsFurther
 mod ExitViews
+mod FreeEdges
 mod FirstOf
 mod Candidates
 mod EnteringByColumn
@@ -62,6 +64,7 @@ mod ToFractions
 mod Products
 mod LowSums
 mod RowSums
+mod StartSums
 mod CoefficientColumns
 mod SmallTimes
 mod ScaledNumbers
@@ -76,3 +79,4 @@ mod StartStored
 mod ValueSteps
 mod ColumnSteps
 mod ColumnSums
+mod DroppedColumns

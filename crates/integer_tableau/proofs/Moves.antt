@@ -19,7 +19,7 @@ use Rattle.integer_tableau.proofs.MadeKept.{made_pivot}
 use Rattle.integer_tableau.proofs.StoredSteps.{size_of, step_is}
 use Rattle.integer_tableau.specs.Combined.{IsCompact, expanded, expanded_values}
 use Rattle.integer_tableau.specs.Consistent.{IsConsistent}
-use Rattle.integer_tableau.specs.Exits.{edge_at}
+use Rattle.integer_tableau.specs.Exits.{are_free, edge_at}
 use Rattle.integer_tableau.specs.IntegerDictionary.{ArePositionsBehind, IntegerDictionary, program_of}
 use Rattle.integer_tableau.specs.IntegerTableau.{IntegerTableau, fraction_bounds, of_parts, value}
 use Rattle.integer_tableau.specs.Kept.{AreKept, HaveSameBasis, IsAt, IsKept, KeptDictionaries, KeptDictionary, dictionary_in, Leads, kept_at, row_in, tableau_at, view_of}
@@ -170,6 +170,7 @@ module _ (ps : List (List ℤ)) (weight : ℕ) (k : KeptDictionaries) (p : ℕ) 
     basis = subst (λ ss. HaveSameBasis ss e.positions) (sym t.turned.positions)
         (same_behind n.positions.items d.positions e.positions w.leaving w.entering w.column t.at.basis t.turn.basic t.turn.column t.turn.leaving t.turn.entering behind);
     sums = t.turned.sums;
+    free = t.turned.free ∙ t.at.free ∙ ap are_free (sym t.turned.bounds);
   }
 
   pub pivot_moves : (after : KeptDictionaries) (q : ℕ) → q < length after.all → IsPivoted ps weight n.reach w.leaving w.entering before (tableau_at (kept_at after.all q) m)

@@ -54,6 +54,7 @@ at_same ps weight d e n same h = record {
   compact = subst (λ (m : IntegerDictionary). IsCompact ps weight n.reach (tableau_with m n)) same h.compact;
   basis = subst (λ (m : IntegerDictionary). HaveSameBasis n.positions.items m.positions) same h.basis;
   sums = h.sums;
+  free = h.free;
 }
 
 -- the row of a variable

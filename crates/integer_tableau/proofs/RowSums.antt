@@ -1,5 +1,5 @@
 -- The values of rows by sums over the nonbasic columns and products of the basic ones.
-use Rattle.std.proofs.Common.{◌≡◌, ◌≢◌, ℕ, zero, suc, ◌+◌, ◌*◌, ◌^◌, ◌<◌, ◌≤◌, arith, refl, ap, sym, ◌∙◌, subst, Option, None, Some, List, [], ◌∷◌, ◌++◌, length, get_or, set, take, drop, drop-cons, get_or-set_other}
+use Rattle.std.proofs.Common.{◌≡◌, ◌≢◌, ℕ, zero, suc, ◌+◌, ◌*◌, ◌^◌, ◌<◌, ◌≤◌, arith, refl, ap, sym, ◌∙◌, subst, Option, None, Some, List, [], ◌∷◌, ◌++◌, length, get_or, set, drop, drop-cons, get_or-set_other}
 use Rattle.std.specs.Prelude.{ℤ, pos, nat_abs, neg_ℤ, map, ◌+ℤ◌, ◌*ℤ◌}
 use Rattle.std.specs.Int.{w64, int_wrap}
 use lib.IntN.{*ℤ_comm}
@@ -197,22 +197,6 @@ turned_wrapped new between old sum b left z w e f g =
     ∙ int_wrap-add_same w64 between (sum +ℤ b *ℤ z) (neg_ℤ left *ℤ w) (f ∙ int_wrap-add_same w64 old sum (b *ℤ z) e)
 
 -- ---- the sums at the start
--- a column more
-pub column_added : (cs xs : List ℤ) (n : ℕ) → n < length cs → n < length xs → products (take (n + 1) cs) xs ≡ products (take n cs) xs +ℤ number_at xs n *ℤ number_at cs n
-column_added cs xs n l m = ap (λ k. products (take k cs) xs) (let q : n + 1 ≡ suc n = omega arith in q) ∙ one_more cs xs n l m
-  where
-    last : (y z : ℤ) → y +ℤ pos 0 ≡ pos 0 +ℤ y
-    last y z = omega (arith, ints)
-
-    before : (x y z : ℤ) → x +ℤ (y +ℤ z) ≡ (x +ℤ y) +ℤ z
-    before x y z = omega (arith, ints)
-
-    one_more : (cs xs : List ℤ) (n : ℕ) → n < length cs → n < length xs → products (take (suc n) cs) xs ≡ products (take n cs) xs +ℤ number_at xs n *ℤ number_at cs n
-    one_more [] xs n l m = absurd (omega (arith, l))
-    one_more (c ∷ cs) [] n l m = absurd (omega (arith, m))
-    one_more (c ∷ cs) (x ∷ xs) zero l m = last (c *ℤ x) x ∙ ap (λ z. pos 0 +ℤ z) (*ℤ_comm c x)
-    one_more (c ∷ cs) (x ∷ xs) (suc n) l m = ap (λ z. c *ℤ x +ℤ z) (one_more cs xs n (omega (arith, l)) (omega (arith, m))) ∙ before (c *ℤ x) (products (take n cs) xs) (number_at xs n *ℤ number_at cs n)
-
 -- of all columns, where none is basic
 pub all_nonbasic : (cs : List ℤ) (ss : List Position) (xs : List ℤ) → length cs ≤ length ss → ((j : ℕ) → j < length cs → get_or ss j InBasis ≢ InBasis) → products cs xs ≡ nonbasic_sum cs ss xs
 all_nonbasic [] ss xs l h = refl

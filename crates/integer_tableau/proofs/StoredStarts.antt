@@ -4,13 +4,14 @@ use Rattle.std.specs.Prelude.{ℤ, Result, Ok, Err, IfOk, IfSome}
 use Rattle.std.proofs.lemmas.List.{length-append, length-drop, length-map}
 use Rattle.integer_tableau.specs.IntegerProgram.{CanStart, column_bounds, fraction_program}
 use Rattle.integer_tableau.specs.Kept.{AreKept, IsAt, IsStartDictionary, IsStartNode, KeptDictionaries, KeptDictionary, kept_at}
-use Rattle.integer_tableau.specs.RowSums.{AreColumnsOf}
+use Rattle.integer_tableau.specs.RowSums.{AreColumnsOf, AreColumnSums}
 use Rattle.integer_tableau.specs.Run.{IsRunOver}
 use Rattle.integer_tableau.specs.StoredRun.{dictionary_at, view_with}
 use Rattle.integer_tableau.specs.declared.coefficient_columns.CoefficientColumns.{CoefficientColumns}
 use Rattle.integer_tableau.specs.declared.integer_bounds.IntegerBounds.{IntegerBounds}
 use Rattle.integer_tableau.specs.declared.node.Node.{Node}
 use Rattle.integer_tableau.specs.declared.run.IntegerRunEnd.{IntegerRunEnd}
+use Rattle.integer_tableau.specs.declared.start_sums.StartSums.{StartSums}
 use Rattle.problem_box.specs.declared.span.Span.{Span}
 use Rattle.tableau.specs.LinearProgram.{LinearProgram}
 use Rattle.tableau.specs.Run.{EndsAs, run_from}
@@ -34,9 +35,9 @@ first_is ps costs [] l a = absurd (let f : ⊥ = omega (arith, l) in f)
 first_is ps costs (x ∷ xs) l a = a 0 x (omega arith)
 
 module _ (ps : List (List ℤ)) (weight : ℕ) (costs : List ℤ) (bounds : List IntegerBounds) (k : KeptDictionaries) (n : Node) (can : CanStart ps weight costs bounds)
-    (kept : AreKept ps weight costs k) (some : 0 < length k.all) (columns : Option CoefficientColumns) (start : IsStartNode columns costs bounds n) where
-  pub at_first : IfSome columns (AreColumnsOf ps) → IsAt ps weight (kept_at k.all 0) n
-  at_first are = start.at ps weight (kept_at k.all 0) are can (first_is ps costs k.all some kept.first)
+    (kept : AreKept ps weight costs k) (some : 0 < length k.all) (columns : Option CoefficientColumns) (sums : StartSums) (start : IsStartNode columns sums costs bounds n) where
+  pub at_first : IfSome columns (AreColumnsOf ps) → AreColumnSums ps sums.values.items sums.sums.items → IsAt ps weight (kept_at k.all 0) n
+  at_first are sums_are = start.at ps weight (kept_at k.all 0) are sums_are can (first_is ps costs k.all some kept.first)
 
   pub started_at : (numbers : List ℕ) → started (fraction_program ps costs bounds numbers) ≡ Some (view_with numbers ps (dictionary_at k 0) n)
   started_at numbers = start.started ps weight numbers (kept_at k.all 0) can (first_is ps costs k.all some kept.first)

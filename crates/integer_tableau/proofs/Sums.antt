@@ -101,7 +101,7 @@ products-set_left (y ∷ zs) (x ∷ xs) (suc i) z e l = turn (y *ℤ x) _ _ _ _ 
     turn : (a p b q c : ℤ) → p +ℤ b ≡ q +ℤ c → (a +ℤ p) +ℤ b ≡ (a +ℤ q) +ℤ c
     turn a p b q c h = omega (arith, ints, h)
 
-products-set_right : (zs xs : List ℤ) (i : ℕ) (x : ℤ) → length zs ≡ length xs → i < length zs → products zs (set xs i x) +ℤ number_at zs i *ℤ number_at xs i ≡ products zs xs +ℤ number_at zs i *ℤ x
+pub products-set_right : (zs xs : List ℤ) (i : ℕ) (x : ℤ) → length zs ≡ length xs → i < length zs → products zs (set xs i x) +ℤ number_at zs i *ℤ number_at xs i ≡ products zs xs +ℤ number_at zs i *ℤ x
 products-set_right [] xs i x e l = absurd (omega arith)
 products-set_right (y ∷ zs) [] i x e l = absurd (omega arith)
 products-set_right (y ∷ zs) (w ∷ xs) zero x e l = turn (y *ℤ x) (products zs xs) (y *ℤ w)

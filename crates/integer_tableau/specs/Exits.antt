@@ -1,5 +1,5 @@
 -- Who enters where a variable leaves: by an order that doesn't depend on bounds and values.
-use Rattle.std.specs.Prelude.{◌≡◌, ◌<◌, ◌-◌, ◌&&◌, ◌⊎◌, ℕ, ℤ, pos, nat_abs, not, List, length, slice_index_or, Bool, true, false, Option, None, Some}
+use Rattle.std.specs.Prelude.{◌≡◌, ◌<◌, ◌-◌, ◌&&◌, ◌⊎◌, ℕ, ℤ, pos, nat_abs, not, List, length, map, slice_index_or, Bool, true, false, Option, None, Some}
 use Rattle.tableau.specs.Leaving.{bounds_differ}
 use Rattle.tableau.specs.declared.bounds.Direction.{Direction}
 use Rattle.integer_tableau.specs.Entering.{comes_first, is_eligible_at}
@@ -20,6 +20,11 @@ candidate_by costs e = record { variable = e.entering; reduced_cost = nat_abs (n
 -- the candidate that the variable of a column is
 abbrev pub column_candidate : List ℕ → List ℤ → List ℤ → ℕ → Candidate
 column_candidate nonbasic costs row k = record { variable = slice_index_or nonbasic k 0; reduced_cost = nat_abs (number_at costs k); coefficient = nat_abs (number_at row k) }
+
+-- whether a candidate comes behind the last one that is noted, if there is one
+abbrev pub is_behind : Option Candidate → Candidate → Bool
+is_behind None c = true
+is_behind (Some last) c = comes_first last c
 
 -- whether a candidate comes behind the last one that is noted, if there is one, and not behind the best one
 abbrev pub is_between : Option Candidate → Candidate → Candidate → Bool
@@ -49,6 +54,15 @@ pub record AreEdgesTo (nonbasic : List ℕ) (costs row : List ℤ) (best : Candi
 -- each variable of a list stands in it once
 abbrev pub IsOnceEach : List ℕ → Type 0
 IsOnceEach vs = (j k : ℕ) → j < length vs → k < length vs → slice_index_or vs j 0 ≡ slice_index_or vs k 0 → j ≡ k
+
+-- which variables aren't fixed at these bounds
+abbrev pub are_free : List IntegerBounds → List Bool
+are_free bs = map (λ (b : IntegerBounds). bounds_differ (fraction_bounds b)) bs
+
+-- whether a variable of this coefficient may enter at these bounds
+abbrev pub variable_enters : Direction → List Bool → List IntegerBounds → ℕ → ℤ → Bool
+variable_enters w us bs v t = is_eligible_at w (slice_index_or us v false) t
+    && bounds_differ (fraction_bounds (slice_index_or bs v record { lower = None; upper = None }))
 
 -- whether an edge's variable may enter at these bounds
 abbrev pub edge_enters : Direction → List Bool → List IntegerBounds → Edge → Bool

@@ -8,14 +8,14 @@ use Rattle.integer_tableau.specs.Arena.{positions_by, rows_by}
 use Rattle.integer_tableau.specs.BasicColumns.{basic_exchanged, basic_from}
 use Rattle.integer_tableau.specs.Combined.{IsCompact, combined_row, expanded, expanded_rows}
 use Rattle.integer_tableau.specs.Entering.{entering_by_numerators}
-use Rattle.integer_tableau.specs.Exits.{AreFirstEdges, IsEdge, candidate_by, edge_at}
+use Rattle.integer_tableau.specs.Exits.{AreFirstEdges, IsEdge, are_free, candidate_by, edge_at}
 use Rattle.integer_tableau.specs.IntegerDictionary.{ArePositionsBehind, IntegerDictionary, IsStored, program_of}
 use Rattle.integer_tableau.specs.IntegerProgram.{fraction_program, CanStart}
 use Rattle.integer_tableau.specs.IntegerTableau.{IntegerTableau, of_parts, tableau_of}
 use Rattle.integer_tableau.specs.Numbers.{IsWithin}
 use Rattle.integer_tableau.specs.Positions.{AreNonbasic}
 use Rattle.integer_tableau.specs.Range.{size_limit}
-use Rattle.integer_tableau.specs.RowSums.{AreColumnsOf, AreRowSums}
+use Rattle.integer_tableau.specs.RowSums.{AreColumnsOf, AreColumnSums, AreRowSums}
 use Rattle.integer_tableau.specs.Start.{columns_from}
 use Rattle.integer_tableau.specs.Substitution.{IsSubstitutedIfFull, IsSubstitutedRow}
 use Rattle.integer_tableau.specs.declared.coefficient_columns.CoefficientColumns.{CoefficientColumns}
@@ -27,6 +27,7 @@ use Rattle.integer_tableau.specs.declared.node.Node.{Node}
 use Rattle.integer_tableau.specs.declared.position.Position.{Position}
 use Rattle.integer_tableau.specs.declared.position.Position.TheVariants.{InBasis, InColumn}
 use Rattle.integer_tableau.specs.declared.request.Turn.{Turn}
+use Rattle.integer_tableau.specs.declared.start_sums.StartSums.{StartSums}
 
 -- ---- dictionaries
 -- what contracts see of one: what a basis fixes, and where what is noted of it stands
@@ -119,6 +120,7 @@ pub record IsAt (ps : List (List ℤ)) (weight : ℕ) (d : KeptDictionary) (n : 
   pub compact : IsCompact ps weight n.reach (tableau_at d n)
   pub basis : HaveSameBasis n.positions.items d.positions
   pub sums : AreRowSums ps n.positions.items n.nonbasic_values.items n.row_sums.items
+  pub free : n.free.items ≡ are_free n.bounds.items
 
 -- ---- exits
 -- the edges of an exit are the first ones of its variable's row
@@ -170,9 +172,10 @@ pub record IsNewStart (ps : List (List ℤ)) (costs : List ℤ) (d : KeptDiction
   pub first_exit : d.first_exit ≡ 0
   pub exits : d.exits ≡ 0
 
--- what each linear program of these costs and bounds has beside its dictionary at the start; where columns are kept, they are its own
-pub record IsStartNode (columns : Option CoefficientColumns) (costs : List ℤ) (bounds : List IntegerBounds) (n : Node) : Type 0 where
-  pub at : (ps : List (List ℤ)) (weight : ℕ) (d : KeptDictionary) → IfSome columns (AreColumnsOf ps) → CanStart ps weight costs bounds → IsStartDictionary ps costs d → IsAt ps weight d n
+-- what each linear program of these costs and bounds has beside its dictionary at the start; where columns and sums are kept, they are its own
+pub record IsStartNode (columns : Option CoefficientColumns) (start_sums : StartSums) (costs : List ℤ) (bounds : List IntegerBounds) (n : Node) : Type 0 where
+  pub at : (ps : List (List ℤ)) (weight : ℕ) (d : KeptDictionary) → IfSome columns (AreColumnsOf ps) → AreColumnSums ps start_sums.values.items start_sums.sums.items
+      → CanStart ps weight costs bounds → IsStartDictionary ps costs d → IsAt ps weight d n
   pub started : (ps : List (List ℤ)) (weight : ℕ) (numbers : List ℕ) (d : KeptDictionary) → CanStart ps weight costs bounds → IsStartDictionary ps costs d
       → started (fraction_program ps costs bounds numbers) ≡ Some (view_of numbers ps d n)
   pub pivots : n.pivots ≡ 0

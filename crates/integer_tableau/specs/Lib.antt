@@ -29,3 +29,4 @@ pub mod Arena
 pub mod Kept
 pub mod RowSums
 pub mod StoredRun
+pub mod StoreCalls

@@ -1,9 +1,11 @@
 -- The order in which columns enter, whatever the bounds are.
-use Rattle.std.specs.Prelude.{◌≡◌, ◌<◌, ◌*◌, ℕ, ℤ, nat_abs, List, slice_index_or, All, Bool, true}
+use Rattle.std.specs.Prelude.{◌≡◌, ◌<◌, ◌*◌, ◌⊎◌, ℕ, ℤ, pos, nat_abs, List, [], ◌∷◌, ◌++◌, slice_index_or, All, Bool, true, false, Option}
 use Rattle.std.specs.List.{AllPairs, Any}
 use Rattle.std.specs.Ordering.{nat_cmp, ordering_then}
 use Rattle.std.specs.declared.cmp.Ordering.{Ordering}
+use Rattle.integer_tableau.specs.Exits.{is_behind}
 use Rattle.integer_tableau.specs.Numbers.{number_at}
+use Rattle.integer_tableau.specs.declared.entering.Candidate.{Candidate}
 use Rattle.integer_tableau.specs.declared.exits.Edge.{Edge}
 use Rattle.integer_tableau.specs.declared.ranked_column.RankedColumn.{RankedColumn}
 
@@ -14,6 +16,16 @@ rank_order b c = ordering_then (nat_cmp (b.reduced_cost * nat_abs c.coefficient)
 -- the edge of a column, where this variable leaves from the dictionary of this place
 abbrev pub edge_of : ℕ → ℕ → RankedColumn → Edge
 edge_of from leaving c = record { from = from; leaving = leaving; entering = c.variable; column = c.column; coefficient = c.coefficient; target = 0 }
+
+-- the candidate that its variable is
+abbrev pub ranked_candidate : RankedColumn → Candidate
+ranked_candidate c = record { variable = c.variable; reduced_cost = c.reduced_cost; coefficient = nat_abs c.coefficient }
+
+-- a list before and after a column of these numerators was put behind, if it has a coefficient and comes behind the last candidate
+abbrev pub IsWithColumn : ℕ → ℕ → ℤ → ℤ → Option Candidate → List RankedColumn → List RankedColumn → Type 0
+IsWithColumn k v d t last old now = let behind = is_behind last record { variable = v; reduced_cost = nat_abs d; coefficient = nat_abs t } in
+    ((now ≡ old) × ((t ≡ pos 0) ⊎ (behind ≡ false)))
+    ⊎ ((c : RankedColumn) × (now ≡ old ++ c ∷ []) × (c.column ≡ k) × (c.variable ≡ v) × (c.reduced_cost ≡ nat_abs d) × (c.coefficient ≡ t) × (behind ≡ true))
 
 -- one of the first n columns, with the numerators of its variable
 pub record IsRanked (nonbasic : List ℕ) (costs row : List ℤ) (n : ℕ) (c : RankedColumn) : Type 0 where

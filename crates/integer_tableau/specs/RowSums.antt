@@ -2,6 +2,7 @@
 use Rattle.std.specs.Prelude.{◌≡◌, ◌<◌, ◌≤◌, ◌+◌, ◌*◌, ◌^◌, ℕ, ℤ, pos, nat_abs, ◌+ℤ◌, ◌*ℤ◌, List, [], ◌∷◌, length, slice_index_or}
 use Rattle.std.specs.Int.{w64, int_wrap}
 use Rattle.integer_tableau.specs.Numbers.{number_at, total_size}
+use Rattle.integer_tableau.specs.Positions.{products}
 use Rattle.integer_tableau.specs.declared.coefficient_columns.CoefficientColumns.{CoefficientColumns}
 use Rattle.integer_tableau.specs.declared.position.Position.{Position}
 use Rattle.integer_tableau.specs.declared.position.Position.TheVariants.{InBasis, InColumn}
@@ -36,6 +37,10 @@ basic_products coefficients values (j ∷ columns) = number_at coefficients j *�
 -- those of the rows of a linear program, modulo 2^64
 abbrev pub AreRowSums : List (List ℤ) → List Position → List ℤ → List ℤ → Type 0
 AreRowSums ps positions xs sums = (i : ℕ) → i < length sums → int_wrap w64 (number_at sums i) ≡ int_wrap w64 (nonbasic_sum (slice_index_or ps i []) positions xs)
+
+-- those of the rows of a linear program over all columns, of which each has its value, modulo 2^64
+abbrev pub AreColumnSums : List (List ℤ) → List ℤ → List ℤ → Type 0
+AreColumnSums ps values sums = (i : ℕ) → i < length sums → int_wrap w64 (number_at sums i) ≡ int_wrap w64 (products (slice_index_or ps i []) values)
 
 -- ---- sizes
 -- no column has a greater value over the denominator d than a size for which rows of this weight have values of 64 bits; no nonbasic one is greater than

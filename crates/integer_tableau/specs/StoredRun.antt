@@ -112,6 +112,7 @@ pub record IsTurned (ps : List (List ℤ)) (d : IntegerDictionary) (n : Node) (w
   pub at_upper : m.at_upper.items ≡ slice_set (slice_set n.at_upper.items w.leaving (is_upper w.direction)) w.entering false
   pub sums : AreRowSums ps m.positions.items m.nonbasic_values.items m.row_sums.items
   pub bounds : m.bounds.items ≡ n.bounds.items
+  pub free : m.free.items ≡ n.free.items
   pub reach : m.reach ≡ n.reach
   pub pivots : m.pivots ≡ n.pivots + 1
 

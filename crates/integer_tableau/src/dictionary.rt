@@ -1,6 +1,6 @@
 // Dictionaries: what a basis fixes of a tableau.
 
-ghost use Rattle.std.specs.Prelude.{◌≡◌, ◌<◌, ◌+◌, ◌*◌, ◌-◌, ◌^◌, ◌++◌, ℤ, [], List, length, All, OnOk};
+ghost use Rattle.std.specs.Prelude.{◌≡◌, ◌<◌, ◌+◌, ◌*◌, ◌-◌, ◌^◌, ◌++◌, ℕ, ℤ, [], List, length, All, OnOk};
 ghost use Rattle.std.specs.List.{range_with_len};
 ghost use Rattle.integer_tableau.specs.Arena.{rows_by};
 ghost use Rattle.integer_tableau.specs.Kept.{IsNewStart, kept_at};
@@ -154,12 +154,13 @@ impl Dictionaries {
         &self.basic_columns[own.basic_columns..own.basic_columns + own.count]
     }
 
-    /// The variables of its columns.
+    /// The variables of its columns. Each dictionary has a position for each variable.
     #[inline(always)]
     pub(crate) fn nonbasic(&self, place: usize) -> &[usize]
         requires { place < length self.now.all }
         ensures value { result.now ≡ (kept_at self.now.all place).nonbasic }
         ensures width { length result.now ≡ self.now.width }
+        ensures positions { (p : ℕ) → p < length self.now.all → length (kept_at self.now.all p).positions ≡ self.now.variables }
     {
         let from = self.all[place].nonbasic;
         &self.nonbasic[from..from + self.width]

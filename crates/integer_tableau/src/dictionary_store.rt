@@ -2,7 +2,8 @@
 
 ghost use Rattle.std.specs.Prelude.{◌≡◌, ◌<◌, ◌+◌, ◌^◌, ℕ, ℤ, List, length, slice_index_or, IfOk, IfSome, IsTrue, OnOk};
 ghost use Rattle.integer_tableau.specs.IntegerProgram.{CanStart};
-ghost use Rattle.integer_tableau.specs.StoredRun.{HasTurnRow, IsMove, IsOfEdge, IsTurning, dictionary_at};
+ghost use Rattle.integer_tableau.specs.StoreCalls.{AreKeptOf, HasTurned, IsTarget, StayKept};
+ghost use Rattle.integer_tableau.specs.StoredRun.{HasTurnRow, IsOfEdge, IsTurning};
 ghost use Rattle.integer_tableau.specs.Kept.{AreKept, HaveSameBasis, IsKept, kept_at, row_in};
 ghost use Rattle.integer_tableau.specs.declared.integer_bounds.IntegerBounds.{IntegerBounds};
 
@@ -13,23 +14,24 @@ use crate::position::Position;
 use crate::program_row::ProgramRow;
 use crate::ranked_column::RankedColumn;
 use crate::request::Turn;
-use crate::same_basis::is_same;
+use crate::same_basis::are_nonbasic;
+use indexmap::IndexMap;
 use std::alloc::{AllocError, Global};
 
 /// How many words the dictionaries take at most, about.
 const MOST_WORDS: usize = 1 << 19;
 
-/// How many places there are in the table of hashes, a power of 2.
-const TABLE: usize = 1 << 13;
+/// How many dictionaries there are at most.
+const MOST_DICTIONARIES: usize = 1 << 12;
 
-/// How much more credit than none the store has at most. A step to a dictionary that is kept already brings 1.
-const MOST_CREDIT: u32 = 1 << 13;
+/// How much of the budget a new dictionary takes. A step to a dictionary that is kept already adds 1.
+const COST_OF_NEW: u32 = 3;
 
-/// What a new dictionary costs.
-const PRICE: u32 = 3;
+/// The budget of a new store, and of one that was suspended.
+const FIRST_BUDGET: u32 = 256 * COST_OF_NEW;
 
-/// With how much credit the store begins, and goes on after a rest.
-const FIRST_CREDIT: u32 = 256 * PRICE;
+/// The greatest budget.
+const MOST_BUDGET: u32 = 1 << 13;
 
 /// How many dictionaries tell how large those of a linear program are.
 const SAMPLE: usize = 8;
@@ -37,16 +39,16 @@ const SAMPLE: usize = 8;
 /// How many words a dictionary takes at most on average: of larger ones fewer than 256 could be kept.
 const MOST_AVERAGE: usize = MOST_WORDS / 256;
 
-/// For how many runs the store rests the first time. It rests twice as long each time, until it has been of use.
-const FIRST_REST: u32 = 32;
+/// For how many runs the store is suspended the first time. Each further time is twice as long, until the budget has come to its greatest.
+const FIRST_SUSPENSION: u32 = 32;
 
-/// For how many runs it rests at most.
-const MOST_REST: u32 = 4096;
+/// For how many runs it is suspended at most.
+const MOST_SUSPENSION: u32 = 4096;
 
 /// Dictionaries of one linear program, whatever the bounds are: the runs over its boxes share them.
 ///
-/// They are dropped all together where they take too many bytes. Where few are met again, or they are so large that few could be kept, the store rests for
-/// some runs.
+/// They are dropped all together where they take too many bytes. Where few are met again, or they are so large that few could be kept, the store is
+/// suspended for some runs.
 #[derive(Drop)]
 pub(crate) struct DictionaryStore {
     pub(crate) kept: Dictionaries,
@@ -58,14 +60,14 @@ pub(crate) struct DictionaryStore {
     basic: Vec<usize>,
     /// Room for columns.
     pub(crate) columns: Vec<RankedColumn>,
-    /// Places of dictionaries by their hashes; 0 where there is none.
-    table: Vec<usize>,
-    /// None is left where too few dictionaries were met again.
-    credit: u32,
-    /// For how many runs it rests.
-    rest: u32,
-    /// For how many it rests the next time.
-    next_rest: u32,
+    /// Places of dictionaries by their hashes. The first dictionary isn't among them, nor one for which memory was wanting.
+    places: IndexMap<u64, usize>,
+    /// How much new dictionaries may still take before the store is suspended.
+    budget: u32,
+    /// How many of the next runs go without the store.
+    suspended_runs: u32,
+    /// How many runs go without it the next time that it is suspended.
+    next_suspension: u32,
     /// How many steps went to a dictionary that was kept already.
     met: u64,
 }
@@ -91,10 +93,10 @@ impl DictionaryStore {
             coefficients: Vec::new(alloc),
             basic: Vec::new(alloc),
             columns: Vec::new(alloc),
-            table: Vec::new(alloc),
-            credit: FIRST_CREDIT,
-            rest: 0,
-            next_rest: FIRST_REST,
+            places: IndexMap::new(alloc),
+            budget: FIRST_BUDGET,
+            suspended_runs: 0,
+            next_suspension: FIRST_SUSPENSION,
             met: 0,
         }
     }
@@ -112,15 +114,14 @@ impl DictionaryStore {
         ensures kept { (ps : List (List ℤ)) (weight : ℕ) (bounds : List IntegerBounds) → length ps ≡ rows → CanStart ps weight costs.now bounds → AreKept ps weight costs.now self.new.kept }
     {
         self.kept.clear();
-        self.kept.push_start(rows, costs)?;
-        self.table.clear();
-        self.table.resize(TABLE, 0)
+        self.places.clear();
+        self.kept.push_start(rows, costs)
     }
 
     /// Whether there is no room for more dictionaries.
     #[inline(always)]
     fn is_full(&self) -> bool {
-        self.kept.count() >= TABLE / 2 || self.kept.words() >= MOST_WORDS
+        self.kept.count() >= MOST_DICTIONARIES || self.kept.words() >= MOST_WORDS
     }
 
     /// Whether the dictionaries are so large that few could be kept.
@@ -129,100 +130,81 @@ impl DictionaryStore {
         count >= SAMPLE && self.kept.words() / count > MOST_AVERAGE
     }
 
-    /// Whether new dictionaries aren't kept for now.
+    /// Whether no further dictionary is kept for now.
     #[inline(always)]
-    pub(crate) fn is_closed(&self) -> bool {
-        self.rest > 0 || self.is_full()
+    pub(crate) fn is_suspended_or_full(&self) -> bool {
+        self.suspended_runs > 0 || self.is_full()
     }
 
-    /// Makes the store ready for a run of its linear program; false where it rests, or memory is wanting.
+    /// Makes the store ready for a run of its linear program; false where it is suspended, or memory is wanting.
     pub(crate) fn is_ready(&mut self, rows: usize, costs: &IntegerRow) -> bool
         requires room { length costs.now + rows < 2 ^ 64 }
         requires program { (ps : List (List ℤ)) × (weight : ℕ) × (bounds : List IntegerBounds) × (length ps ≡ rows) × CanStart ps weight costs.now bounds }
         ensures some { IsTrue result → 0 < length self.new.kept.all }
         ensures kept { (ps : List (List ℤ)) (weight : ℕ) (bounds : List IntegerBounds) → length ps ≡ rows → CanStart ps weight costs.now bounds → AreKept ps weight costs.now self.old.kept → AreKept ps weight costs.now self.new.kept }
     {
-        if self.rest > 0 {
-            self.rest -= 1;
+        if self.suspended_runs > 0 {
+            self.suspended_runs -= 1;
             return false;
         }
         if self.are_large() {
-            self.rest = MOST_REST;
+            self.suspended_runs = MOST_SUSPENSION;
             return false;
         }
-        if self.kept.count() == 0 || self.table.is_empty() || self.is_full() {
+        if self.kept.count() == 0 || self.is_full() {
             return self.begin(rows, costs).is_ok();
         }
         true
     }
 
-    /// Counts a step to a dictionary that was kept already.
+    /// Notes a step to a dictionary that was kept already.
     #[inline(always)]
-    fn count_met(&mut self)
+    fn note_met(&mut self)
         ensures { self.new.kept ≡ self.old.kept }
     {
         self.met = self.met.saturating_add(1);
-        if self.credit < MOST_CREDIT {
-            self.credit += 1;
+        if self.budget < MOST_BUDGET {
+            self.budget += 1;
         } else {
-            self.next_rest = FIRST_REST;
+            self.next_suspension = FIRST_SUSPENSION;
         }
     }
 
-    /// Counts a new dictionary, and lets the store rest where there are too many of them.
-    fn count_made(&mut self)
+    /// Notes a new dictionary, and suspends the store where nothing is left of the budget.
+    fn note_new(&mut self)
         ensures kept { self.new.kept ≡ self.old.kept }
         ensures row { self.new.row ≡ self.old.row }
     {
-        self.credit = self.credit.saturating_sub(PRICE);
-        if self.credit == 0 {
-            self.credit = FIRST_CREDIT;
-            self.rest = self.next_rest;
-            self.next_rest = MOST_REST.min(self.next_rest.saturating_mul(2));
+        self.budget = self.budget.saturating_sub(COST_OF_NEW);
+        if self.budget == 0 {
+            self.budget = FIRST_BUDGET;
+            self.suspended_runs = self.next_suspension;
+            self.next_suspension = MOST_SUSPENSION.min(self.next_suspension.saturating_mul(2));
         }
     }
 
-    /// The place of a dictionary of this hash; 0 where none is kept.
+    /// The place of the last dictionary of this hash; 0 where none is known.
     fn of_hash(&self, hash: u64) -> usize
         ensures { 0 < result → result < length self.now.kept.all }
     {
-        let mut slot = (hash as usize) % TABLE;
-        for _ in 0..TABLE {
-            if slot >= self.table.len() {
-                return 0;
-            }
-            let place = self.table[slot];
-            if place == 0 || place >= self.kept.count() {
-                return 0;
-            }
-            if self.kept.hash(place) == hash {
-                return place;
-            }
-            slot = (slot + 1) % TABLE;
+        match self.places.get(&hash) {
+            Some(place) if *place < self.kept.count() => *place,
+            _ => 0,
         }
-        0
     }
 
-    /// Puts a place into the table.
+    /// Puts a place by its hash. Where memory is wanting, it isn't known by its hash.
     fn put(&mut self, hash: u64, place: usize)
         ensures { self.new.kept ≡ self.old.kept }
     {
-        let mut slot = (hash as usize) % TABLE;
-        for _ in 0..TABLE {
-            if slot >= self.table.len() {
-                return;
-            }
-            if self.table[slot] == 0 {
-                self.table[slot] = place;
-                return;
-            }
-            slot = (slot + 1) % TABLE;
-        }
+        let _ = self.places.insert(hash, place);
     }
 
-    /// The place of the dictionary of the node's basis and this denominator, by its hash; 0 where it isn't kept, or memory is wanting.
-    fn found(&self, alloc: Global, node: &Node, denominator: i64, hash: u64) -> usize
-        requires { (ps : List (List ℤ)) × (weight : ℕ) × (costs : List ℤ) × AreKept ps weight costs self.now.kept }
+    /// The place of the dictionary of the node's basis and this denominator, by its hash; 0 where it isn't kept.
+    ///
+    /// As many variables are nonbasic by each basis, so that two are the same where those of the one are nonbasic by the other.
+    fn found(&self, node: &Node, denominator: i64, hash: u64) -> usize
+        requires turning { (ps : List (List ℤ)) × (weight : ℕ) × (costs : List ℤ) × (place : ℕ) × (n : Node) × (turn : Turn) × (size : ℤ) × AreKept ps weight costs self.now.kept × (place < length self.now.kept.all) × IsTurning ps weight self.now.kept place n turn size node.now }
         ensures there { 0 < result → result < length self.now.kept.all }
         ensures basis { 0 < result → HaveSameBasis node.now.positions.items (kept_at self.now.kept.all result).positions }
         ensures denominator { 0 < result → (kept_at self.now.kept.all result).denominator ≡ denominator }
@@ -231,10 +213,7 @@ impl DictionaryStore {
         if place == 0 || self.kept.divisor(place).number() != denominator {
             return 0;
         }
-        let Ok(positions) = self.kept.positions(alloc, place) else {
-            return 0;
-        };
-        if is_same(&node.positions, &positions) {
+        if are_nonbasic(&node.positions, self.kept.nonbasic(place)) {
             place
         } else {
             0
@@ -277,12 +256,12 @@ impl DictionaryStore {
         pivot_size: i64,
         hash: u64,
     ) -> Option<usize>
-        requires kept { (costs : List ℤ) × AreKept program_rows.now weight costs self.old.kept }
+        requires kept { AreKeptOf program_rows.now weight self.old.kept }
         requires there { place < length self.old.kept.all }
         requires row { HasTurnRow program_rows.now (kept_at self.old.kept.all place) self.old.row turn }
-        requires turning { (n : Node) × IsTurning program_rows.now weight self.old.kept place n turn pivot_size node.now }
-        ensures kept { (costs : List ℤ) → AreKept program_rows.now weight costs self.old.kept → AreKept program_rows.now weight costs self.new.kept }
-        ensures moved { IfSome result (λ q. (n : Node) → IsTurning program_rows.now weight self.old.kept place n turn pivot_size node.now → IsMove program_rows.now weight (dictionary_at self.old.kept place) n self.new.kept q node.now) }
+        requires turning { HasTurned program_rows.now weight self.old.kept place turn pivot_size node.now }
+        ensures kept { StayKept program_rows.now weight self.old.kept self.new.kept }
+        ensures moved { IfSome result (IsTarget program_rows.now weight self.old.kept place turn pivot_size node.now self.new.kept) }
         ensures exits { IfSome result (λ q. self.new.kept.exits ≡ self.old.kept.exits) }
         ensures edges { IfSome result (λ q. self.new.kept.edges ≡ self.old.kept.edges) }
         ensures pushed { IfSome result (λ q. (q ≡ length self.old.kept.all) × ((p : ℕ) → p < q → kept_at self.new.kept.all p ≡ kept_at self.old.kept.all p)) }
@@ -326,22 +305,22 @@ impl DictionaryStore {
         turn: Turn,
         pivot_size: i64,
     ) -> Option<usize>
-        requires kept { (costs : List ℤ) × AreKept program_rows.now weight costs self.old.kept }
+        requires kept { AreKeptOf program_rows.now weight self.old.kept }
         requires there { place < length self.old.kept.all }
         requires edge { IsOfEdge self.old.kept place turn }
         requires row { HasTurnRow program_rows.now (kept_at self.old.kept.all place) self.old.row turn }
-        requires turning { (n : Node) × IsTurning program_rows.now weight self.old.kept place n turn pivot_size node.now }
-        ensures kept { (costs : List ℤ) → AreKept program_rows.now weight costs self.old.kept → AreKept program_rows.now weight costs self.new.kept }
-        ensures moved { IfSome result (λ q. (n : Node) → IsTurning program_rows.now weight self.old.kept place n turn pivot_size node.now → IsMove program_rows.now weight (dictionary_at self.old.kept place) n self.new.kept q node.now) }
+        requires turning { HasTurned program_rows.now weight self.old.kept place turn pivot_size node.now }
+        ensures kept { StayKept program_rows.now weight self.old.kept self.new.kept }
+        ensures moved { IfSome result (IsTarget program_rows.now weight self.old.kept place turn pivot_size node.now self.new.kept) }
     {
         let hash = self.kept.hash(place) ^ word_of(turn.leaving) ^ word_of(turn.entering);
-        let found = self.found(alloc, node, pivot_size, hash);
+        let found = self.found(node, pivot_size, hash);
         if found != 0 {
-            self.count_met();
+            self.note_met();
             self.kept.note(turn.edge, found);
             return Some(found);
         }
-        self.count_made();
+        self.note_new();
         let made = self.make(
             alloc,
             program_rows,
@@ -368,16 +347,16 @@ impl DictionaryStore {
         turn: Turn,
         pivot_size: i64,
     ) -> Option<usize>
-        requires kept { (costs : List ℤ) × AreKept program_rows.now weight costs self.old.kept }
+        requires kept { AreKeptOf program_rows.now weight self.old.kept }
         requires there { place < length self.old.kept.all }
         requires edge { IsOfEdge self.old.kept place turn }
         requires row { HasTurnRow program_rows.now (kept_at self.old.kept.all place) self.old.row turn }
-        requires turning { (n : Node) × IsTurning program_rows.now weight self.old.kept place n turn pivot_size node.now }
-        ensures kept { (costs : List ℤ) → AreKept program_rows.now weight costs self.old.kept → AreKept program_rows.now weight costs self.new.kept }
-        ensures moved { IfSome result (λ q. (n : Node) → IsTurning program_rows.now weight self.old.kept place n turn pivot_size node.now → IsMove program_rows.now weight (dictionary_at self.old.kept place) n self.new.kept q node.now) }
+        requires turning { HasTurned program_rows.now weight self.old.kept place turn pivot_size node.now }
+        ensures kept { StayKept program_rows.now weight self.old.kept self.new.kept }
+        ensures moved { IfSome result (IsTarget program_rows.now weight self.old.kept place turn pivot_size node.now self.new.kept) }
     {
         if turn.target != 0 && self.kept.divisor(turn.target).number() == pivot_size {
-            self.count_met();
+            self.note_met();
             return Some(turn.target);
         }
         self.found_or_made(alloc, program_rows, weight, place, node, turn, pivot_size)

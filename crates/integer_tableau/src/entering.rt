@@ -8,6 +8,7 @@ ghost use Rattle.integer_tableau.specs.Entering.{candidate_if_there, candidate_o
 ghost use Rattle.integer_tableau.specs.declared.position.Position.{Position};
 
 use crate::integer_bounds::IntegerBounds;
+use crate::pivot::is_upper;
 use tableau::Direction;
 
 /// A variable that may enter, with its ratio: the sizes of the numerators of its reduced cost and of its coefficient.
@@ -19,7 +20,7 @@ pub(crate) struct Candidate {
 }
 
 /// The best before any is found. Its ratio is greater than that of each variable that may enter.
-const NO_CANDIDATE: Candidate = Candidate {
+pub(crate) const NO_CANDIDATE: Candidate = Candidate {
     variable: 0,
     reduced_cost: 1,
     coefficient: 0,
@@ -56,6 +57,17 @@ pub(crate) fn may_enter(
     ensures { result ≡ (is_eligible_at direction at_upper numerator && bounds_differ (fraction_bounds bounds.now)) }
 {
     is_eligible(direction, at_upper, numerator) && bounds.differ()
+}
+
+/// The same as `may_enter`, of a variable that is free or not. The conditions that hold are counted: of `&` the compiler would make branches, which the
+/// processor guesses badly.
+#[inline(always)]
+pub(crate) fn enters(direction: Direction, at_upper: bool, free: bool, numerator: i64) -> bool
+    ensures { result ≡ (is_eligible_at direction at_upper numerator && free) }
+{
+    let rises = at_upper == is_upper(direction);
+    let agrees = (numerator > 0) == rises;
+    u8::from(numerator != 0) + u8::from(agrees) + u8::from(free) == 3
 }
 
 /// The best so far, with one nonbasic variable more, of these numerators. Few come first by their ratio, and half of them may enter:

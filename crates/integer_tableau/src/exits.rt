@@ -2,14 +2,15 @@
 
 ghost use Rattle.std.specs.Prelude.{◌≡◌, ◌<◌, ◌≤◌, ◌+◌, ◌-◌, ◌++◌, ◌⊎◌, ℕ, ℤ, List, false, length, map, slice_index_or, slice_range, take, true, All, IfNone, IfOk, IfSome, None, OnOk, Some};
 ghost use Rattle.integer_tableau.specs.Entering.{entering_by_numerators};
-ghost use Rattle.integer_tableau.specs.Exits.{AreEdgesTo, candidate_by, column_candidate, edge_at, edge_enters, is_between};
+ghost use Rattle.integer_tableau.specs.Exits.{AreEdgesTo, are_free, candidate_by, edge_at, edge_enters};
 ghost use Rattle.integer_tableau.specs.Kept.{AreKept, HaveSameDictionaries, IsTaken, KeptDictionary, Leads, edges_of, exit_at, exits_of, kept_at, row_in};
-ghost use Rattle.integer_tableau.specs.RankedColumns.{AreRanked, edge_of};
+ghost use Rattle.integer_tableau.specs.RankedColumns.{edge_of};
+ghost use Rattle.integer_tableau.specs.declared.integer_bounds.IntegerBounds.{IntegerBounds};
 ghost use Rattle.std.specs.List.{Any, position, position_or_len};
 
+use crate::column_ranking::rank_to_best;
 use crate::dictionary::{Dictionaries, Dictionary};
-use crate::entering::{Candidate, entering, may_enter};
-use crate::integer_bounds::IntegerBounds;
+use crate::entering::{Candidate, enters};
 use crate::node::Node;
 use crate::position::Position;
 use crate::ranked_column::RankedColumn;
@@ -61,36 +62,6 @@ fn last_candidate(reduced_costs: &[i64], edges: &[Edge]) -> Option<Candidate>
     })
 }
 
-/// Makes the list that of the columns with a coefficient in the row that come behind the last candidate, if there is one, and not behind the best one, by
-/// rising number. The one error is want of memory.
-fn rank_between(
-    columns: &mut Vec<RankedColumn>,
-    nonbasic: &[usize],
-    reduced_costs: &[i64],
-    row: &[i64],
-    last: Option<Candidate>,
-    best: Candidate,
-) -> Result<(), AllocError>
-    requires reduced_costs_there { length reduced_costs.now ≡ length nonbasic.now }
-    requires row_there { length row.now ≡ length nonbasic.now }
-    ensures { OnOk result (AreRanked nonbasic.now reduced_costs.now row.now (λ k. is_between last best (column_candidate nonbasic.now reduced_costs.now row.now k)) (length nonbasic.now) columns.new.items) }
-{
-    columns.clear();
-    for (column, variable) in nonbasic.iter().enumerate() {
-        if let Some(ranked) = RankedColumn::between(
-            column,
-            *variable,
-            reduced_costs[column],
-            row[column],
-            last,
-            best,
-        ) {
-            columns.push(ranked)?;
-        }
-    }
-    Ok(())
-}
-
 /// Puts the edges of columns behind the others. The one error is want of memory.
 fn push_edges(
     edges: &mut Vec<Edge>,
@@ -120,19 +91,15 @@ fn first_that_enters(
     edges: &[Edge],
     direction: Direction,
     at_upper: &[bool],
-    bounds: &[IntegerBounds],
+    free: &[bool],
 ) -> usize
     requires at_upper_there { (p : ℕ) → p < length edges.now → (edge_at edges.now p).entering < length at_upper.now }
-    requires bounds_there { length bounds.now ≡ length at_upper.now }
-    ensures { result ≡ position_or_len (edge_enters direction at_upper.now bounds.now) edges.now }
+    requires free_there { length free.now ≡ length at_upper.now }
+    ensures { (bounds : List IntegerBounds) → free.now ≡ are_free bounds → result ≡ position_or_len (edge_enters direction at_upper.now bounds) edges.now }
 {
     for (index, edge) in edges.iter().enumerate() {
-        if may_enter(
-            direction,
-            at_upper[edge.entering],
-            &bounds[edge.entering],
-            edge.coefficient,
-        ) {
+        let v = edge.entering;
+        if enters(direction, at_upper[v], free[v], edge.coefficient) {
             return index;
         }
     }
@@ -247,12 +214,13 @@ impl Dictionaries {
         requires within { (exit_at self.now.exits exit).first + (exit_at self.now.exits exit).count ≤ length self.now.edges }
         requires at_upper_there { All (λ (e : Edge). e.entering < length node.now.at_upper.items) (edges_of self.now.edges (exit_at self.now.exits exit)) }
         requires bounds_there { length node.now.bounds.items ≡ length node.now.at_upper.items }
+        requires free { node.now.free.items ≡ are_free node.now.bounds.items }
         ensures none { IfNone result (All (λ (e : Edge). edge_enters direction node.now.at_upper.items node.now.bounds.items e ≡ false) (edges_of self.now.edges (exit_at self.now.exits exit))) }
         ensures some { IfSome result (λ p. (i : ℕ) × (position (edge_enters direction node.now.at_upper.items node.now.bounds.items) (edges_of self.now.edges (exit_at self.now.exits exit)) ≡ Some i) × (p ≡ (exit_at self.now.exits exit).first + i) × (p < length self.now.edges)) }
     {
         let own = &self.exits[exit];
         let edges = &self.edges[own.first..own.first + own.count];
-        let index = first_that_enters(edges, direction, &node.at_upper, &node.bounds);
+        let index = first_that_enters(edges, direction, &node.at_upper, &node.free);
         if index < own.count {
             Some(own.first + index)
         } else {
@@ -283,20 +251,21 @@ impl Dictionaries {
     {
         let costs = self.reduced_costs(place);
         let nonbasic = self.nonbasic(place);
-        let Some(best) = entering(
+        let noted = &self.exits[exit];
+        let edges = &self.edges[noted.first..noted.first + noted.count];
+        let last = last_candidate(costs, edges);
+        if !rank_to_best(
+            columns,
             direction,
             nonbasic,
             &node.at_upper,
             &node.bounds,
             costs,
             row,
-        ) else {
+            last,
+        )? {
             return Ok(false);
-        };
-        let noted = &self.exits[exit];
-        let edges = &self.edges[noted.first..noted.first + noted.count];
-        let last = last_candidate(costs, edges);
-        rank_between(columns, nonbasic, costs, row, last, best)?;
+        }
         columns.sort_unstable();
         Ok(true)
     }

@@ -16,6 +16,7 @@ use crate::integer_bounds::IntegerBounds;
 use crate::integer_row::IntegerRow;
 use crate::program_row::{ProgramEntry, ProgramRow};
 use crate::range::SIZE_LIMIT;
+use crate::start_sums::StartSums;
 use fraction::Frac;
 use problem_box::{IntBox, Span};
 use std::alloc::{AllocError, Global};
@@ -29,6 +30,8 @@ pub struct IntegerProgram {
     pub(crate) rows: RcSlice<ProgramRow>,
     /// The coefficients of the rows by column; none where they are too many.
     pub(crate) columns: Option<CoefficientColumns>,
+    /// The sums of rows at the start of the last run over a box.
+    pub(crate) start_sums: StartSums,
     /// No row has coefficients that are greater together.
     pub(crate) weight: u64,
     pub(crate) costs: IntegerRow,
@@ -43,13 +46,13 @@ impl Model for IntegerProgram {
     ghost use Rattle.integer_tableau.specs.IntegerProgram.{fraction_program, CanStart};
     ghost use Rattle.std.specs.Prelude.{IfSome};
     ghost use Rattle.integer_tableau.specs.Kept.{AreKept};
-    ghost use Rattle.integer_tableau.specs.RowSums.{AreColumnsOf};
+    ghost use Rattle.integer_tableau.specs.RowSums.{AreColumnsOf, AreColumnSums};
 
     ghost Value = { Described };
 
     ghost view = { λ p. fraction_program p.rows.items.value.items p.costs p.bounds.items p.numbers.items };
 
-    ghost invariant = { λ p. CanStart p.rows.items.value.items p.weight p.costs p.bounds.items × AreKept p.rows.items.value.items p.weight p.costs p.store.kept × IfSome p.columns (AreColumnsOf p.rows.items.value.items) };
+    ghost invariant = { λ p. CanStart p.rows.items.value.items p.weight p.costs p.bounds.items × AreKept p.rows.items.value.items p.weight p.costs p.store.kept × IfSome p.columns (AreColumnsOf p.rows.items.value.items) × AreColumnSums p.rows.items.value.items p.start_sums.values.items p.start_sums.sums.items };
 }
 
 /// The whole number of a fraction; none where it isn't whole, or has more than 64 bits.
@@ -289,6 +292,7 @@ impl IntegerProgram {
         IntegerProgram {
             rows,
             columns,
+            start_sums: StartSums::new(alloc),
             weight,
             costs,
             bounds,

@@ -4,6 +4,7 @@
 mod answers;
 mod basic_columns;
 mod coefficient_columns;
+mod column_ranking;
 mod combination;
 mod combined_sizes;
 mod conversion;
@@ -42,6 +43,7 @@ mod run;
 mod same_basis;
 mod scaling;
 mod start;
+mod start_sums;
 mod stored_run;
 mod substitution;
 mod turn_values;

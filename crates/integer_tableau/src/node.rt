@@ -1,10 +1,10 @@
 // Nodes: what a tableau has beside its dictionary.
 
 ghost use Rattle.std.specs.Prelude.{◌≡◌, ◌<◌, ◌+◌, ℕ, ℤ, List, length, slice_index_or, IfOk, IfSome};
-ghost use Rattle.integer_tableau.specs.Exits.{IsOnceEach};
+ghost use Rattle.integer_tableau.specs.Exits.{IsOnceEach, are_free};
 ghost use Rattle.integer_tableau.specs.Kept.{IsAt, IsKept, IsStartNode, kept_at, view_of};
 ghost use Rattle.integer_tableau.specs.Positions.{AreNonbasic};
-ghost use Rattle.integer_tableau.specs.RowSums.{AreColumnsOf};
+ghost use Rattle.integer_tableau.specs.RowSums.{AreColumnsOf, AreColumnSums};
 
 use crate::coefficient_columns::CoefficientColumns;
 use crate::dictionary::Dictionaries;
@@ -14,10 +14,10 @@ use crate::integer_tableau::{Fixed, IntegerTableau};
 use crate::pivot::is_near;
 use crate::position::Position;
 use crate::program_row::ProgramRow;
-use crate::row_sums::kept_start_sums;
 use crate::start::{
     empty_rows, has_room, reach_of, start_at_upper, start_numbers, start_positions,
 };
+use crate::start_sums::StartSums;
 use std::alloc::{AllocError, Global};
 use std::rc::RcSlice;
 
@@ -25,6 +25,8 @@ use std::rc::RcSlice;
 #[derive(Drop)]
 pub(crate) struct Node {
     pub(crate) bounds: Vec<IntegerBounds>,
+    /// Which variables aren't fixed.
+    pub(crate) free: Vec<bool>,
     /// No column has a greater bound.
     pub(crate) reach: u64,
     /// Which variables are basic. The columns of the others are matters of the dictionary, and may be others here.
@@ -36,6 +38,17 @@ pub(crate) struct Node {
     /// Of each row, the sum over the nonbasic columns, modulo 2^64; none where they aren't kept.
     pub(crate) row_sums: Vec<i64>,
     pub(crate) pivots: u64,
+}
+
+/// Which variables aren't fixed at these bounds. The one error is want of memory.
+fn free_of(alloc: Global, bounds: &[IntegerBounds]) -> Result<Vec<bool>, AllocError>
+    ensures { IfOk result (λ v. v.items ≡ are_free bounds.now) }
+{
+    let mut free = Vec::with_capacity(alloc, bounds.len())?;
+    for own in bounds {
+        free.push(own.differ())?;
+    }
+    Ok(free)
 }
 
 impl Dictionaries {
@@ -81,12 +94,14 @@ impl Node {
         alloc: Global,
         rows: usize,
         columns: &Option<CoefficientColumns>,
+        start_sums: &mut StartSums,
         costs: &IntegerRow,
         bounds: Vec<IntegerBounds>,
     ) -> Result<Option<Node>, AllocError>
         requires there { length bounds.items ≡ length costs.now + rows }
         requires columns { (ps : List (List ℤ)) × IfSome columns.now (AreColumnsOf ps) }
-        ensures { IfOk result (λ o. IfSome o (λ n. IsStartNode columns.now costs.now bounds.items n)) }
+        ensures node { IfOk result (λ o. IfSome o (λ n. IsStartNode columns.now start_sums.old costs.now bounds.items n)) }
+        ensures sums { (ps : List (List ℤ)) → IfSome columns.now (AreColumnsOf ps) → AreColumnSums ps start_sums.old.values.items start_sums.old.sums.items → AreColumnSums ps start_sums.new.values.items start_sums.new.sums.items }
     {
         let width = costs.width();
         let reach = reach_of(&bounds, width);
@@ -97,9 +112,11 @@ impl Node {
         let at_upper = start_at_upper(alloc, costs.numerators(), rows)?;
         let nonbasic_values = start_numbers(alloc, costs.numerators(), &bounds, rows)?;
         let values = Vec::from_elem(alloc, 0, width)?;
-        let row_sums = kept_start_sums(alloc, columns, width, &nonbasic_values)?;
+        let row_sums = start_sums.row_sums(alloc, columns, width, &nonbasic_values)?;
+        let free = free_of(alloc, &bounds)?;
         Ok(Some(Node {
             bounds,
+            free,
             reach,
             positions,
             at_upper,

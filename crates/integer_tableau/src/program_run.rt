@@ -58,7 +58,14 @@ impl IntegerProgram {
             return self.run_apart(alloc, area, cap);
         }
         let bounds = bounds_over(alloc, area, self.costs.width(), &self.bounds)?;
-        let Some(node) = Node::start(alloc, self.rows.len(), &self.columns, &self.costs, bounds)?
+        let Some(node) = Node::start(
+            alloc,
+            self.rows.len(),
+            &self.columns,
+            &mut self.start_sums,
+            &self.costs,
+            bounds,
+        )?
         else {
             return Ok(None);
         };

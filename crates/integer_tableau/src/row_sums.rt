@@ -1,6 +1,6 @@
 // The values of rows by sums over the nonbasic columns, which are kept: only the basic columns have to be summed up anew.
 
-ghost use Rattle.std.specs.Prelude.{◌≡◌, ◌≢◌, ◌<◌, ◌≤◌, ◌+◌, ◌*◌, ◌^◌, ℕ, ℤ, List, [], pos, nat_abs, ◌+ℤ◌, ◌*ℤ◌, ◌<ℤ◌, length, slice_index_or, slice_set, IfOk, IfSome, IsTrue, None};
+ghost use Rattle.std.specs.Prelude.{◌≡◌, ◌<◌, ◌≤◌, ◌+◌, ◌*◌, ◌^◌, ℕ, ℤ, List, [], pos, nat_abs, ◌+ℤ◌, ◌*ℤ◌, ◌<ℤ◌, length, slice_index_or, slice_set, IfOk, IfSome, IsTrue, None};
 ghost use Rattle.std.specs.Int.{w64, int_wrap};
 ghost use Rattle.integer_tableau.specs.BasicColumns.{basic_from};
 ghost use Rattle.integer_tableau.specs.Combined.{combined_value, expanded_values};
@@ -13,6 +13,7 @@ use crate::coefficient_columns::CoefficientColumns;
 use crate::integer_bounds::IntegerBounds;
 use crate::leaving::{leaving, leaving_column};
 use crate::low_sums::{add_multiple, multiple_sum};
+use crate::pivot::value_of;
 use crate::position::Position;
 use crate::program_row::ProgramRow;
 use std::alloc::{AllocError, Global};
@@ -220,10 +221,63 @@ pub(crate) fn leaving_with_sums(
     )
 }
 
+/// The numerator of a variable's value: as `value_of` has it, but for a row by its sum where the sums are kept and the numbers are small.
+#[inline(always)]
+pub(crate) fn value_with_sums(
+    columns: &Option<CoefficientColumns>,
+    row_sums: &[i64],
+    reach: u64,
+    variable: usize,
+    program_rows: &[ProgramRow],
+    positions: &[Position],
+    nonbasic_values: &[i64],
+    values: &[i64],
+    basic_columns: &[usize],
+    denominator: i64,
+) -> i128
+    requires columns { IfSome columns.now (AreColumnsOf program_rows.now) }
+    requires sums { AreRowSums program_rows.now positions.now nonbasic_values.now row_sums.now }
+    requires bounded { (j : ℕ) → j < length values.now → nat_abs (number_at nonbasic_values.now j) ≤ reach }
+    requires positions_there { length positions.now ≡ length values.now + length program_rows.now }
+    requires nonbasic_values_there { length nonbasic_values.now ≡ length positions.now }
+    requires variable_there { variable < length positions.now }
+    requires full { (i : ℕ) → i < length program_rows.now → length (slice_index_or program_rows.now i []) ≡ length values.now }
+    requires light { (i : ℕ) → i < length program_rows.now → total_size (slice_index_or program_rows.now i []) < size_limit }
+    requires near { (j : ℕ) → j < length values.now → nat_abs (number_at nonbasic_values.now j) * nat_abs denominator < 2 ^ 63 }
+    requires basic { basic_columns.now ≡ basic_from 0 (length values.now) positions.now }
+    requires positive { pos 0 <ℤ denominator }
+    ensures { result ≡ number_at (expanded_values (nat_abs denominator) program_rows.now positions.now nonbasic_values.now values.now) variable }
+{
+    if variable < values.len() {
+        return i128::from(values[variable]);
+    }
+    if let Some(columns) = columns {
+        if are_of_use(columns, row_sums, reach, values, basic_columns, denominator) {
+            let row = variable - values.len();
+            let sum = row_sums[row];
+            let value = row_value(columns, row, sum, denominator, basic_columns, values);
+            return i128::from(value);
+        }
+    }
+    value_of(
+        variable,
+        program_rows,
+        positions,
+        nonbasic_values,
+        values,
+        denominator,
+    )
+}
+
 // ---- what changes the sums
 
 /// Adds a column times a factor to the sums of rows; that of a row's variable is none.
-fn add_column(row_sums: &mut [i64], columns: &CoefficientColumns, column: usize, factor: i64)
+pub(crate) fn add_column(
+    row_sums: &mut [i64],
+    columns: &CoefficientColumns,
+    column: usize,
+    factor: i64,
+)
     requires columns { (ps : List (List ℤ)) × AreColumnsOf ps columns.now }
     requires sums_there { length row_sums.old ≡ columns.now.rows }
     ensures { (ps : List (List ℤ)) → AreColumnsOf ps columns.now → (i : ℕ) → i < length row_sums.old → int_wrap w64 (number_at row_sums.new i) ≡ int_wrap w64 (number_at row_sums.old i +ℤ factor *ℤ number_at (slice_index_or ps i []) column) }
@@ -269,52 +323,4 @@ pub(crate) fn turn_kept_sums(
         }
     }
     row_sums.clear();
-}
-
-/// Adds the columns, each times its value, to the sums of rows.
-fn add_all(row_sums: &mut [i64], columns: &CoefficientColumns, nonbasic_values: &[i64])
-    requires columns { (ps : List (List ℤ)) × AreColumnsOf ps columns.now }
-    requires sums_there { length row_sums.old ≡ columns.now.rows }
-    requires zero { (i : ℕ) → number_at row_sums.old i ≡ pos 0 }
-    requires values_there { columns.now.width ≤ length nonbasic_values.now }
-    ensures { (ps : List (List ℤ)) (positions : List Position) → AreColumnsOf ps columns.now → columns.now.width ≤ length positions → ((j : ℕ) → j < columns.now.width → slice_index_or positions j Position.InBasis ≢ Position.InBasis) → AreRowSums ps positions nonbasic_values.now row_sums.new }
-{
-    for column in 0..columns.width {
-        add_column(row_sums, columns, column, nonbasic_values[column]);
-    }
-}
-
-/// The sums of rows at the start, where no column is basic. The one error is want of memory.
-fn start_sums(
-    alloc: Global,
-    columns: &CoefficientColumns,
-    nonbasic_values: &[i64],
-) -> Result<Vec<i64>, AllocError>
-    requires columns { (ps : List (List ℤ)) × AreColumnsOf ps columns.now }
-    requires values_there { columns.now.width ≤ length nonbasic_values.now }
-    ensures count { IfOk result (λ v. length v.items ≡ columns.now.rows) }
-    ensures sums { IfOk result (λ v. (ps : List (List ℤ)) (positions : List Position) → AreColumnsOf ps columns.now → columns.now.width ≤ length positions → ((j : ℕ) → j < columns.now.width → slice_index_or positions j Position.InBasis ≢ Position.InBasis) → AreRowSums ps positions nonbasic_values.now v.items) }
-{
-    let mut row_sums = Vec::from_elem(alloc, 0, columns.rows)?;
-    add_all(&mut row_sums, columns, nonbasic_values);
-    Ok(row_sums)
-}
-
-/// The same where the columns are kept, as many as this; without them no sums are. The one error is want of memory.
-pub(crate) fn kept_start_sums(
-    alloc: Global,
-    columns: &Option<CoefficientColumns>,
-    width: usize,
-    nonbasic_values: &[i64],
-) -> Result<Vec<i64>, AllocError>
-    requires columns { (ps : List (List ℤ)) × IfSome columns.now (AreColumnsOf ps) }
-    requires values_there { width ≤ length nonbasic_values.now }
-    ensures { IfOk result (λ v. (ps : List (List ℤ)) (positions : List Position) → IfSome columns.now (AreColumnsOf ps) → width ≤ length positions → ((j : ℕ) → j < width → slice_index_or positions j Position.InBasis ≢ Position.InBasis) → AreRowSums ps positions nonbasic_values.now v.items) }
-{
-    if let Some(columns) = columns {
-        if columns.width == width {
-            return start_sums(alloc, columns, nonbasic_values);
-        }
-    }
-    Ok(Vec::new(alloc))
 }

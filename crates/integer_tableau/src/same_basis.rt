@@ -1,7 +1,6 @@
-// Whether two bases are the same.
+// Whether a basis is that of a dictionary: whether the variables of its columns are nonbasic.
 
-ghost use Rattle.std.specs.Prelude.{◌≡◌, IsTrue};
-ghost use Rattle.integer_tableau.specs.Kept.{HaveSameBasis};
+ghost use Rattle.std.specs.Prelude.{◌≡◌, ◌≢◌, ◌<◌, ℕ, length, slice_index_or, IsTrue};
 
 use crate::position::Position;
 
@@ -16,15 +15,13 @@ fn is_basic(position: Position) -> bool
     }
 }
 
-/// Whether the same variables are basic by these positions as by others.
-pub(crate) fn is_same(positions: &[Position], others: &[Position]) -> bool
-    ensures { IsTrue result → HaveSameBasis positions.now others.now }
+/// Whether each of these variables is nonbasic by these positions.
+pub(crate) fn are_nonbasic(positions: &[Position], variables: &[usize]) -> bool
+    requires { (k : ℕ) → k < length variables.now → slice_index_or variables.now k 0 < length positions.now }
+    ensures { IsTrue result → (k : ℕ) → k < length variables.now → slice_index_or positions.now (slice_index_or variables.now k 0) Position.InBasis ≢ Position.InBasis }
 {
-    if others.len() != positions.len() {
-        return false;
-    }
-    for (v, position) in positions.iter().enumerate() {
-        if is_basic(*position) != is_basic(others[v]) {
+    for variable in variables {
+        if is_basic(positions[*variable]) {
             return false;
         }
     }

@@ -3,8 +3,9 @@
 ghost use Rattle.std.specs.Prelude.{◌≡◌, ◌≢◌, ◌≤◌, ◌<◌, ◌+◌, ◌^◌, ℤ, List, length, IfErr, IfOk, IfSome};
 ghost use Rattle.tableau.specs.Place.{PlaceIsWithin};
 ghost use Rattle.tableau.specs.Run.{EndsAs, run_from};
-ghost use Rattle.integer_tableau.specs.Kept.{AreKept, IsAt, kept_at, view_of};
+ghost use Rattle.integer_tableau.specs.Kept.{IsAt, kept_at, view_of};
 ghost use Rattle.integer_tableau.specs.RowSums.{AreColumnsOf};
+ghost use Rattle.integer_tableau.specs.StoreCalls.{AreKeptOf, StayKept};
 ghost use Rattle.integer_tableau.specs.StoredRun.{IsStep, dictionary_at, view_with};
 
 use crate::coefficient_columns::CoefficientColumns;
@@ -42,15 +43,15 @@ fn make_step(
     place: usize,
     node: &mut Node,
 ) -> Step
-    requires kept { (costs : List ℤ) × AreKept program_rows.now weight costs store.old.kept }
+    requires kept { AreKeptOf program_rows.now weight store.old.kept }
     requires columns { IfSome columns.now (AreColumnsOf program_rows.now) }
     requires there { place < length store.old.kept.all }
     requires at { IsAt program_rows.now weight (kept_at store.old.kept.all place) node.old }
     requires room { node.old.pivots + 1 < 2 ^ 64 }
-    ensures kept { (costs : List ℤ) → AreKept program_rows.now weight costs store.old.kept → AreKept program_rows.now weight costs store.new.kept }
+    ensures kept { StayKept program_rows.now weight store.old.kept store.new.kept }
     ensures step { IsStep program_rows.now weight store.old.kept place node.old store.new.kept node.new result }
 {
-    if store.is_closed() {
+    if store.is_suspended_or_full() {
         return Step::Closed;
     }
     let turn = match store.request(alloc, program_rows, columns, place, node) {
@@ -83,7 +84,7 @@ fn run_alone(
     cap: u64,
     made: u64,
 ) -> Result<IntegerRunEnd, u64>
-    requires kept { (costs : List ℤ) × AreKept program_rows.now.items.value.items weight costs store.now.kept }
+    requires kept { AreKeptOf program_rows.now.items.value.items weight store.now.kept }
     requires there { place < length store.now.kept.all }
     requires at { IsAt program_rows.now.items.value.items weight (kept_at store.now.kept.all place) node }
     requires room { node.pivots + cap < 2 ^ 64 }
@@ -116,7 +117,7 @@ fn ended(
     place: Place,
     made: u64,
 ) -> Result<IntegerRunEnd, u64>
-    requires kept { (costs : List ℤ) × AreKept program_rows.now.items.value.items weight costs store.now.kept }
+    requires kept { AreKeptOf program_rows.now.items.value.items weight store.now.kept }
     requires there { at < length store.now.kept.all }
     requires at_dictionary { IsAt program_rows.now.items.value.items weight (kept_at store.now.kept.all at) node }
     ensures place { IfOk result (λ e. e.place ≡ place) }
@@ -141,7 +142,7 @@ pub(crate) fn run_stored(
     node: Node,
     cap: u64,
 ) -> Result<IntegerRunEnd, u64>
-    requires kept { (costs : List ℤ) × AreKept program_rows.now.items.value.items weight costs store.old.kept }
+    requires kept { AreKeptOf program_rows.now.items.value.items weight store.old.kept }
     requires columns { IfSome columns.now (AreColumnsOf program_rows.now.items.value.items) }
     requires some { 0 < length store.old.kept.all }
     requires at { IsAt program_rows.now.items.value.items weight (kept_at store.old.kept.all 0) node }
@@ -151,7 +152,7 @@ pub(crate) fn run_stored(
     ensures exact { IfOk result (λ e. e.place ≢ Place.Cramped) }
     ensures capped { IfOk result (λ e. e.tableau.pivots ≤ cap) }
     ensures given_up { IfErr result (λ made. made ≤ cap) }
-    ensures kept { (costs : List ℤ) → AreKept program_rows.now.items.value.items weight costs store.old.kept → AreKept program_rows.now.items.value.items weight costs store.new.kept }
+    ensures kept { StayKept program_rows.now.items.value.items weight store.old.kept store.new.kept }
 {
     let mut node = node;
     let mut place = 0;

@@ -11,11 +11,11 @@ use crate::coefficient_columns::CoefficientColumns;
 use crate::dictionary::Dictionaries;
 use crate::divisor::Divisor;
 use crate::node::Node;
-use crate::pivot::{is_near, is_upper, size_of, value_of};
+use crate::pivot::{is_near, is_upper, size_of};
 use crate::position::Position;
 use crate::program_row::ProgramRow;
 use crate::request::Turn;
-use crate::row_sums::turn_kept_sums;
+use crate::row_sums::{turn_kept_sums, value_with_sums};
 use crate::values::{entering_value, put_value, substituted_value};
 
 /// The values of the basic columns behind a turn, by the column of the entering variable in their rows; false where one isn't exact, or is too large.
@@ -81,12 +81,17 @@ impl Node {
             return false;
         }
         let divisor = dictionaries.divisor(place);
-        let value = value_of(
+        let basic_columns = dictionaries.basic_columns(place);
+        let value = value_with_sums(
+            columns,
+            &self.row_sums,
+            self.reach,
             turn.leaving,
             program_rows,
             &self.positions,
             &self.nonbasic_values,
             &self.values,
+            basic_columns,
             divisor.number(),
         );
         let bound = self.bounds[turn.leaving].violated(turn.direction);
@@ -97,7 +102,7 @@ impl Node {
         };
         if !step_basic_values(
             &mut self.values,
-            dictionaries.basic_columns(place),
+            basic_columns,
             dictionaries.rows(place),
             dictionaries.width,
             turn.column,

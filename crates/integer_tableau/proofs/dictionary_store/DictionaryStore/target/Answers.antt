@@ -16,7 +16,7 @@ returns-then-number-pivot_size-clause-moved c =
     let same = sym (to_z-of_z w64 c.number.result f) ∙ ap (to_z w64) c.if-number-pivot_size.true ∙ to_z-of_z w64 a.pivot_size c.ranges.pivot_size in
     let h = edge_leads a.program_rows.now a.weight costs k a.place a.turn c.requires.kept.1 c.requires.edge positive in
     λ n t.
-    move_stays a.program_rows.now a.weight (dictionary_at k a.place) n k c.count_met.new.self.kept a.turn.target a.node.now (ap (λ k. k.all) c.count_met.ensures)
+    move_stays a.program_rows.now a.weight (dictionary_at k a.place) n k c.note_met.new.self.kept a.turn.target a.node.now (ap (λ k. k.all) c.note_met.ensures)
     (turn_moves a.program_rows.now a.weight k a.place n a.turn a.pivot_size a.node.now t costs a.turn.target h.0 (kept_of a.program_rows.now a.weight costs k a.place c.requires.there c.requires.kept.1)
     (kept_of a.program_rows.now a.weight costs k a.turn.target h.0 c.requires.kept.1) (sym c.divisor.ensures ∙ sym c.number.ensures ∙ same) h.1)
 

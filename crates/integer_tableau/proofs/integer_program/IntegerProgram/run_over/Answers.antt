@@ -14,16 +14,16 @@ pub is_ready-requires-clause-program : goal.is_ready-requires-clause-program
 is_ready-requires-clause-program c = (c.self.inside.rows.items.value.items, c.self.inside.weight, c.self.inside.bounds.items, sym c.len.ensures, c.self.invariant.0)
 
 pub invariant_of-self : goal.invariant_of-self
-invariant_of-self c = (c.self.invariant.0, c.is_ready.ensures.kept c.self.inside.rows.items.value.items c.self.inside.weight c.self.inside.bounds.items (sym c.len.ensures) c.self.invariant.0 c.self.invariant.1, c.self.invariant.2)
+invariant_of-self c = (c.self.invariant.0, c.is_ready.ensures.kept c.self.inside.rows.items.value.items c.self.inside.weight c.self.inside.bounds.items (sym c.len.ensures) c.self.invariant.0 c.self.invariant.1, c.self.invariant.2, c.self.invariant.3)
 
 pub invariant_of-self-in_err-bounds : goal.invariant_of-self-in_err-bounds
-invariant_of-self-in_err-bounds c = (c.self.invariant.0, c.is_ready.ensures.kept c.self.inside.rows.items.value.items c.self.inside.weight c.self.inside.bounds.items (sym c.len.ensures) c.self.invariant.0 c.self.invariant.1, c.self.invariant.2)
+invariant_of-self-in_err-bounds c = (c.self.invariant.0, c.is_ready.ensures.kept c.self.inside.rows.items.value.items c.self.inside.weight c.self.inside.bounds.items (sym c.len.ensures) c.self.invariant.0 c.self.invariant.1, c.self.invariant.2, c.self.invariant.3)
 
 pub invariant_of-self-in_err-node : goal.invariant_of-self-in_err-node
-invariant_of-self-in_err-node c = (c.self.invariant.0, c.is_ready.ensures.kept c.self.inside.rows.items.value.items c.self.inside.weight c.self.inside.bounds.items (sym c.len.ensures) c.self.invariant.0 c.self.invariant.1, c.self.invariant.2)
+invariant_of-self-in_err-node c = (c.self.invariant.0, c.is_ready.ensures.kept c.self.inside.rows.items.value.items c.self.inside.weight c.self.inside.bounds.items (sym c.len.ensures) c.self.invariant.0 c.self.invariant.1, c.self.invariant.2, c.start.ensures.sums c.self.inside.rows.items.value.items c.self.invariant.2 c.self.invariant.3)
 
 pub invariant_of-self-in_default : goal.invariant_of-self-in_default
-invariant_of-self-in_default c = (c.self.invariant.0, c.is_ready.ensures.kept c.self.inside.rows.items.value.items c.self.inside.weight c.self.inside.bounds.items (sym c.len.ensures) c.self.invariant.0 c.self.invariant.1, c.self.invariant.2)
+invariant_of-self-in_default c = (c.self.invariant.0, c.is_ready.ensures.kept c.self.inside.rows.items.value.items c.self.inside.weight c.self.inside.bounds.items (sym c.len.ensures) c.self.invariant.0 c.self.invariant.1, c.self.invariant.2, c.start.ensures.sums c.self.inside.rows.items.value.items c.self.invariant.2 c.self.invariant.3)
 
 pub start-requires-clause-columns : goal.start-requires-clause-columns
 start-requires-clause-columns c = (c.self.inside.rows.items.value.items, c.self.invariant.2)
@@ -44,11 +44,11 @@ run_stored-requires-clause-at c =
     let can : CanStart ps p.weight p.costs c.in_ok-bounds.bounds.items = subst (CanStart ps p.weight p.costs) (sym bounds_are) (can_start_over ps p.weight p.costs p.bounds.items area many c.self.invariant.0) in
     let kept : AreKept ps p.weight p.costs k = c.is_ready.ensures.kept ps p.weight p.bounds.items (sym c.len.ensures) c.self.invariant.0 c.self.invariant.1 in
     let some : 0 < length k.all = c.is_ready.ensures.some c.if-not-is_ready.false in
-    let start : IsStartNode p.columns p.costs c.in_ok-bounds.bounds.items c.in-Some.node = rw c.in-Some.is at c.in_ok-node.ensures in
-    at_first ps p.weight p.costs c.in_ok-bounds.bounds.items k c.in-Some.node can kept some p.columns start c.self.invariant.2
+    let start : IsStartNode p.columns p.start_sums p.costs c.in_ok-bounds.bounds.items c.in-Some.node = rw c.in-Some.is at c.in_ok-node.ensures.node in
+    at_first ps p.weight p.costs c.in_ok-bounds.bounds.items k c.in-Some.node can kept some p.columns p.start_sums start c.self.invariant.2 c.self.invariant.3
 
 pub invariant_of-self-2 : goal.invariant_of-self-2
-invariant_of-self-2 c = (c.self.invariant.0, c.run_stored.ensures.kept c.self.inside.costs (c.is_ready.ensures.kept c.self.inside.rows.items.value.items c.self.inside.weight c.self.inside.bounds.items (sym c.len.ensures) c.self.invariant.0 c.self.invariant.1), c.self.invariant.2)
+invariant_of-self-2 c = (c.self.invariant.0, c.run_stored.ensures.kept c.self.inside.costs (c.is_ready.ensures.kept c.self.inside.rows.items.value.items c.self.inside.weight c.self.inside.bounds.items (sym c.len.ensures) c.self.invariant.0 c.self.invariant.1), c.self.invariant.2, c.start.ensures.sums c.self.inside.rows.items.value.items c.self.invariant.2 c.self.invariant.3)
 
 pub returns-clause-value : goal.returns-clause-value
 returns-clause-value c =
@@ -62,9 +62,9 @@ returns-clause-value c =
     let can : CanStart ps p.weight p.costs c.in_ok-bounds.bounds.items = subst (CanStart ps p.weight p.costs) (sym bounds_are) (can_start_over ps p.weight p.costs p.bounds.items area many c.self.invariant.0) in
     let kept : AreKept ps p.weight p.costs k = c.is_ready.ensures.kept ps p.weight p.bounds.items (sym c.len.ensures) c.self.invariant.0 c.self.invariant.1 in
     let some : 0 < length k.all = c.is_ready.ensures.some c.if-not-is_ready.false in
-    let start : IsStartNode p.columns p.costs c.in_ok-bounds.bounds.items c.in-Some.node = rw c.in-Some.is at c.in_ok-node.ensures in
+    let start : IsStartNode p.columns p.start_sums p.costs c.in_ok-bounds.bounds.items c.in-Some.node = rw c.in-Some.is at c.in_ok-node.ensures.node in
     let numbers = c.deref-2.result.now in
     let program_is : over c.args.self.now area ≡ fraction_program ps p.costs c.in_ok-bounds.bounds.items numbers =
     ap (λ p. over p area) (sym c.self.view_is) ∙ program_over ps p.costs p.bounds.items p.numbers.items area ∙ (λ i. fraction_program ps p.costs (sym bounds_are i) (sym c.deref-2.ensures.value i)) in
     run_over_box (over c.args.self.now area) c.args.cap (view_with numbers ps (dictionary_at k 0) c.in-Some.node) c.run_stored.result
-    (ap started program_is ∙ started_at ps p.weight p.costs c.in_ok-bounds.bounds.items k c.in-Some.node can kept some p.columns start numbers) c.run_stored.ensures.value
+    (ap started program_is ∙ started_at ps p.weight p.costs c.in_ok-bounds.bounds.items k c.in-Some.node can kept some p.columns p.start_sums start numbers) c.run_stored.ensures.value

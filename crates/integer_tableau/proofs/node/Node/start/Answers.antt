@@ -4,8 +4,9 @@ use Rattle.std.proofs.lemmas.List.{length-append}
 use Rattle.integer_tableau.specs.Range.{size_limit}
 use Rattle.integer_tableau.specs.Combined.{bound_size, total_bound_size}
 use Rattle.integer_tableau.specs.IntegerProgram.{CanStart}
+use Rattle.integer_tableau.specs.Exits.{are_free}
 use Rattle.integer_tableau.specs.Kept.{HaveSameBasis}
-use Rattle.integer_tableau.specs.RowSums.{AreColumnsOf, AreRowSums}
+use Rattle.integer_tableau.specs.RowSums.{AreColumnSums, AreColumnsOf, AreRowSums}
 use Rattle.integer_tableau.specs.Start.{columns_from, is_negative, start_numbers}
 use Rattle.integer_tableau.specs.declared.position.Position.{Position}
 use Rattle.integer_tableau.specs.declared.position.Position.TheVariants.{InBasis}
@@ -13,10 +14,10 @@ use Rattle.integer_tableau.proofs.RowSums.{start_apart}
 use Rattle.integer_tableau.proofs.Starting.{length_columns, length_start_numbers}
 use Rattle.integer_tableau.proofs.StartFromCode.{start_compact, start_is}
 use Rattle.integer_tableau.proofs.node.Node.start.Goals as goal
-use Rattle.integer_tableau.proofs.node.Node.start.Goals.{In_ok-row_sums}
+use Rattle.integer_tableau.proofs.node.Node.start.Goals.{In_ok-free}
 
 -- what the parts are
-module _ (c : In_ok-row_sums) where
+module _ (c : In_ok-free) where
   values_are : c.in_ok-values.values.items ≡ replicate (length c.args.costs.now) (pos 0)
   values_are = c.in_ok-values.ensures.items_if_clones_equal (λ y e. e) ∙ ap (λ n. replicate n (pos 0)) c.width-width.ensures
 
@@ -43,21 +44,22 @@ module _ (c : In_ok-row_sums) where
     positions_are : c.in_ok-positions.positions.items ≡ columns_from 0 (length c.args.costs.now) ++ replicate (length ps) InBasis
     positions_are = c.in_ok-positions.ensures ∙ (λ i. columns_from 0 (c.width-width.ensures i) ++ replicate (count_is i) InBasis)
 
-    sums_are : IfSome c.args.columns.now (AreColumnsOf ps) → AreRowSums ps c.in_ok-positions.positions.items c.in_ok-nonbasic_values.nonbasic_values.items c.in_ok-row_sums.row_sums.items
-    sums_are are =
+    sums_are : IfSome c.args.columns.now (AreColumnsOf ps) → AreColumnSums ps c.args.start_sums.now.values.items c.args.start_sums.now.sums.items
+        → AreRowSums ps c.in_ok-positions.positions.items c.in_ok-nonbasic_values.nonbasic_values.items c.in_ok-row_sums.row_sums.items
+    sums_are are hold =
         let n = length c.args.costs.now in
         let ss = c.in_ok-positions.positions.items in
         let more = replicate (length ps) InBasis in
         let wide : c.width-width.result ≤ length ss = omega (arith, c.width-width.ensures, ap length positions_are, length-append (columns_from 0 n) more, length_columns 0 n) in
         let apart : (j : ℕ) → j < c.width-width.result → get_or ss j InBasis ≢ InBasis =
         λ j l. subst (λ ss. get_or ss j InBasis ≢ InBasis) (sym positions_are) (start_apart 0 n more j (omega (arith, l, c.width-width.ensures))) in
-        subst (λ xs. AreRowSums ps ss xs c.in_ok-row_sums.row_sums.items) c.deref-4.ensures.value (c.in_ok-row_sums.ensures ps ss are wide apart)
+        subst (λ xs. AreRowSums ps ss xs c.in_ok-row_sums.row_sums.items) c.deref-4.ensures.value (c.in_ok-row_sums.ensures.value ps ss are hold wide apart)
 
 same_basis : (ss ts : List Position) → ss ≡ ts → HaveSameBasis ss ts
 same_basis ss ts e = subst (HaveSameBasis ss) e record { count = refl; to = λ v q. q; back = λ v q. q }
 
-pub kept_start_sums-requires-clause-values_there : goal.kept_start_sums-requires-clause-values_there
-kept_start_sums-requires-clause-values_there c =
+pub row_sums-requires-clause-values_there : goal.row_sums-requires-clause-values_there
+row_sums-requires-clause-values_there c =
     let cs = c.numerators-2.result.now in
     let bs = c.deref-3.result.now in
     let many : length cs ≡ length c.args.costs.now = ap length c.numerators-2.ensures in
@@ -72,14 +74,15 @@ kept_start_sums-requires-clause-values_there c =
       c.width-width.ensures,
     )
 
-pub returns : goal.returns
-returns c = record {
-  at = λ ps weight d are ready s. record {
+pub returns-clause-node : goal.returns-clause-node
+returns-clause-node c = record {
+  at = λ ps weight d are hold ready s. record {
     compact = start_compact ps weight c.reach_of-reach.result c.args.costs.now c.args.bounds.items ready (reached c) (near c) (room c) d.positions c.in_ok-at_upper.at_upper.items
         c.in_ok-nonbasic_values.nonbasic_values.items d.rows d.reduced_costs c.in_ok-values.values.items d.denominator ps
         s.positions (at_upper_are c ps weight ready) (nonbasic_values_are c ps weight ready) s.rows s.reduced_costs (values_are c) s.denominator refl;
     basis = same_basis c.in_ok-positions.positions.items d.positions (positions_are c ps weight ready ∙ sym s.positions);
-    sums = sums_are c ps weight ready are;
+    sums = sums_are c ps weight ready are hold;
+    free = c.in_ok-free.ensures ∙ ap are_free c.deref-5.ensures.value;
   };
   started = λ ps weight numbers d ready s.
       start_is ps weight c.reach_of-reach.result c.args.costs.now c.args.bounds.items ready (reached c) (near c) (room c) d.positions c.in_ok-at_upper.at_upper.items

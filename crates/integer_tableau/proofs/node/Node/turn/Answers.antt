@@ -10,10 +10,11 @@ use Rattle.integer_tableau.proofs.BasicColumns.{column_within, columns_rise}
 use Rattle.integer_tableau.proofs.FromCode.{near_from_code}
 use Rattle.integer_tableau.proofs.Lists.{size_is}
 use Rattle.integer_tableau.proofs.RowSums.{in_some_column}
-use Rattle.integer_tableau.proofs.SameBasis.{same_values}
+use Rattle.integer_tableau.proofs.SameBasis.{same_basic, same_values}
 use Rattle.integer_tableau.proofs.Sizes.{written}
 use Rattle.integer_tableau.proofs.Turns.{turned_values}
 use Rattle.integer_tableau.specs.Arena.{rows_by}
+use Rattle.integer_tableau.specs.BasicColumns.{basic_from}
 use Rattle.integer_tableau.specs.Combined.{expanded_values}
 use Rattle.integer_tableau.specs.IntegerTableau.{fraction_bounds}
 use Rattle.integer_tableau.specs.Kept.{KeptDictionaries, KeptDictionary, kept_at}
@@ -23,22 +24,30 @@ use Rattle.integer_tableau.specs.Substitution.{quotient_numerator}
 use Rattle.integer_tableau.specs.declared.position.Position.TheVariants.{InBasis, InColumn}
 use Rattle.integer_tableau.proofs.node.Node.turn.Goals as goal
 
-pub value_of-value-requires-clause-near : goal.value_of-value-requires-clause-near
-value_of-value-requires-clause-near c =
+pub value_with_sums-value-requires-clause-near : goal.value_with_sums-value-requires-clause-near
+value_with_sums-value-requires-clause-near c =
     let f : SFits w64 c.number.result = search rules in
-    near_from_code _ _ _ _ c.requires.node.at.compact c.deref-2.result.now c.deref-3.result.now _ c.deref-2.ensures.value c.deref-3.ensures.value
+    near_from_code _ _ _ _ c.requires.node.at.compact c.deref-3.result.now c.deref-4.result.now _ c.deref-3.ensures.value c.deref-4.ensures.value
     (ap nat_abs (to_z-of_z w64 c.number.result f ∙ c.number.ensures ∙ c.divisor-divisor.ensures))
+
+pub value_with_sums-value-requires-clause-basic : goal.value_with_sums-value-requires-clause-basic
+value_with_sums-value-requires-clause-basic c =
+    let d : KeptDictionary = kept_at c.args.dictionaries.now.all c.args.place in
+    let n = c.args.self.now in
+    let many : length c.deref-4.result.now ≡ length d.rows = ap length c.deref-4.ensures.value ∙ c.requires.node.at.compact.values in
+    c.basic_columns-basic_columns.ensures ∙ c.requires.node.kept.basic ∙ sym (same_basic 0 (length d.rows) n.positions.items d.positions c.requires.node.at.basis)
+    ∙ (λ i. basic_from 0 (sym many i) (sym c.deref-2.ensures.value i))
 
 pub step_basic_values-requires-clause-rise : goal.step_basic_values-requires-clause-rise
 step_basic_values-requires-clause-rise c =
     let d : KeptDictionary = kept_at c.args.dictionaries.now.all c.args.place in
-    let same = c.basic_columns.ensures ∙ c.requires.node.kept.basic in
+    let same = c.basic_columns-basic_columns.ensures ∙ c.requires.node.kept.basic in
     subst (λ js. (p q : ℕ) → p < q → q < length js → get_or js p 0 < get_or js q 0) (sym same) (columns_rise 0 (length d.rows) d.positions)
 
 pub step_basic_values-requires-clause-there : goal.step_basic_values-requires-clause-there
 step_basic_values-requires-clause-there c =
     let d : KeptDictionary = kept_at c.args.dictionaries.now.all c.args.place in
-    let same = c.basic_columns.ensures ∙ c.requires.node.kept.basic in
+    let same = c.basic_columns-basic_columns.ensures ∙ c.requires.node.kept.basic in
     let many : length c.deref_mut.result.now ≡ length d.rows = ap length c.deref_mut.ensures.value ∙ c.requires.node.at.compact.values in
     subst (λ js. (p : ℕ) → p < length js → get_or js p 0 < length c.deref_mut.result.now) (sym same) (λ p l. omega (arith, many, column_within 0 (length d.rows) d.positions p l))
 
@@ -66,7 +75,7 @@ returns-clause-turned c = λ _.
     let fc : SFits w64 t.coefficient = search rules in
     let fn : SFits w64 c.number.result = search rules in
     let fm : SFits w64 c.number-2.result = search rules in
-    let fv : SFits w128 c.value_of-value.result = search rules in
+    let fv : SFits w128 c.value_with_sums-value.result = search rules in
     let fy : SFits w128 c.in-Some.entering = search rules in
     let same = c.requires.node.at.basis in
     let entering_at = in_some_column (get_or n.positions.items t.entering InBasis)
@@ -82,9 +91,9 @@ returns-clause-turned c = λ _.
     let left : to_z w64 (of_z w64 c.index-left.result.now) ≡ number_at xs t.entering =
     to_z-of_z w64 c.index-left.result.now fl ∙ c.index-left.ensures ∙ get_or_default xs t.entering c.index-left.result.now (pos 0) left_there in
     let coefficient = to_z-of_z w64 t.coefficient fc in
-    let value : to_z w128 (of_z w128 c.value_of-value.result) ≡ number_at (expanded_values (nat_abs d.denominator) ps d.positions xs vs) t.leaving =
-    to_z-of_z w128 c.value_of-value.result fv ∙ c.value_of-value.ensures
-    ∙ (λ i. number_at (expanded_values (nat_abs (denominator i)) ps (c.deref.ensures.value i) (c.deref-2.ensures.value i) (c.deref-3.ensures.value i)) t.leaving)
+    let value : to_z w128 (of_z w128 c.value_with_sums-value.result) ≡ number_at (expanded_values (nat_abs d.denominator) ps d.positions xs vs) t.leaving =
+    to_z-of_z w128 c.value_with_sums-value.result fv ∙ c.value_with_sums-value.ensures
+    ∙ (λ i. number_at (expanded_values (nat_abs (denominator i)) ps (c.deref-2.ensures.value i) (c.deref-3.ensures.value i) (c.deref-4.ensures.value i)) t.leaving)
     ∙ ap (λ ws. number_at ws t.leaving) (same_values (nat_abs d.denominator) ps n.positions.items d.positions xs vs c.requires.node.at.basis) in
     let number = to_z-of_z w64 c.number-2.result fm ∙ c.number-2.ensures ∙ divisor in
     let entering = to_z-of_z w128 c.in-Some.entering fy ∙ c.in-Some.ensures ∙ (λ i. quotient_numerator (coefficient i) (value i -ℤ coefficient i *ℤ left i -ℤ number i *ℤ bound)) in
@@ -100,8 +109,8 @@ returns-clause-turned c = λ _.
     let put_is : take n.values.len (put ++ drop (length put) middle) ≡ put = written put middle n.values.len (c.put_value.auto.values ∙ c.deref_mut-else-not-step_basic_values.ensures.len) in
     let last : put ≡ set stepped t.entering y = c.if-not-put_value.ensures refl ∙ ap (λ ws. set ws t.entering y) (c.deref_mut-else-not-step_basic_values.ensures.value ∙ stepped_is) in
     let values = turned_values t.entering t.column c.dictionaries.inside.width c.divisor-divisor.result.number (to_z w64 (of_z w64 c.args.size)) (to_z w64 (of_z w64 c.index-left.result.now)) y
-    c.basic_columns.result.now c.rows.result.now d.rows c.deref_mut.result.now stepped
-    (c.rows.ensures.rows ∙ (λ i. rows_by (sym width i) (sym c.basic_columns.ensures i) c.rows.result.now)) within
+    c.basic_columns-basic_columns.result.now c.rows.result.now d.rows c.deref_mut.result.now stepped
+    (c.rows.ensures.rows ∙ (λ i. rows_by (sym width i) (sym c.basic_columns-basic_columns.ensures i) c.rows.result.now)) within
     (ap length c.deref_mut.ensures.value ∙ compact.values ∙ columns) (c.if-not-step_basic_values.ensures.basic refl)
     (length d.rows) columns c.step_basic_values.auto.values in (
       bound,
@@ -121,6 +130,7 @@ returns-clause-turned c = λ _.
         sums = c.turn_kept_sums.ensures ps n.positions.items xs t.column entering_at.0 c.requires.columns c.requires.node.at.sums (compact.consistent.nonbasic_values ∙ sym same.count)
             (omega (arith, c.requires.turn.leaving, same.count)) (omega (arith, c.requires.turn.entering, same.count)) (same.back t.leaving c.requires.turn.basic) entering_at.1 (sym left);
         bounds = refl;
+        free = refl;
         reach = refl;
         pivots = refl;
       },
