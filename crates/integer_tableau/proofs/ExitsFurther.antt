@@ -11,7 +11,7 @@ use Rattle.integer_tableau.specs.RankedColumns.{edge_of}
 use Rattle.integer_tableau.specs.declared.entering.Candidate.{Candidate}
 use Rattle.integer_tableau.specs.declared.exits.Edge.{Edge}
 use Rattle.integer_tableau.specs.declared.exits.Exit.{Exit}
-use Rattle.integer_tableau.specs.declared.node.Node.{Node}
+use Rattle.integer_tableau.specs.declared.basic_solution.BasicSolution.{BasicSolution}
 use Rattle.integer_tableau.specs.declared.position.Position.TheVariants.{InBasis}
 use Rattle.integer_tableau.specs.declared.ranked_column.RankedColumn.{RankedColumn}
 use Rattle.tableau.specs.declared.bounds.Direction.{Direction}
@@ -57,7 +57,7 @@ module _ (ps : List (List ℤ)) (es new : List Edge) (d : KeptDictionary) (x y :
       let q : y.first + (length now - 1) ≡ length new - 1 = omega (arith, many, to_now.some, last) in
       get_or-piece new y.first y.count (length now - 1) _ (omega (arith, many, to_now.some)) ∙ ap (edge_at new) q
 
-  pub further_taken : (p : ℕ) (n : Node) (w : Direction) → x.from ≡ p → entering_by_numerators 0 w None d.positions n.at_upper.items n.bounds.items d.reduced_costs row ≡ Some best
+  pub further_taken : (p : ℕ) (n : BasicSolution) (w : Direction) → x.from ≡ p → entering_by_numerators 0 w None d.positions n.at_upper.items n.bounds.items d.reduced_costs row ≡ Some best
       → IsTaken ps new p d n x.variable w (Some (length new - 1))
   further_taken p n w place e = record {
     enters = ap (entering_by_numerators 0 w None d.positions n.at_upper.items n.bounds.items d.reduced_costs) (sym row_is) ∙ e ∙ ap Some (sym to_now.last ∙ ap (candidate_by d.reduced_costs) last_at);

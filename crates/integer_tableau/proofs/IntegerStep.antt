@@ -38,7 +38,7 @@ use Rattle.integer_tableau.specs.SmallDictionary.{AreOver, HasSmallDictionary}
 use Rattle.integer_tableau.proofs.PivotComes.{stored_step}
 
 -- what a tableau that keeps rows of columns holds beside what its dictionary does
-pub record IsCompactNode (reach : ℕ) (t : IntegerTableau) : Type 0 where
+pub record IsCompactSolution (reach : ℕ) (t : IntegerTableau) : Type 0 where
   pub bounds : length t.bounds ≡ length t.positions
   pub at_upper : length t.at_upper ≡ length t.positions
   pub nonbasic_values : length t.nonbasic_values ≡ length t.positions
@@ -51,7 +51,7 @@ pub record IsCompactNode (reach : ℕ) (t : IntegerTableau) : Type 0 where
   pub room : total_bound_size t.bounds < size_limit
 
 -- ---- the two make a tableau
-module _ (ps : List (List ℤ)) (weight reach : ℕ) (t : IntegerTableau) (m : IsCompactDictionary ps weight (dictionary_of t)) (k : IsCompactNode reach t) where
+module _ (ps : List (List ℤ)) (weight reach : ℕ) (t : IntegerTableau) (m : IsCompactDictionary ps weight (dictionary_of t)) (k : IsCompactSolution reach t) where
   abbrev full : IntegerTableau
   full = expanded ps t
 
@@ -225,7 +225,7 @@ module _ (ps : List (List ℤ)) (weight reach : ℕ) (t : IntegerTableau) (compa
       let v = elimination_there (λ i. t.denominator) t.denominator r c tt' (small_rows t.denominator tt' (small_dictionary (length t.rows) numbers (expanded ps t) cons)) (omega (arith, r_there, size.rows)) there.coefficient in
       stored_step (length t.positions) p q tt' mm v.0 r c same size h (subst (λ n. IsDictionaryOf n q mm) behind.positions.count stored.dictionary) r_there c_there there.leaving there.entering (exchanged_basis ps t m numbers r c cons behind) v.1
 
-  -- ---- the node after it
+  -- ---- the solution after it
   statuses_are : set (set (statuses_of t.positions t.at_upper) r (status_after w)) c Basic ≡ statuses_of m.positions made.at_upper
   statuses_are = same_lists _ _ (many ∙ sym long) each
     where
@@ -295,8 +295,8 @@ module _ (ps : List (List ℤ)) (weight reach : ℕ) (t : IntegerTableau) (compa
   bounded v l = exchanged_bounded t.bounds t.nonbasic_values r c w b (omega (arith, r_there, xs_many)) (omega (arith, c_there, xs_many)) apart bound_is
       (λ v l. compact.bounded v (omega (arith, l, xs_many))) v (omega (arith, l, behind.positions.count, xs_many))
 
-  node : IsCompactNode reach made
-  node = record {
+  solution : IsCompactSolution reach made
+  solution = record {
     bounds = cons.bounds ∙ sym behind.positions.count;
     at_upper = length-set (set t.at_upper r (is_upper w)) c false ∙ length-set t.at_upper r (is_upper w) ∙ cons.at_upper ∙ sym behind.positions.count;
     nonbasic_values = length-set (set t.nonbasic_values r b) c (pos 0) ∙ length-set t.nonbasic_values r b ∙ cons.nonbasic_values ∙ sym behind.positions.count;
@@ -309,7 +309,7 @@ module _ (ps : List (List ℤ)) (weight reach : ℕ) (t : IntegerTableau) (compa
   }
 
   pub made_compact : IsCompact ps weight reach made
-  made_compact = compact_from ps weight reach made stored.compact node
+  made_compact = compact_from ps weight reach made stored.compact solution
 
   after : IsConsistent (expanded ps made)
   after = made_compact.consistent

@@ -11,14 +11,14 @@ use Rattle.integer_tableau.specs.IntegerTableau.{of_parts}
 use Rattle.integer_tableau.specs.Kept.{IsKept, KeptDictionary, tableau_at, view_of}
 use Rattle.integer_tableau.specs.Pivot.{IsPivoted}
 use Rattle.integer_tableau.specs.Positions.{AreNonbasic}
-use Rattle.integer_tableau.specs.declared.node.Node.{Node}
+use Rattle.integer_tableau.specs.declared.basic_solution.BasicSolution.{BasicSolution}
 
 -- ---- a copy has the same tableaus
-pub same_tableau : (d e : KeptDictionary) (n : Node) → e.positions ≡ d.positions → e.rows ≡ d.rows → e.reduced_costs ≡ d.reduced_costs → e.denominator ≡ d.denominator → tableau_at e n ≡ tableau_at d n
+pub same_tableau : (d e : KeptDictionary) (n : BasicSolution) → e.positions ≡ d.positions → e.rows ≡ d.rows → e.reduced_costs ≡ d.reduced_costs → e.denominator ≡ d.denominator → tableau_at e n ≡ tableau_at d n
 same_tableau d e n positions rows costs denominator = λ i. of_parts n.bounds.items (positions i) n.at_upper.items n.nonbasic_values.items (rows i) (costs i) n.values.items (denominator i) n.pivots
 
--- ---- a pivot of the node n at the dictionary d comes to the node k at the dictionary e
-module _ (ps : List (List ℤ)) (weight : ℕ) (d e : KeptDictionary) (n k : Node) (r c : ℕ) (p : IsPivoted ps weight n.reach r c (tableau_at d n) (tableau_at e k)) where
+-- ---- a pivot of the solution n at the dictionary d comes to the solution k at the dictionary e
+module _ (ps : List (List ℤ)) (weight : ℕ) (d e : KeptDictionary) (n k : BasicSolution) (r c : ℕ) (p : IsPivoted ps weight n.reach r c (tableau_at d n) (tableau_at e k)) where
   pub made_pivot : (numbers : List ℕ) → pivoted r c (view_of numbers ps d n) ≡ Some (view_of numbers ps e k)
   made_pivot numbers = p.pivoted numbers ∙ ap (λ columns. Some (record (view_of numbers ps e k) { columns = columns })) (sym p.columns)
 

@@ -1,4 +1,4 @@
--- The dictionary that a turn makes, behind those that are kept: it is one to keep, and the node's move leads to it.
+-- The dictionary that a turn makes, behind those that are kept: it is one to keep, and the solution's move leads to it.
 use Rattle.std.proofs.Common.{◌≡◌, ◌≢◌, ℕ, ◌+◌, ◌-◌, ◌<◌, arith, refl, ap, sym, ◌∙◌, subst, List, [], ◌∷◌, ◌++◌, length, get_or, set, take, All, inl, inr, get_or-set_other, get_or-set_same}
 use Rattle.std.specs.Prelude.{ℤ, pos, nat_abs, ◌<ℤ◌, ◌+ℤ◌, ◌-ℤ◌, ◌*ℤ◌, slice_range}
 use Rattle.std.proofs.Math.Seq.{get_or-append_seam}
@@ -27,7 +27,7 @@ use Rattle.integer_tableau.specs.StoredRun.{IsMove, IsTurning, dictionary_at}
 use Rattle.integer_tableau.specs.Substitution.{IsSolvedRow, IsSubstitutedIfFull, IsSubstitutedRow, quotient_numerator}
 use Rattle.integer_tableau.specs.declared.exits.Edge.{Edge}
 use Rattle.integer_tableau.specs.declared.exits.Exit.{Exit}
-use Rattle.integer_tableau.specs.declared.node.Node.{Node}
+use Rattle.integer_tableau.specs.declared.basic_solution.BasicSolution.{BasicSolution}
 use Rattle.integer_tableau.specs.declared.position.Position.{Position}
 use Rattle.integer_tableau.specs.declared.position.Position.TheVariants.{InBasis, InColumn}
 use Rattle.integer_tableau.specs.declared.request.Turn.{Turn}
@@ -48,7 +48,7 @@ taken_values r c k d d' e x en en' width width' rows values new f g h l v =
     }
 
 -- ---- the dictionary that a turn makes
-module _ (ps : List (List ℤ)) (weight : ℕ) (k : KeptDictionaries) (p : ℕ) (n : Node) (w : Turn) (size : ℤ) (m : Node) (t : IsTurning ps weight k p n w size m) where
+module _ (ps : List (List ℤ)) (weight : ℕ) (k : KeptDictionaries) (p : ℕ) (n : BasicSolution) (w : Turn) (size : ℤ) (m : BasicSolution) (t : IsTurning ps weight k p n w size m) where
   abbrev d : KeptDictionary
   d = kept_at k.all p
 
@@ -216,7 +216,7 @@ all_pushed ps weight costs k l d some all exits edges f g kept h =
     }
 
 -- ---- as the code has it: `same` says that the dictionaries before the push are those of the turn, and k2 are those after it
-module _ (ps : List (List ℤ)) (weight : ℕ) (k k1 : KeptDictionaries) (same : k1 ≡ k) (p : ℕ) (n : Node) (w : Turn) (size size' : ℤ) (m : Node) (size_same : size' ≡ size) (t : IsTurning ps weight k p n w size m)
+module _ (ps : List (List ℤ)) (weight : ℕ) (k k1 : KeptDictionaries) (same : k1 ≡ k) (p : ℕ) (n : BasicSolution) (w : Turn) (size size' : ℤ) (m : BasicSolution) (size_same : size' ≡ size) (t : IsTurning ps weight k p n w size m)
     (there : p < length k.all) (own solved : List ℤ) (denominator : ℤ) (own_is : own ≡ row_in ps (kept_at k.all p) w.leaving) (denominator_is : denominator ≡ (kept_at k1.all p).denominator)
     (s : IsSolvedRow w.column (nat_abs denominator) own solved) (k2 : KeptDictionaries) (e : KeptDictionary) (pushed : k2.all ≡ k1.all ++ e ∷ []) (b : IsDictionaryBehind (kept_at k1.all p) w solved size' e)
     (q : ℕ) (q_is : q ≡ length k1.all) (costs : List ℤ) (h : AreKept ps weight costs k) where

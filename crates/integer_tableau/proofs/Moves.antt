@@ -1,4 +1,4 @@
--- A node that has taken a turn, at the dictionary of the basis behind it: it is where the pivot of its tableau leads.
+-- A solution that has taken a turn, at the dictionary of the basis behind it: it is where the pivot of its tableau leads.
 use Rattle.std.proofs.Common.{◌≡◌, ◌≢◌, ℕ, ◌*◌, ◌<◌, ◌^◌, arith, ap, sym, ◌∙◌, subst, Some, None, List, [], length, get_or, set, inl, inr, get_or-set_other, get_or-set_same}
 use Rattle.std.specs.Prelude.{ℤ, pos, nat_abs, ◌-ℤ◌, ◌*ℤ◌}
 use mathlib.Core.Logic.{inr as steps_to}
@@ -29,12 +29,12 @@ use Rattle.integer_tableau.specs.Range.{size_limit}
 use Rattle.integer_tableau.specs.StoredRun.{IsMove, IsOfEdge, IsTurning, dictionary_at, view_with}
 use Rattle.integer_tableau.specs.Substitution.{quotient_numerator}
 use Rattle.integer_tableau.specs.declared.integer_bounds.IntegerBounds.{IntegerBounds}
-use Rattle.integer_tableau.specs.declared.node.Node.{Node}
+use Rattle.integer_tableau.specs.declared.basic_solution.BasicSolution.{BasicSolution}
 use Rattle.integer_tableau.specs.declared.position.Position.{Position}
 use Rattle.integer_tableau.specs.declared.position.Position.TheVariants.{InBasis, InColumn}
 use Rattle.integer_tableau.specs.declared.request.Turn.{Turn}
 
--- ---- bases: ss are the positions of the node before the turn, ts those of its dictionary, us those of the dictionary behind
+-- ---- bases: ss are the positions of the solution before the turn, ts those of its dictionary, us those of the dictionary behind
 module _ (ss ts us : List Position) (r c k : ℕ) (h : HaveSameBasis ss ts) (at_r : get_or ts r InBasis ≡ InBasis) (at_c : get_or ts c InBasis ≡ InColumn k) (r_there : r < length ts) (c_there : c < length ts) where
   abbrev after : List Position
   after = positions_exchanged r c k ss
@@ -92,8 +92,8 @@ module _ (ss ts us : List Position) (r c k : ℕ) (h : HaveSameBasis ss ts) (at_
         ]
       ]
 
--- ---- a node that has taken a turn
-module _ (ps : List (List ℤ)) (weight : ℕ) (k : KeptDictionaries) (p : ℕ) (n : Node) (w : Turn) (size : ℤ) (m : Node) (t : IsTurning ps weight k p n w size m) where
+-- ---- a solution that has taken a turn
+module _ (ps : List (List ℤ)) (weight : ℕ) (k : KeptDictionaries) (p : ℕ) (n : BasicSolution) (w : Turn) (size : ℤ) (m : BasicSolution) (t : IsTurning ps weight k p n w size m) where
   abbrev d : KeptDictionary
   d = kept_at k.all p
 
@@ -188,13 +188,13 @@ module _ (ps : List (List ℤ)) (weight : ℕ) (k : KeptDictionaries) (p : ℕ) 
       → ArePositionsBehind w.leaving w.entering d.positions (kept_at k.all q).positions → IsMove ps weight (dictionary_at k p) n k q m
   turn_moves costs q l kept kept_behind same behind = pivot_moves k q l (turned_pivot costs (kept_at k.all q) kept kept_behind same behind) behind
 
-  -- that of the node's basis is that behind
+  -- that of the solution's basis is that behind
   pub found_behind : (e : KeptDictionary) → HaveSameBasis m.positions.items e.positions → ArePositionsBehind w.leaving w.entering d.positions e.positions
   found_behind e h = behind_same n.positions.items d.positions e.positions w.leaving w.entering w.column t.at.basis t.turn.basic t.turn.column t.turn.leaving t.turn.entering
       (subst (λ ss. HaveSameBasis ss e.positions) t.turned.positions h)
 
 -- ---- what is noted of the dictionaries doesn't matter
-pub move_stays : (ps : List (List ℤ)) (weight : ℕ) (d : IntegerDictionary) (n : Node) (k l : KeptDictionaries) (q : ℕ) (m : Node) → l.all ≡ k.all → IsMove ps weight d n k q m → IsMove ps weight d n l q m
+pub move_stays : (ps : List (List ℤ)) (weight : ℕ) (d : IntegerDictionary) (n : BasicSolution) (k l : KeptDictionaries) (q : ℕ) (m : BasicSolution) → l.all ≡ k.all → IsMove ps weight d n k q m → IsMove ps weight d n l q m
 move_stays ps weight d n k l q m e h = record {
   there = subst (λ ds. q < length ds) (sym e) h.there;
   at = subst (λ ds. IsAt ps weight (kept_at ds q) m) (sym e) h.at;

@@ -10,7 +10,7 @@ use Rattle.integer_tableau.proofs.RowSums.{in_some_column}
 use Rattle.integer_tableau.specs.Kept.{AreKept, HaveSameBasis, IsKept, KeptDictionaries, KeptDictionary, kept_at}
 use Rattle.integer_tableau.specs.Positions.{AreNonbasic}
 use Rattle.integer_tableau.specs.StoredRun.{IsTurning}
-use Rattle.integer_tableau.specs.declared.node.Node.{Node}
+use Rattle.integer_tableau.specs.declared.basic_solution.BasicSolution.{BasicSolution}
 use Rattle.integer_tableau.specs.declared.position.Position.{Position}
 use Rattle.integer_tableau.specs.declared.position.Position.TheVariants.{InBasis, InColumn}
 use Rattle.integer_tableau.specs.declared.request.Turn.{Turn}
@@ -136,8 +136,8 @@ same_by_nonbasic ss ts nonbasic many count are apart = record { count = many; to
 count_of_basis : (ss ts : List Position) → HaveSameBasis ss ts → nonbasic_count ss ≡ nonbasic_count ts
 count_of_basis ss ts h = omega (arith, count_within ss ts h.count h.to, count_within ts ss (sym h.count) h.back)
 
--- ---- a node that has taken a turn, and another dictionary of its linear program
-module _ (ps : List (List ℤ)) (weight : ℕ) (costs : List ℤ) (k : KeptDictionaries) (p : ℕ) (n : Node) (w : Turn) (size : ℤ) (m : Node) (kept : AreKept ps weight costs k) (p_there : p < length k.all)
+-- ---- a solution that has taken a turn, and another dictionary of its linear program
+module _ (ps : List (List ℤ)) (weight : ℕ) (costs : List ℤ) (k : KeptDictionaries) (p : ℕ) (n : BasicSolution) (w : Turn) (size : ℤ) (m : BasicSolution) (kept : AreKept ps weight costs k) (p_there : p < length k.all)
     (t : IsTurning ps weight k p n w size m) (alike : (q : ℕ) → q < length k.all → length (kept_at k.all q).positions ≡ k.variables) (q : ℕ) (q_there : q < length k.all) where
   abbrev d : KeptDictionary
   d = kept_at k.all p

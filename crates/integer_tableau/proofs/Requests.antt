@@ -1,4 +1,4 @@
--- What a node asks for, by what is noted of its dictionary.
+-- What a solution asks for, by what is noted of its dictionary.
 use Rattle.std.proofs.Common.{◌≡◌, ℕ, suc, ◌+◌, ◌<◌, arith, refl, ap, sym, ◌∙◌, subst, Bool, true, false, Option, Some, None, List, [], ◌∷◌, length, get_or, map, All}
 use Rattle.std.specs.Prelude.{ℤ, nat_abs}
 use Rattle.std.specs.List.{position}
@@ -28,11 +28,11 @@ use Rattle.integer_tableau.specs.Kept.{AreKept, HaveSameBasis, HaveSameDictionar
 use Rattle.integer_tableau.specs.Leaving.{leaving_by_numerators}
 use Rattle.integer_tableau.specs.Numbers.{number_at}
 use Rattle.integer_tableau.specs.Place.{place_of_candidate}
-use Rattle.integer_tableau.specs.StoredRun.{IsLastPlace, IsNodeOf, IsOfEdge, IsTurnAt, dictionary_at, tableau_with, turn_of, view_with}
+use Rattle.integer_tableau.specs.StoredRun.{IsLastPlace, IsSolutionOf, IsOfEdge, IsTurnAt, dictionary_at, tableau_with, turn_of, view_with}
 use Rattle.integer_tableau.specs.declared.exits.Edge.{Edge}
 use Rattle.integer_tableau.specs.declared.exits.Exit.{Exit}
 use Rattle.integer_tableau.specs.declared.integer_bounds.IntegerBounds.{IntegerBounds}
-use Rattle.integer_tableau.specs.declared.node.Node.{Node}
+use Rattle.integer_tableau.specs.declared.basic_solution.BasicSolution.{BasicSolution}
 use Rattle.integer_tableau.specs.declared.position.Position.{Position}
 use Rattle.integer_tableau.specs.declared.position.Position.TheVariants.{InBasis, InColumn}
 use Rattle.integer_tableau.specs.declared.request.Turn.{Turn}
@@ -49,7 +49,7 @@ same_places k l p same there =
     ∙ get_or-map dictionary_in l.all p _ (dictionary_in (kept_at [] p)) there
 
 -- whoever is at the one is at the other
-pub at_same : (ps : List (List ℤ)) (weight : ℕ) (d e : KeptDictionary) (n : Node) → dictionary_in d ≡ dictionary_in e → IsAt ps weight d n → IsAt ps weight e n
+pub at_same : (ps : List (List ℤ)) (weight : ℕ) (d e : KeptDictionary) (n : BasicSolution) → dictionary_in d ≡ dictionary_in e → IsAt ps weight d n → IsAt ps weight e n
 at_same ps weight d e n same h = record {
   compact = subst (λ (m : IntegerDictionary). IsCompact ps weight n.reach (tableau_with m n)) same h.compact;
   basis = subst (λ (m : IntegerDictionary). HaveSameBasis n.positions.items m.positions) same h.basis;
@@ -62,9 +62,9 @@ pub same_row : (ps : List (List ℤ)) (d e : KeptDictionary) (v : ℕ) → dicti
 same_row ps d e v same = ap (λ (m : IntegerDictionary). get_or (expanded_rows m.denominator ps m.positions m.rows) v []) same
 
 -- ---- one of the dictionaries that are kept
-pub node_of : (ps : List (List ℤ)) (weight : ℕ) (costs : List ℤ) (k : KeptDictionaries) (p : ℕ) (n : Node) → p < length k.all → AreKept ps weight costs k → IsAt ps weight (kept_at k.all p) n
-    → IsNodeOf ps (kept_at k.all p) n
-node_of ps weight costs k p n l are at = record { weight = weight; costs = costs; kept = kept_one ps weight costs k are p l; at = at }
+pub solution_of : (ps : List (List ℤ)) (weight : ℕ) (costs : List ℤ) (k : KeptDictionaries) (p : ℕ) (n : BasicSolution) → p < length k.all → AreKept ps weight costs k → IsAt ps weight (kept_at k.all p) n
+    → IsSolutionOf ps (kept_at k.all p) n
+solution_of ps weight costs k p n l are at = record { weight = weight; costs = costs; kept = kept_one ps weight costs k are p l; at = at }
 
 -- an exit of it
 pub exit_there : (ps : List (List ℤ)) (weight : ℕ) (costs : List ℤ) (k : KeptDictionaries) (x p : ℕ) → x < length k.exits → AreKept ps weight costs k → (exit_at k.exits x).from ≡ p
@@ -90,7 +90,7 @@ direction_there d i (InBasis ∷ ss) (b ∷ bs) (v ∷ vs) l e = by_test (violat
         (0, (let f : l.0 ≡ i = sym (ap (λ (l : ℕ × Direction). l.0) g) in omega (arith, f)), q ∙ ap (λ (l : ℕ × Direction). Some l.1) g)
 
 -- ---- the edges of an exit
-module _ (ps : List (List ℤ)) (es : List Edge) (d : KeptDictionary) (n : Node) (h : IsNodeOf ps d n) (x : Exit) (noted : IsExitOf ps es d x) where
+module _ (ps : List (List ℤ)) (es : List Edge) (d : KeptDictionary) (n : BasicSolution) (h : IsSolutionOf ps d n) (x : Exit) (noted : IsExitOf ps es d x) where
   abbrev own : List Edge
   own = edges_of es x
 
@@ -124,8 +124,8 @@ module _ (ps : List (List ℤ)) (es : List Edge) (d : KeptDictionary) (n : Node)
       mine : ((edge_at own i).from ≡ x.from) × ((edge_at own i).leaving ≡ x.variable)
       mine = All-get_or (λ (e : Edge). (e.from ≡ x.from) × (e.leaving ≡ x.variable)) own i (edge_at [] 0) may.0 noted.own
 
--- ---- a node at its dictionary
-module _ (ps : List (List ℤ)) (d : KeptDictionary) (n : Node) (h : IsNodeOf ps d n) where
+-- ---- a solution at its dictionary
+module _ (ps : List (List ℤ)) (d : KeptDictionary) (n : BasicSolution) (h : IsSolutionOf ps d n) where
   abbrev w : IntegerTableau
   w = tableau_at d n
 
@@ -198,25 +198,25 @@ module _ (ps : List (List ℤ)) (d : KeptDictionary) (n : Node) (h : IsNodeOf ps
           }
 
 -- it is that of an edge of this dictionary
-pub turn_of_edge : (ps : List (List ℤ)) (k : KeptDictionaries) (p : ℕ) (d : KeptDictionary) (n : Node) (variable : ℕ) (direction : Direction) (e : ℕ) (made : Bool)
+pub turn_of_edge : (ps : List (List ℤ)) (k : KeptDictionaries) (p : ℕ) (d : KeptDictionary) (n : BasicSolution) (variable : ℕ) (direction : Direction) (e : ℕ) (made : Bool)
     → IsTaken ps k.edges p d n variable direction (Some e) → IsOfEdge k p (turn_of direction (edge_at k.edges e) e made)
 turn_of_edge ps k p d n variable direction e made taken = record { there = taken.within; from = taken.own.0; leaving = refl; entering = refl; target = refl }
 
 -- the leaving row is that of the variable
-pub turn_row : (ps : List (List ℤ)) (es : List Edge) (p : ℕ) (d : KeptDictionary) (n : Node) (variable : ℕ) (direction : Direction) (e : ℕ) (row : List ℤ)
+pub turn_row : (ps : List (List ℤ)) (es : List Edge) (p : ℕ) (d : KeptDictionary) (n : BasicSolution) (variable : ℕ) (direction : Direction) (e : ℕ) (row : List ℤ)
     → IsTaken ps es p d n variable direction (Some e) → row ≡ row_in ps d variable → row ≡ row_in ps d (edge_at es e).leaving
 turn_row ps es p d n variable direction e row taken is = is ∙ ap (row_in ps d) (sym taken.own.1)
 
 -- ---- something was noted of the dictionaries
 -- the variable that leaves is the same
-pub same_leaving_at : (ps : List (List ℤ)) (d e : KeptDictionary) (n : Node) (o : Option (ℕ × Direction)) → dictionary_in e ≡ dictionary_in d
+pub same_leaving_at : (ps : List (List ℤ)) (d e : KeptDictionary) (n : BasicSolution) (o : Option (ℕ × Direction)) → dictionary_in e ≡ dictionary_in d
     → leaving_by_numerators (nat_abs d.denominator) 0 d.positions n.bounds.items (expanded_values (nat_abs d.denominator) ps d.positions n.nonbasic_values.items n.values.items) ≡ o
     → leaving_by_numerators (nat_abs e.denominator) 0 e.positions n.bounds.items (expanded_values (nat_abs e.denominator) ps e.positions n.nonbasic_values.items n.values.items) ≡ o
 same_leaving_at ps d e n o same h =
     subst (λ (m : IntegerDictionary). leaving_by_numerators m.denominator 0 m.positions n.bounds.items (expanded_values m.denominator ps m.positions n.nonbasic_values.items n.values.items) ≡ o) (sym same) h
 
 -- k are the dictionaries before, l those after it
-module _ (ps : List (List ℤ)) (weight : ℕ) (costs : List ℤ) (k l : KeptDictionaries) (p : ℕ) (n : Node) (there : p < length k.all) (at : IsAt ps weight (kept_at k.all p) n)
+module _ (ps : List (List ℤ)) (weight : ℕ) (costs : List ℤ) (k l : KeptDictionaries) (p : ℕ) (n : BasicSolution) (there : p < length k.all) (at : IsAt ps weight (kept_at k.all p) n)
     (same : HaveSameDictionaries l k) (are : AreKept ps weight costs l) where
   abbrev old : KeptDictionary
   old = kept_at k.all p
@@ -227,8 +227,8 @@ module _ (ps : List (List ℤ)) (weight : ℕ) (costs : List ℤ) (k l : KeptDic
   pub is_same : dictionary_in new ≡ dictionary_in old
   is_same = same_places l k p same there
 
-  node : IsNodeOf ps new n
-  node = node_of ps weight costs l p n (omega (arith, there, as_many l k same)) are (at_same ps weight old new n (sym is_same) at)
+  solution : IsSolutionOf ps new n
+  solution = solution_of ps weight costs l p n (omega (arith, there, as_many l k same)) are (at_same ps weight old new n (sym is_same) at)
 
   module _ (variable : ℕ) (direction : Direction)
       (found : leaving_by_numerators (nat_abs old.denominator) 0 old.positions n.bounds.items (expanded_values (nat_abs old.denominator) ps old.positions n.nonbasic_values.items n.values.items) ≡ Some (variable, direction)) where
@@ -239,9 +239,9 @@ module _ (ps : List (List ℤ)) (weight : ℕ) (costs : List ℤ) (k l : KeptDic
     goes_by o e made t taken some turn =
         subst (λ (m : IntegerDictionary). IsTurnAt ps m n t) is_same
         (subst (IsTurnAt ps (dictionary_in new) n) (sym turn)
-        (goes_there ps new n node l.edges p variable direction is_found e made (subst (IsTaken ps l.edges p new n variable direction) some taken)))
+        (goes_there ps new n solution l.edges p variable direction is_found e made (subst (IsTaken ps l.edges p new n variable direction) some taken)))
 
     pub stops_by : (o : Option ℕ) → IsTaken ps l.edges p new n variable direction o → o ≡ None → IsLastPlace (view_with [] ps (dictionary_in old) n) (NoColumn variable)
     stops_by o taken none =
         subst (λ (m : IntegerDictionary). IsLastPlace (view_with [] ps m n) (NoColumn variable)) is_same
-        (stops_there ps new n node l.edges p variable direction is_found (subst (IsTaken ps l.edges p new n variable direction) none taken))
+        (stops_there ps new n solution l.edges p variable direction is_found (subst (IsTaken ps l.edges p new n variable direction) none taken))

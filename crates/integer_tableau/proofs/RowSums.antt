@@ -245,8 +245,8 @@ pub by_column : (d : ℕ) (ss : List Position) (bs : List IntegerBounds) (vs ws 
 by_column d ss bs vs ws found l m e =
     ap (λ o. first_or o (leaving_by_numerators d (0 + length vs) (drop (length vs) ss) (drop (length vs) bs) ws)) e ∙ sym (leaving_parts d 0 ss bs vs ws l m)
 
--- ---- nodes
--- the nonbasic values of a node's columns are within its reach
+-- ---- solutions
+-- the nonbasic values of a solution's columns are within its reach
 pub bounded_from_code : (ps : List (List ℤ)) (weight reach : ℕ) (w : IntegerTableau) → IsCompact ps weight reach w → (xs vs : List ℤ) → xs ≡ w.nonbasic_values → vs ≡ w.values
     → (j : ℕ) → j < length vs → nat_abs (number_at xs j) ≤ reach
 bounded_from_code ps weight reach w compact xs vs xs_are vs_are j l =

@@ -6,7 +6,7 @@ use Rattle.integer_tableau.proofs.Requests.{at_same, same_places}
 use Rattle.integer_tableau.specs.IntegerDictionary.{IntegerDictionary}
 use Rattle.integer_tableau.specs.Kept.{HaveSameDictionaries, IsAt, KeptDictionaries, kept_at}
 use Rattle.integer_tableau.specs.StoredRun.{IsLastPlace, IsMove, IsTurnAt, IsTurned, IsTurning, IsUnmoved, dictionary_at, view_with}
-use Rattle.integer_tableau.specs.declared.node.Node.{Node}
+use Rattle.integer_tableau.specs.declared.basic_solution.BasicSolution.{BasicSolution}
 use Rattle.integer_tableau.specs.declared.request.Turn.{Turn}
 use Rattle.integer_tableau.specs.declared.run.IntegerRunEnd.{IntegerRunEnd}
 use Rattle.tableau.specs.Place.{PlaceIsWithin, place}
@@ -16,16 +16,16 @@ use Rattle.tableau.specs.declared.place.Place.{Place}
 use Rattle.tableau.specs.declared.place.Place.TheVariants.{Cramped, Done, NoColumn, Pivot}
 
 -- ---- lists with the same dictionaries
-pub at_same_place : (ps : List (List ℤ)) (weight : ℕ) (k l : KeptDictionaries) (p : ℕ) (n : Node) → HaveSameDictionaries k l → p < length l.all → IsAt ps weight (kept_at l.all p) n
+pub at_same_place : (ps : List (List ℤ)) (weight : ℕ) (k l : KeptDictionaries) (p : ℕ) (n : BasicSolution) → HaveSameDictionaries k l → p < length l.all → IsAt ps weight (kept_at l.all p) n
     → IsAt ps weight (kept_at k.all p) n
 at_same_place ps weight k l p n e b h = at_same ps weight (kept_at l.all p) (kept_at k.all p) n (sym (same_places k l p e b)) h
 
--- ---- a node that moves
-pub turn_same : (ps : List (List ℤ)) (k l : KeptDictionaries) (p : ℕ) (n : Node) (w : Turn) → HaveSameDictionaries k l → p < length l.all → IsTurnAt ps (dictionary_at l p) n w
+-- ---- a solution that moves
+pub turn_same : (ps : List (List ℤ)) (k l : KeptDictionaries) (p : ℕ) (n : BasicSolution) (w : Turn) → HaveSameDictionaries k l → p < length l.all → IsTurnAt ps (dictionary_at l p) n w
     → IsTurnAt ps (dictionary_at k p) n w
 turn_same ps k l p n w e b h = subst (λ m. IsTurnAt ps m n w) (sym (same_places k l p e b)) h
 
-pub turning : (ps : List (List ℤ)) (weight : ℕ) (k : KeptDictionaries) (p : ℕ) (n : Node) (w : Turn) (size : ℤ) (m : Node) → IsAt ps weight (kept_at k.all p) n
+pub turning : (ps : List (List ℤ)) (weight : ℕ) (k : KeptDictionaries) (p : ℕ) (n : BasicSolution) (w : Turn) (size : ℤ) (m : BasicSolution) → IsAt ps weight (kept_at k.all p) n
     → IsTurnAt ps (dictionary_at k p) n w → size ≡ pos (nat_abs w.coefficient) → 0 < nat_abs w.coefficient → n.reach * nat_abs size < 2 ^ 63
     → (bound : ℤ) × IsTurned ps (dictionary_at k p) n w size bound m → IsTurning ps weight k p n w size m
 turning ps weight k p n w size m at turn size_is some near turned = record {
@@ -38,21 +38,21 @@ turning ps weight k p n w size m at turn size_is some near turned = record {
   turned = turned.1;
 }
 
-pub move_same : (ps : List (List ℤ)) (weight : ℕ) (k l : KeptDictionaries) (p : ℕ) (n : Node) (new : KeptDictionaries) (q : ℕ) (m : Node) → HaveSameDictionaries k l → p < length l.all
+pub move_same : (ps : List (List ℤ)) (weight : ℕ) (k l : KeptDictionaries) (p : ℕ) (n : BasicSolution) (new : KeptDictionaries) (q : ℕ) (m : BasicSolution) → HaveSameDictionaries k l → p < length l.all
     → IsMove ps weight (dictionary_at k p) n new q m → IsMove ps weight (dictionary_at l p) n new q m
 move_same ps weight k l p n new q m e b h = subst (λ d. IsMove ps weight d n new q m) (same_places k l p e b) h
 
--- ---- a node that hasn't moved
-pub unmoved_at : (ps : List (List ℤ)) (weight : ℕ) (old new : KeptDictionaries) (p : ℕ) (n m : Node) → IsUnmoved old new n m → p < length old.all → IsAt ps weight (kept_at old.all p) n
+-- ---- a solution that hasn't moved
+pub unmoved_at : (ps : List (List ℤ)) (weight : ℕ) (old new : KeptDictionaries) (p : ℕ) (n m : BasicSolution) → IsUnmoved old new n m → p < length old.all → IsAt ps weight (kept_at old.all p) n
     → IsAt ps weight (kept_at new.all p) m
-unmoved_at ps weight old new p n m u l h = subst (IsAt ps weight (kept_at new.all p)) (sym u.node) (at_same_place ps weight new old p n u.dictionaries l h)
+unmoved_at ps weight old new p n m u l h = subst (IsAt ps weight (kept_at new.all p)) (sym u.solution) (at_same_place ps weight new old p n u.dictionaries l h)
 
-pub unmoved_view : (numbers : List ℕ) (ps : List (List ℤ)) (old new : KeptDictionaries) (p : ℕ) (n m : Node) → IsUnmoved old new n m → p < length old.all
+pub unmoved_view : (numbers : List ℕ) (ps : List (List ℤ)) (old new : KeptDictionaries) (p : ℕ) (n m : BasicSolution) → IsUnmoved old new n m → p < length old.all
     → view_with numbers ps (dictionary_at new p) m ≡ view_with numbers ps (dictionary_at old p) n
-unmoved_view numbers ps old new p n m u l = λ i. view_with numbers ps (same_places new old p u.dictionaries l i) (u.node i)
+unmoved_view numbers ps old new p n m u l = λ i. view_with numbers ps (same_places new old p u.dictionaries l i) (u.solution i)
 
 -- the last place doesn't depend on the numbers of the rows
-pub last_numbered : (numbers : List ℕ) (ps : List (List ℤ)) (m : IntegerDictionary) (n : Node) (l : Place) → IsLastPlace (view_with [] ps m n) l → IsLastPlace (view_with numbers ps m n) l
+pub last_numbered : (numbers : List ℕ) (ps : List (List ℤ)) (m : IntegerDictionary) (n : BasicSolution) (l : Place) → IsLastPlace (view_with [] ps m n) l → IsLastPlace (view_with numbers ps m n) l
 last_numbered numbers ps m n l h = record { place = h.place; within = h.within; exact = h.exact; other = h.other }
 
 -- ---- runs

@@ -3,13 +3,13 @@ use Rattle.std.proofs.Common.{◌≡◌, ℕ, ◌<◌, arith, Option, Some, List
 use Rattle.std.specs.Prelude.{ℤ, Result, Ok, Err, IfOk, IfSome}
 use Rattle.std.proofs.lemmas.List.{length-append, length-drop, length-map}
 use Rattle.integer_tableau.specs.IntegerProgram.{CanStart, column_bounds, fraction_program}
-use Rattle.integer_tableau.specs.Kept.{AreKept, IsAt, IsStartDictionary, IsStartNode, KeptDictionaries, KeptDictionary, kept_at}
+use Rattle.integer_tableau.specs.Kept.{AreKept, IsAt, IsStartDictionary, IsStartSolution, KeptDictionaries, KeptDictionary, kept_at}
 use Rattle.integer_tableau.specs.RowSums.{AreColumnsOf, AreColumnSums}
 use Rattle.integer_tableau.specs.Run.{IsRunOver}
 use Rattle.integer_tableau.specs.StoredRun.{dictionary_at, view_with}
 use Rattle.integer_tableau.specs.declared.coefficient_columns.CoefficientColumns.{CoefficientColumns}
 use Rattle.integer_tableau.specs.declared.integer_bounds.IntegerBounds.{IntegerBounds}
-use Rattle.integer_tableau.specs.declared.node.Node.{Node}
+use Rattle.integer_tableau.specs.declared.basic_solution.BasicSolution.{BasicSolution}
 use Rattle.integer_tableau.specs.declared.run.IntegerRunEnd.{IntegerRunEnd}
 use Rattle.integer_tableau.specs.declared.start_sums.StartSums.{StartSums}
 use Rattle.problem_box.specs.declared.span.Span.{Span}
@@ -34,8 +34,8 @@ first_is : (ps : List (List ℤ)) (costs : List ℤ) (ds : List KeptDictionary) 
 first_is ps costs [] l a = absurd (let f : ⊥ = omega (arith, l) in f)
 first_is ps costs (x ∷ xs) l a = a 0 x (omega arith)
 
-module _ (ps : List (List ℤ)) (weight : ℕ) (costs : List ℤ) (bounds : List IntegerBounds) (k : KeptDictionaries) (n : Node) (can : CanStart ps weight costs bounds)
-    (kept : AreKept ps weight costs k) (some : 0 < length k.all) (columns : Option CoefficientColumns) (sums : StartSums) (start : IsStartNode columns sums costs bounds n) where
+module _ (ps : List (List ℤ)) (weight : ℕ) (costs : List ℤ) (bounds : List IntegerBounds) (k : KeptDictionaries) (n : BasicSolution) (can : CanStart ps weight costs bounds)
+    (kept : AreKept ps weight costs k) (some : 0 < length k.all) (columns : Option CoefficientColumns) (sums : StartSums) (start : IsStartSolution columns sums costs bounds n) where
   pub at_first : IfSome columns (AreColumnsOf ps) → AreColumnSums ps sums.values.items sums.sums.items → IsAt ps weight (kept_at k.all 0) n
   at_first are sums_are = start.at ps weight (kept_at k.all 0) are sums_are can (first_is ps costs k.all some kept.first)
 

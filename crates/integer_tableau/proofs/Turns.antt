@@ -1,4 +1,4 @@
--- What a turn changes of a node: the values of columns, by the rows of a dictionary that is kept.
+-- What a turn changes of a solution: the values of columns, by the rows of a dictionary that is kept.
 use Rattle.std.proofs.Common.{◌≡◌, ℕ, ◌+◌, ◌-◌, ◌*◌, ◌<◌, arith, refl, ap, sym, ◌∙◌, subst, true, Option, Some, None, List, [], length, get_or, set, drop, below_more, get_or-set_other, get_or-set_same}
 use Rattle.std.specs.Prelude.{ℤ, pos, nat_eq, ◌+ℤ◌, ◌-ℤ◌, ◌*ℤ◌}
 use Rattle.std.specs.List.{position}

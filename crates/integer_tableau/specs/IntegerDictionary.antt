@@ -32,8 +32,8 @@ abbrev pub dictionary_of : IntegerTableau → IntegerDictionary
 dictionary_of t = record { positions = t.positions; rows = t.rows; reduced_costs = t.reduced_costs; denominator = t.denominator }
 
 -- with what a tableau has of its own: bounds, at which of them each variable is, and values
-abbrev pub at_node : IntegerDictionary → List IntegerBounds → List Bool → List ℤ → List ℤ → ℕ → IntegerTableau
-at_node m bounds at_upper nonbasic_values values pivots = record {
+abbrev pub at_solution : IntegerDictionary → List IntegerBounds → List Bool → List ℤ → List ℤ → ℕ → IntegerTableau
+at_solution m bounds at_upper nonbasic_values values pivots = record {
   bounds = bounds;
   positions = m.positions;
   at_upper = at_upper;
@@ -47,7 +47,7 @@ at_node m bounds at_upper nonbasic_values values pivots = record {
 
 -- as a tableau of fractions, of which only the basis, the rows and the reduced costs say something
 abbrev pub fraction_dictionary : List (List ℤ) → IntegerDictionary → Tableau
-fraction_dictionary ps m = tableau_of (length m.rows) [] (expanded ps (at_node m [] (map (λ s. false) m.positions) [] [] 0))
+fraction_dictionary ps m = tableau_of (length m.rows) [] (expanded ps (at_solution m [] (map (λ s. false) m.positions) [] [] 0))
 
 -- ---- what holds of one
 -- what a tableau that keeps rows of columns holds by its dictionary alone (`IsCompact`)
@@ -104,4 +104,4 @@ pub record IsBehind (r c : ℕ) (t m : IntegerDictionary) : Type 0 where
 
 -- the tableau that a step leads to: r goes to the bound b in this direction, and c comes into the basis, whose dictionary is m
 abbrev pub stepped : ℕ → ℕ → Direction → ℤ → IntegerDictionary → List ℤ → IntegerTableau → IntegerTableau
-stepped r c w b m values t = at_node m t.bounds (slice_set (slice_set t.at_upper r (is_upper w)) c false) (slice_set (slice_set t.nonbasic_values r b) c (pos 0)) values (t.pivots + 1)
+stepped r c w b m values t = at_solution m t.bounds (slice_set (slice_set t.at_upper r (is_upper w)) c false) (slice_set (slice_set t.nonbasic_values r b) c (pos 0)) values (t.pivots + 1)

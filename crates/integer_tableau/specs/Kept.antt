@@ -1,4 +1,4 @@
--- Dictionaries that are kept from one run to the next, and what each node has beside its dictionary.
+-- Dictionaries that are kept from one run to the next, and what each solution has beside its dictionary.
 use Rattle.std.specs.Prelude.{◌≡◌, ◌≢◌, ◌<◌, ◌≤◌, ◌<ℤ◌, ◌+◌, ◌*◌, ◌-◌, ◌++◌, ℕ, ℤ, pos, nat_abs, List, [], length, map, replicate, slice_index_or, slice_range, slice_set, take, All, IfSome, None, Option, Some}
 use Rattle.std.specs.Option.{option_map}
 use Rattle.tableau.specs.Start.{started}
@@ -23,7 +23,7 @@ use Rattle.integer_tableau.specs.declared.dictionary.Dictionary.{Dictionary}
 use Rattle.integer_tableau.specs.declared.exits.Edge.{Edge}
 use Rattle.integer_tableau.specs.declared.exits.Exit.{Exit}
 use Rattle.integer_tableau.specs.declared.integer_bounds.IntegerBounds.{IntegerBounds}
-use Rattle.integer_tableau.specs.declared.node.Node.{Node}
+use Rattle.integer_tableau.specs.declared.basic_solution.BasicSolution.{BasicSolution}
 use Rattle.integer_tableau.specs.declared.position.Position.{Position}
 use Rattle.integer_tableau.specs.declared.position.Position.TheVariants.{InBasis, InColumn}
 use Rattle.integer_tableau.specs.declared.request.Turn.{Turn}
@@ -100,23 +100,23 @@ dictionary_in d = record { positions = d.positions; rows = d.rows; reduced_costs
 abbrev pub row_in : List (List ℤ) → KeptDictionary → ℕ → List ℤ
 row_in ps d v = slice_index_or (expanded_rows (nat_abs d.denominator) ps d.positions d.rows) v []
 
--- ---- nodes
+-- ---- basic solutions
 -- by both the same variables are basic, though nonbasic ones may have other columns
 pub record HaveSameBasis (ss ts : List Position) : Type 0 where
   pub count : length ss ≡ length ts
   pub to : (v : ℕ) → slice_index_or ss v InBasis ≡ InBasis → slice_index_or ts v InBasis ≡ InBasis
   pub back : (v : ℕ) → slice_index_or ts v InBasis ≡ InBasis → slice_index_or ss v InBasis ≡ InBasis
 
--- the tableau of a node at a dictionary, on whole numbers
-abbrev pub tableau_at : KeptDictionary → Node → IntegerTableau
+-- the tableau of a solution at a dictionary, on whole numbers
+abbrev pub tableau_at : KeptDictionary → BasicSolution → IntegerTableau
 tableau_at d n = of_parts n.bounds.items d.positions n.at_upper.items n.nonbasic_values.items d.rows d.reduced_costs n.values.items d.denominator n.pivots
 
 -- as a tableau of fractions, by the rows of the linear program and the numbers that name them
-abbrev pub view_of : List ℕ → List (List ℤ) → KeptDictionary → Node → Tableau
+abbrev pub view_of : List ℕ → List (List ℤ) → KeptDictionary → BasicSolution → Tableau
 view_of numbers ps d n = tableau_of (length d.rows) numbers (expanded ps (tableau_at d n))
 
--- what each node at a dictionary holds
-pub record IsAt (ps : List (List ℤ)) (weight : ℕ) (d : KeptDictionary) (n : Node) : Type 0 where
+-- what each solution at a dictionary holds
+pub record IsAt (ps : List (List ℤ)) (weight : ℕ) (d : KeptDictionary) (n : BasicSolution) : Type 0 where
   pub compact : IsCompact ps weight n.reach (tableau_at d n)
   pub basis : HaveSameBasis n.positions.items d.positions
   pub sums : AreRowSums ps n.positions.items n.nonbasic_values.items n.row_sums.items
@@ -131,8 +131,8 @@ pub record IsExitOf (ps : List (List ℤ)) (es : List Edge) (d : KeptDictionary)
   pub edges : AreFirstEdges d.nonbasic d.reduced_costs (row_in ps d x.variable) (edges_of es x)
   pub own : All (λ (e : Edge). (e.from ≡ x.from) × (e.leaving ≡ x.variable)) (edges_of es x)
 
--- the place of the edge that is taken at a node where this variable leaves in this direction, none where it can't leave
-pub record IsTaken (ps : List (List ℤ)) (es : List Edge) (p : ℕ) (d : KeptDictionary) (n : Node) (variable : ℕ) (direction : Direction) (place : Option ℕ) : Type 0 where
+-- the place of the edge that is taken at a solution where this variable leaves in this direction, none where it can't leave
+pub record IsTaken (ps : List (List ℤ)) (es : List Edge) (p : ℕ) (d : KeptDictionary) (n : BasicSolution) (variable : ℕ) (direction : Direction) (place : Option ℕ) : Type 0 where
   pub enters : entering_by_numerators 0 direction None d.positions n.at_upper.items n.bounds.items d.reduced_costs (row_in ps d variable)
       ≡ option_map (λ e. candidate_by d.reduced_costs (edge_at es e)) place
   pub within : IfSome place (λ e. e < length es)
@@ -173,7 +173,7 @@ pub record IsNewStart (ps : List (List ℤ)) (costs : List ℤ) (d : KeptDiction
   pub exits : d.exits ≡ 0
 
 -- what each linear program of these costs and bounds has beside its dictionary at the start; where columns and sums are kept, they are its own
-pub record IsStartNode (columns : Option CoefficientColumns) (start_sums : StartSums) (costs : List ℤ) (bounds : List IntegerBounds) (n : Node) : Type 0 where
+pub record IsStartSolution (columns : Option CoefficientColumns) (start_sums : StartSums) (costs : List ℤ) (bounds : List IntegerBounds) (n : BasicSolution) : Type 0 where
   pub at : (ps : List (List ℤ)) (weight : ℕ) (d : KeptDictionary) → IfSome columns (AreColumnsOf ps) → AreColumnSums ps start_sums.values.items start_sums.sums.items
       → CanStart ps weight costs bounds → IsStartDictionary ps costs d → IsAt ps weight d n
   pub started : (ps : List (List ℤ)) (weight : ℕ) (numbers : List ℕ) (d : KeptDictionary) → CanStart ps weight costs bounds → IsStartDictionary ps costs d

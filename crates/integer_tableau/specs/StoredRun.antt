@@ -11,7 +11,7 @@ use Rattle.tableau.specs.declared.place.Place.{Place}
 use Rattle.tableau.specs.declared.place.Place.TheVariants.{Cramped, Pivot}
 use Rattle.integer_tableau.specs.Combined.{expanded, expanded_rows, expanded_values}
 use Rattle.integer_tableau.specs.Exits.{edge_at}
-use Rattle.integer_tableau.specs.IntegerDictionary.{IntegerDictionary, at_node}
+use Rattle.integer_tableau.specs.IntegerDictionary.{IntegerDictionary, at_solution}
 use Rattle.integer_tableau.specs.IntegerTableau.{IntegerTableau, fraction_bounds, tableau_of}
 use Rattle.integer_tableau.specs.Kept.{HaveSameDictionaries, IsAt, IsKept, KeptDictionaries, KeptDictionary, dictionary_in, kept_at, row_in}
 use Rattle.integer_tableau.specs.Numbers.{number_at}
@@ -19,7 +19,7 @@ use Rattle.integer_tableau.specs.Pivot.{AreSubstitutedValues, IsPivotOf, is_uppe
 use Rattle.integer_tableau.specs.RowSums.{AreRowSums}
 use Rattle.integer_tableau.specs.Substitution.{quotient_numerator}
 use Rattle.integer_tableau.specs.declared.exits.Edge.{Edge}
-use Rattle.integer_tableau.specs.declared.node.Node.{Node}
+use Rattle.integer_tableau.specs.declared.basic_solution.BasicSolution.{BasicSolution}
 use Rattle.integer_tableau.specs.declared.position.Position.TheVariants.{InBasis, InColumn}
 use Rattle.integer_tableau.specs.declared.request.Request.{Request}
 use Rattle.integer_tableau.specs.declared.request.Request.TheVariants.{Stops, Goes, Unknown}
@@ -32,26 +32,26 @@ use Rattle.integer_tableau.specs.declared.stored_run.Step.TheVariants.{Ended, Mo
 abbrev pub dictionary_at : KeptDictionaries → ℕ → IntegerDictionary
 dictionary_at k p = dictionary_in (kept_at k.all p)
 
--- the tableau of a node with such a dictionary, on whole numbers
-abbrev pub tableau_with : IntegerDictionary → Node → IntegerTableau
-tableau_with m n = at_node m n.bounds.items n.at_upper.items n.nonbasic_values.items n.values.items n.pivots
+-- the tableau of a solution with such a dictionary, on whole numbers
+abbrev pub tableau_with : IntegerDictionary → BasicSolution → IntegerTableau
+tableau_with m n = at_solution m n.bounds.items n.at_upper.items n.nonbasic_values.items n.values.items n.pivots
 
 -- as a tableau of fractions, by the rows of the linear program and the numbers that name them
-abbrev pub view_with : List ℕ → List (List ℤ) → IntegerDictionary → Node → Tableau
+abbrev pub view_with : List ℕ → List (List ℤ) → IntegerDictionary → BasicSolution → Tableau
 view_with numbers ps m n = tableau_of (length m.rows) numbers (expanded ps (tableau_with m n))
 
 -- the turn of an edge at a place, for which the leaving row was made or not
 abbrev pub turn_of : Direction → Edge → ℕ → Bool → Turn
 turn_of w e p made = record { leaving = e.leaving; direction = w; entering = e.entering; column = e.column; coefficient = e.coefficient; edge = p; target = e.target; row_made = made }
 
--- a node at a dictionary of a linear program of these rows
-pub record IsNodeOf (ps : List (List ℤ)) (d : KeptDictionary) (n : Node) : Type 0 where
+-- a solution at a dictionary of a linear program of these rows
+pub record IsSolutionOf (ps : List (List ℤ)) (d : KeptDictionary) (n : BasicSolution) : Type 0 where
   pub weight : ℕ
   pub costs : List ℤ
   pub kept : IsKept ps weight costs d
   pub at : IsAt ps weight d n
 
--- ---- what a node asks for
+-- ---- what a solution asks for
 -- a tableau asks for this place, which is no pivot
 pub record IsLastPlace (t : Tableau) (p : Place) : Type 0 where
   pub place : p ≡ place t
@@ -59,8 +59,8 @@ pub record IsLastPlace (t : Tableau) (p : Place) : Type 0 where
   pub exact : p ≢ Cramped
   pub other : (r c : ℕ) → p ≢ Pivot r c
 
--- a node at a dictionary asks for the pivot of these variables, of which the entering one has this column and coefficient
-pub record IsTurnAt (ps : List (List ℤ)) (d : IntegerDictionary) (n : Node) (w : Turn) : Type 0 where
+-- a solution at a dictionary asks for the pivot of these variables, of which the entering one has this column and coefficient
+pub record IsTurnAt (ps : List (List ℤ)) (d : IntegerDictionary) (n : BasicSolution) (w : Turn) : Type 0 where
   pub place : place (view_with [] ps d n) ≡ Pivot w.leaving w.entering
   pub leaving : w.leaving < length d.positions
   pub basic : slice_index_or d.positions w.leaving InBasis ≡ InBasis
@@ -77,8 +77,8 @@ pub record IsOfEdge (k : KeptDictionaries) (p : ℕ) (w : Turn) : Type 0 where
   pub entering : (edge_at k.edges w.edge).entering ≡ w.entering
   pub target : (edge_at k.edges w.edge).target ≡ w.target
 
--- a node at a dictionary asks for this, as far as it is known
-abbrev pub IsRequestAt : List (List ℤ) → IntegerDictionary → Node → Request → Type 0
+-- a solution at a dictionary asks for this, as far as it is known
+abbrev pub IsRequestAt : List (List ℤ) → IntegerDictionary → BasicSolution → Request → Type 0
 IsRequestAt ps d n (Stops p) = IsLastPlace (view_with [] ps d n) p
 IsRequestAt ps d n (Goes w) = IsTurnAt ps d n w
 IsRequestAt ps d n Unknown = Unit {0}
@@ -100,8 +100,8 @@ HasRow ps d row (Goes w) = HasTurnRow ps d row w
 HasRow ps d row Unknown = Unit {0}
 
 -- ---- steps
--- what a turn makes of a node at a dictionary, whatever the dictionary behind it is
-pub record IsTurned (ps : List (List ℤ)) (d : IntegerDictionary) (n : Node) (w : Turn) (size bound : ℤ) (m : Node) : Type 0 where
+-- what a turn makes of a solution at a dictionary, whatever the dictionary behind it is
+pub record IsTurned (ps : List (List ℤ)) (d : IntegerDictionary) (n : BasicSolution) (w : Turn) (size bound : ℤ) (m : BasicSolution) : Type 0 where
   pub there : IsPivotOf n.bounds.items d.positions (slice_index_or (expanded_rows d.denominator ps d.positions d.rows) w.leaving [])
       (number_at (expanded_values d.denominator ps d.positions n.nonbasic_values.items n.values.items) w.leaving) d.denominator w.leaving w.entering w.column w.direction bound
   pub values : AreSubstitutedValues w.entering w.column (pos d.denominator) size (number_at n.nonbasic_values.items w.entering)
@@ -116,8 +116,8 @@ pub record IsTurned (ps : List (List ℤ)) (d : IntegerDictionary) (n : Node) (w
   pub reach : m.reach ≡ n.reach
   pub pivots : m.pivots ≡ n.pivots + 1
 
--- a node that was n at the dictionary of this place has taken a turn, and is m
-pub record IsTurning (ps : List (List ℤ)) (weight : ℕ) (k : KeptDictionaries) (p : ℕ) (n : Node) (w : Turn) (size : ℤ) (m : Node) : Type 0 where
+-- a solution that was n at the dictionary of this place has taken a turn, and is m
+pub record IsTurning (ps : List (List ℤ)) (weight : ℕ) (k : KeptDictionaries) (p : ℕ) (n : BasicSolution) (w : Turn) (size : ℤ) (m : BasicSolution) : Type 0 where
   pub at : IsAt ps weight (kept_at k.all p) n
   pub turn : IsTurnAt ps (dictionary_at k p) n w
   pub size_is : size ≡ pos (nat_abs w.coefficient)
@@ -127,19 +127,19 @@ pub record IsTurning (ps : List (List ℤ)) (weight : ℕ) (k : KeptDictionaries
   pub turned : IsTurned ps (dictionary_at k p) n w size bound m
 
 -- nothing that matters has changed
-pub record IsUnmoved (old new : KeptDictionaries) (n m : Node) : Type 0 where
+pub record IsUnmoved (old new : KeptDictionaries) (n m : BasicSolution) : Type 0 where
   pub dictionaries : HaveSameDictionaries new old
-  pub node : m ≡ n
+  pub solution : m ≡ n
 
--- a node goes from a dictionary to that at this place by the pivot that its tableau asks for
-pub record IsMove (ps : List (List ℤ)) (weight : ℕ) (d : IntegerDictionary) (n : Node) (k : KeptDictionaries) (q : ℕ) (m : Node) : Type 0 where
+-- a solution goes from a dictionary to that at this place by the pivot that its tableau asks for
+pub record IsMove (ps : List (List ℤ)) (weight : ℕ) (d : IntegerDictionary) (n : BasicSolution) (k : KeptDictionaries) (q : ℕ) (m : BasicSolution) : Type 0 where
   pub there : q < length k.all
   pub at : IsAt ps weight (kept_at k.all q) m
   pub counted : m.pivots ≡ n.pivots + 1
   pub step : (numbers : List ℕ) → step_at (view_with numbers ps d n) (place (view_with numbers ps d n)) ≡ inr (view_with numbers ps (dictionary_at k q) m)
 
--- what comes of a node at the dictionary of this place
-abbrev pub IsStep : List (List ℤ) → ℕ → KeptDictionaries → ℕ → Node → KeptDictionaries → Node → Step → Type 0
+-- what comes of a solution at the dictionary of this place
+abbrev pub IsStep : List (List ℤ) → ℕ → KeptDictionaries → ℕ → BasicSolution → KeptDictionaries → BasicSolution → Step → Type 0
 IsStep ps weight old p n new m (Ended l) = IsUnmoved old new n m × IsLastPlace (view_with [] ps (dictionary_at old p) n) l
 IsStep ps weight old p n new m (Moved q) = IsMove ps weight (dictionary_at old p) n new q m
 IsStep ps weight old p n new m Closed = IsUnmoved old new n m

@@ -7,9 +7,9 @@ ghost use Rattle.integer_tableau.specs.StoredRun.{HasTurnRow, IsOfEdge, IsTurnin
 ghost use Rattle.integer_tableau.specs.Kept.{AreKept, HaveSameBasis, IsKept, kept_at, row_in};
 ghost use Rattle.integer_tableau.specs.declared.integer_bounds.IntegerBounds.{IntegerBounds};
 
+use crate::basic_solution::BasicSolution;
 use crate::dictionary::Dictionaries;
 use crate::integer_row::IntegerRow;
-use crate::node::Node;
 use crate::position::Position;
 use crate::program_row::ProgramRow;
 use crate::ranked_column::RankedColumn;
@@ -200,20 +200,20 @@ impl DictionaryStore {
         let _ = self.places.insert(hash, place);
     }
 
-    /// The place of the dictionary of the node's basis and this denominator, by its hash; 0 where it isn't kept.
+    /// The place of the dictionary of the solution's basis and this denominator, by its hash; 0 where it isn't kept.
     ///
     /// As many variables are nonbasic by each basis, so that two are the same where those of the one are nonbasic by the other.
-    fn found(&self, node: &Node, denominator: i64, hash: u64) -> usize
-        requires turning { (ps : List (List ℤ)) × (weight : ℕ) × (costs : List ℤ) × (place : ℕ) × (n : Node) × (turn : Turn) × (size : ℤ) × AreKept ps weight costs self.now.kept × (place < length self.now.kept.all) × IsTurning ps weight self.now.kept place n turn size node.now }
+    fn found(&self, solution: &BasicSolution, denominator: i64, hash: u64) -> usize
+        requires turning { (ps : List (List ℤ)) × (weight : ℕ) × (costs : List ℤ) × (place : ℕ) × (n : BasicSolution) × (turn : Turn) × (size : ℤ) × AreKept ps weight costs self.now.kept × (place < length self.now.kept.all) × IsTurning ps weight self.now.kept place n turn size solution.now }
         ensures there { 0 < result → result < length self.now.kept.all }
-        ensures basis { 0 < result → HaveSameBasis node.now.positions.items (kept_at self.now.kept.all result).positions }
+        ensures basis { 0 < result → HaveSameBasis solution.now.positions.items (kept_at self.now.kept.all result).positions }
         ensures denominator { 0 < result → (kept_at self.now.kept.all result).denominator ≡ denominator }
     {
         let place = self.of_hash(hash);
         if place == 0 || self.kept.divisor(place).number() != denominator {
             return 0;
         }
-        if are_nonbasic(&node.positions, self.kept.nonbasic(place)) {
+        if are_nonbasic(&solution.positions, self.kept.nonbasic(place)) {
             place
         } else {
             0
@@ -251,7 +251,7 @@ impl DictionaryStore {
         program_rows: &[ProgramRow],
         weight: u64,
         place: usize,
-        node: &Node,
+        solution: &BasicSolution,
         turn: Turn,
         pivot_size: i64,
         hash: u64,
@@ -259,9 +259,9 @@ impl DictionaryStore {
         requires kept { AreKeptOf program_rows.now weight self.old.kept }
         requires there { place < length self.old.kept.all }
         requires row { HasTurnRow program_rows.now (kept_at self.old.kept.all place) self.old.row turn }
-        requires turning { HasTurned program_rows.now weight self.old.kept place turn pivot_size node.now }
+        requires turning { HasTurned program_rows.now weight self.old.kept place turn pivot_size solution.now }
         ensures kept { StayKept program_rows.now weight self.old.kept self.new.kept }
-        ensures moved { IfSome result (IsTarget program_rows.now weight self.old.kept place turn pivot_size node.now self.new.kept) }
+        ensures moved { IfSome result (IsTarget program_rows.now weight self.old.kept place turn pivot_size solution.now self.new.kept) }
         ensures exits { IfSome result (λ q. self.new.kept.exits ≡ self.old.kept.exits) }
         ensures edges { IfSome result (λ q. self.new.kept.edges ≡ self.old.kept.edges) }
         ensures pushed { IfSome result (λ q. (q ≡ length self.old.kept.all) × ((p : ℕ) → p < q → kept_at self.new.kept.all p ≡ kept_at self.old.kept.all p)) }
@@ -293,7 +293,7 @@ impl DictionaryStore {
         Some(made)
     }
 
-    /// The place of the dictionary behind a turn, where that isn't noted; the node is there already. None where it is given up.
+    /// The place of the dictionary behind a turn, where that isn't noted; the solution is there already. None where it is given up.
     #[inline(never)]
     fn found_or_made(
         &mut self,
@@ -301,7 +301,7 @@ impl DictionaryStore {
         program_rows: &[ProgramRow],
         weight: u64,
         place: usize,
-        node: &Node,
+        solution: &BasicSolution,
         turn: Turn,
         pivot_size: i64,
     ) -> Option<usize>
@@ -309,12 +309,12 @@ impl DictionaryStore {
         requires there { place < length self.old.kept.all }
         requires edge { IsOfEdge self.old.kept place turn }
         requires row { HasTurnRow program_rows.now (kept_at self.old.kept.all place) self.old.row turn }
-        requires turning { HasTurned program_rows.now weight self.old.kept place turn pivot_size node.now }
+        requires turning { HasTurned program_rows.now weight self.old.kept place turn pivot_size solution.now }
         ensures kept { StayKept program_rows.now weight self.old.kept self.new.kept }
-        ensures moved { IfSome result (IsTarget program_rows.now weight self.old.kept place turn pivot_size node.now self.new.kept) }
+        ensures moved { IfSome result (IsTarget program_rows.now weight self.old.kept place turn pivot_size solution.now self.new.kept) }
     {
         let hash = self.kept.hash(place) ^ word_of(turn.leaving) ^ word_of(turn.entering);
-        let found = self.found(node, pivot_size, hash);
+        let found = self.found(solution, pivot_size, hash);
         if found != 0 {
             self.note_met();
             self.kept.note(turn.edge, found);
@@ -326,7 +326,7 @@ impl DictionaryStore {
             program_rows,
             weight,
             place,
-            node,
+            solution,
             turn,
             pivot_size,
             hash,
@@ -335,7 +335,7 @@ impl DictionaryStore {
         Some(made)
     }
 
-    /// The place of the dictionary behind a turn; the node is there already. None where it is given up.
+    /// The place of the dictionary behind a turn; the solution is there already. None where it is given up.
     #[inline(always)]
     pub(crate) fn target(
         &mut self,
@@ -343,7 +343,7 @@ impl DictionaryStore {
         program_rows: &[ProgramRow],
         weight: u64,
         place: usize,
-        node: &Node,
+        solution: &BasicSolution,
         turn: Turn,
         pivot_size: i64,
     ) -> Option<usize>
@@ -351,14 +351,22 @@ impl DictionaryStore {
         requires there { place < length self.old.kept.all }
         requires edge { IsOfEdge self.old.kept place turn }
         requires row { HasTurnRow program_rows.now (kept_at self.old.kept.all place) self.old.row turn }
-        requires turning { HasTurned program_rows.now weight self.old.kept place turn pivot_size node.now }
+        requires turning { HasTurned program_rows.now weight self.old.kept place turn pivot_size solution.now }
         ensures kept { StayKept program_rows.now weight self.old.kept self.new.kept }
-        ensures moved { IfSome result (IsTarget program_rows.now weight self.old.kept place turn pivot_size node.now self.new.kept) }
+        ensures moved { IfSome result (IsTarget program_rows.now weight self.old.kept place turn pivot_size solution.now self.new.kept) }
     {
         if turn.target != 0 && self.kept.divisor(turn.target).number() == pivot_size {
             self.note_met();
             return Some(turn.target);
         }
-        self.found_or_made(alloc, program_rows, weight, place, node, turn, pivot_size)
+        self.found_or_made(
+            alloc,
+            program_rows,
+            weight,
+            place,
+            solution,
+            turn,
+            pivot_size,
+        )
     }
 }

@@ -8,16 +8,16 @@ ghost use Rattle.integer_tableau.specs.RankedColumns.{edge_of};
 ghost use Rattle.integer_tableau.specs.declared.integer_bounds.IntegerBounds.{IntegerBounds};
 ghost use Rattle.std.specs.List.{Any, position, position_or_len};
 
+use crate::basic_solution::BasicSolution;
 use crate::column_ranking::rank_to_best;
 use crate::dictionary::{Dictionaries, Dictionary};
 use crate::entering::{Candidate, enters};
-use crate::node::Node;
 use crate::position::Position;
 use crate::ranked_column::RankedColumn;
 use std::alloc::{AllocError, Global};
 use tableau::Direction;
 
-/// A variable that may enter where another one leaves. Whether it does is a matter of the bounds at which a node's variables are.
+/// A variable that may enter where another one leaves. Whether it does is a matter of the bounds at which a solution's variables are.
 #[derive(Clone, Copy)]
 pub(crate) struct Edge {
     /// The place of the dictionary from which it leads.
@@ -207,20 +207,25 @@ impl Dictionaries {
         Ok(exit)
     }
 
-    /// The place of the first edge of an exit whose variable may enter at a node, none where none of those that are noted may.
+    /// The place of the first edge of an exit whose variable may enter at a solution, none where none of those that are noted may.
     #[inline(always)]
-    pub(crate) fn edge_of(&self, node: &Node, direction: Direction, exit: usize) -> Option<usize>
+    pub(crate) fn edge_of(
+        &self,
+        solution: &BasicSolution,
+        direction: Direction,
+        exit: usize,
+    ) -> Option<usize>
         requires there { exit < length self.now.exits }
         requires within { (exit_at self.now.exits exit).first + (exit_at self.now.exits exit).count ≤ length self.now.edges }
-        requires at_upper_there { All (λ (e : Edge). e.entering < length node.now.at_upper.items) (edges_of self.now.edges (exit_at self.now.exits exit)) }
-        requires bounds_there { length node.now.bounds.items ≡ length node.now.at_upper.items }
-        requires free { node.now.free.items ≡ are_free node.now.bounds.items }
-        ensures none { IfNone result (All (λ (e : Edge). edge_enters direction node.now.at_upper.items node.now.bounds.items e ≡ false) (edges_of self.now.edges (exit_at self.now.exits exit))) }
-        ensures some { IfSome result (λ p. (i : ℕ) × (position (edge_enters direction node.now.at_upper.items node.now.bounds.items) (edges_of self.now.edges (exit_at self.now.exits exit)) ≡ Some i) × (p ≡ (exit_at self.now.exits exit).first + i) × (p < length self.now.edges)) }
+        requires at_upper_there { All (λ (e : Edge). e.entering < length solution.now.at_upper.items) (edges_of self.now.edges (exit_at self.now.exits exit)) }
+        requires bounds_there { length solution.now.bounds.items ≡ length solution.now.at_upper.items }
+        requires free { solution.now.free.items ≡ are_free solution.now.bounds.items }
+        ensures none { IfNone result (All (λ (e : Edge). edge_enters direction solution.now.at_upper.items solution.now.bounds.items e ≡ false) (edges_of self.now.edges (exit_at self.now.exits exit))) }
+        ensures some { IfSome result (λ p. (i : ℕ) × (position (edge_enters direction solution.now.at_upper.items solution.now.bounds.items) (edges_of self.now.edges (exit_at self.now.exits exit)) ≡ Some i) × (p ≡ (exit_at self.now.exits exit).first + i) × (p < length self.now.edges)) }
     {
         let own = &self.exits[exit];
         let edges = &self.edges[own.first..own.first + own.count];
-        let index = first_that_enters(edges, direction, &node.at_upper, &node.free);
+        let index = first_that_enters(edges, direction, &solution.at_upper, &solution.free);
         if index < own.count {
             Some(own.first + index)
         } else {
@@ -234,7 +239,7 @@ impl Dictionaries {
         &self,
         columns: &mut Vec<RankedColumn>,
         place: usize,
-        node: &Node,
+        solution: &BasicSolution,
         direction: Direction,
         exit: usize,
         row: &[i64],
@@ -243,11 +248,11 @@ impl Dictionaries {
         requires place_there { place < length self.now.all }
         requires there { exit < length self.now.exits }
         requires from { (exit_at self.now.exits exit).from ≡ place }
-        requires at_upper_there { length node.now.at_upper.items ≡ length (kept_at self.now.all place).positions }
-        requires bounds_there { length node.now.bounds.items ≡ length node.now.at_upper.items }
-        requires none { All (λ (e : Edge). edge_enters direction node.now.at_upper.items node.now.bounds.items e ≡ false) (edges_of self.now.edges (exit_at self.now.exits exit)) }
-        ensures none { IfOk result (λ b. b ≡ false → entering_by_numerators 0 direction None (kept_at self.now.all place).positions node.now.at_upper.items node.now.bounds.items (kept_at self.now.all place).reduced_costs row.now ≡ None) }
-        ensures some { IfOk result (λ b. b ≡ true → (best : Candidate) × (entering_by_numerators 0 direction None (kept_at self.now.all place).positions node.now.at_upper.items node.now.bounds.items (kept_at self.now.all place).reduced_costs row.now ≡ Some best) × AreEdgesTo (kept_at self.now.all place).nonbasic (kept_at self.now.all place).reduced_costs row.now best (edges_of self.now.edges (exit_at self.now.exits exit) ++ map (edge_of place (exit_at self.now.exits exit).variable) columns.new.items)) }
+        requires at_upper_there { length solution.now.at_upper.items ≡ length (kept_at self.now.all place).positions }
+        requires bounds_there { length solution.now.bounds.items ≡ length solution.now.at_upper.items }
+        requires none { All (λ (e : Edge). edge_enters direction solution.now.at_upper.items solution.now.bounds.items e ≡ false) (edges_of self.now.edges (exit_at self.now.exits exit)) }
+        ensures none { IfOk result (λ b. b ≡ false → entering_by_numerators 0 direction None (kept_at self.now.all place).positions solution.now.at_upper.items solution.now.bounds.items (kept_at self.now.all place).reduced_costs row.now ≡ None) }
+        ensures some { IfOk result (λ b. b ≡ true → (best : Candidate) × (entering_by_numerators 0 direction None (kept_at self.now.all place).positions solution.now.at_upper.items solution.now.bounds.items (kept_at self.now.all place).reduced_costs row.now ≡ Some best) × AreEdgesTo (kept_at self.now.all place).nonbasic (kept_at self.now.all place).reduced_costs row.now best (edges_of self.now.edges (exit_at self.now.exits exit) ++ map (edge_of place (exit_at self.now.exits exit).variable) columns.new.items)) }
     {
         let costs = self.reduced_costs(place);
         let nonbasic = self.nonbasic(place);
@@ -258,8 +263,8 @@ impl Dictionaries {
             columns,
             direction,
             nonbasic,
-            &node.at_upper,
-            &node.bounds,
+            &solution.at_upper,
+            &solution.bounds,
             costs,
             row,
             last,
@@ -276,7 +281,7 @@ impl Dictionaries {
         &mut self,
         columns: &mut Vec<RankedColumn>,
         place: usize,
-        node: &Node,
+        solution: &BasicSolution,
         direction: Direction,
         exit: usize,
         row: &[i64],
@@ -285,14 +290,14 @@ impl Dictionaries {
         requires place_there { place < length self.old.all }
         requires there { exit < length self.old.exits }
         requires from { (exit_at self.old.exits exit).from ≡ place }
-        requires at_upper_there { length node.now.at_upper.items ≡ length (kept_at self.old.all place).positions }
-        requires bounds_there { length node.now.bounds.items ≡ length node.now.at_upper.items }
-        requires none { All (λ (e : Edge). edge_enters direction node.now.at_upper.items node.now.bounds.items e ≡ false) (edges_of self.old.edges (exit_at self.old.exits exit)) }
+        requires at_upper_there { length solution.now.at_upper.items ≡ length (kept_at self.old.all place).positions }
+        requires bounds_there { length solution.now.bounds.items ≡ length solution.now.at_upper.items }
+        requires none { All (λ (e : Edge). edge_enters direction solution.now.at_upper.items solution.now.bounds.items e ≡ false) (edges_of self.old.edges (exit_at self.old.exits exit)) }
         ensures same { HaveSameDictionaries self.new self.old }
         ensures kept { (ps : List (List ℤ)) (weight : ℕ) (costs : List ℤ) → row.now ≡ row_in ps (kept_at self.old.all place) (exit_at self.old.exits exit).variable → AreKept ps weight costs self.old → AreKept ps weight costs self.new }
-        ensures taken { IfOk result (λ o. (ps : List (List ℤ)) → row.now ≡ row_in ps (kept_at self.old.all place) (exit_at self.old.exits exit).variable → IsTaken ps self.new.edges place (kept_at self.new.all place) node.now (exit_at self.old.exits exit).variable direction o) }
+        ensures taken { IfOk result (λ o. (ps : List (List ℤ)) → row.now ≡ row_in ps (kept_at self.old.all place) (exit_at self.old.exits exit).variable → IsTaken ps self.new.edges place (kept_at self.new.all place) solution.now (exit_at self.old.exits exit).variable direction o) }
     {
-        if !self.rank_further(columns, place, node, direction, exit, row)? {
+        if !self.rank_further(columns, place, solution, direction, exit, row)? {
             return Ok(None);
         }
         self.exits[exit] = lengthen(&mut self.edges, self.exits[exit], columns)?;

@@ -3,6 +3,7 @@
 
 mod answers;
 mod basic_columns;
+mod basic_solution;
 mod coefficient_columns;
 mod column_ranking;
 mod combination;
@@ -27,7 +28,6 @@ mod limits;
 mod low_sums;
 mod made_dictionary;
 mod narrow;
-mod node;
 mod pivot;
 mod place;
 mod position;

@@ -5,9 +5,9 @@ ghost use Rattle.tableau.specs.LinearProgram.{over};
 ghost use Rattle.tableau.specs.Place.{PlaceIsWithin};
 ghost use Rattle.integer_tableau.specs.Run.{IsRunOver};
 
+use crate::basic_solution::BasicSolution;
 use crate::integer_program::{IntegerProgram, bounds_over};
 use crate::integer_tableau::IntegerTableau;
-use crate::node::Node;
 use crate::run::IntegerRunEnd;
 use crate::stored_run::run_stored;
 use problem_box::IntBox;
@@ -58,7 +58,7 @@ impl IntegerProgram {
             return self.run_apart(alloc, area, cap);
         }
         let bounds = bounds_over(alloc, area, self.costs.width(), &self.bounds)?;
-        let Some(node) = Node::start(
+        let Some(solution) = BasicSolution::start(
             alloc,
             self.rows.len(),
             &self.columns,
@@ -76,7 +76,7 @@ impl IntegerProgram {
             &self.columns,
             self.weight,
             &mut self.store,
-            node,
+            solution,
             cap,
         )))
     }

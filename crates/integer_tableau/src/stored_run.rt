@@ -8,9 +8,9 @@ ghost use Rattle.integer_tableau.specs.RowSums.{AreColumnsOf};
 ghost use Rattle.integer_tableau.specs.StoreCalls.{AreKeptOf, StayKept};
 ghost use Rattle.integer_tableau.specs.StoredRun.{IsStep, dictionary_at, view_with};
 
+use crate::basic_solution::BasicSolution;
 use crate::coefficient_columns::CoefficientColumns;
 use crate::dictionary_store::DictionaryStore;
-use crate::node::Node;
 use crate::pivot::size_of;
 use crate::program_row::ProgramRow;
 use crate::request::Request;
@@ -19,7 +19,7 @@ use std::alloc::Global;
 use std::rc::RcSlice;
 use tableau::Place;
 
-/// What comes of a node.
+/// What comes of a solution.
 #[derive(Clone, Copy)]
 pub(crate) enum Step {
     /// It asks for no pivot: the run ends at this place.
@@ -28,11 +28,11 @@ pub(crate) enum Step {
     Moved(usize),
     /// It is where it was: no dictionary more is kept for now, or memory is wanting.
     Closed,
-    /// The pivot is given up. The node is of no use.
+    /// The pivot is given up. The solution is of no use.
     GivenUp,
 }
 
-/// The step of a node at the dictionary of this place.
+/// The step of a solution at the dictionary of this place.
 #[inline(always)]
 fn make_step(
     alloc: Global,
@@ -41,20 +41,20 @@ fn make_step(
     weight: u64,
     store: &mut DictionaryStore,
     place: usize,
-    node: &mut Node,
+    solution: &mut BasicSolution,
 ) -> Step
     requires kept { AreKeptOf program_rows.now weight store.old.kept }
     requires columns { IfSome columns.now (AreColumnsOf program_rows.now) }
     requires there { place < length store.old.kept.all }
-    requires at { IsAt program_rows.now weight (kept_at store.old.kept.all place) node.old }
-    requires room { node.old.pivots + 1 < 2 ^ 64 }
+    requires at { IsAt program_rows.now weight (kept_at store.old.kept.all place) solution.old }
+    requires room { solution.old.pivots + 1 < 2 ^ 64 }
     ensures kept { StayKept program_rows.now weight store.old.kept store.new.kept }
-    ensures step { IsStep program_rows.now weight store.old.kept place node.old store.new.kept node.new result }
+    ensures step { IsStep program_rows.now weight store.old.kept place solution.old store.new.kept solution.new result }
 {
     if store.is_suspended_or_full() {
         return Step::Closed;
     }
-    let turn = match store.request(alloc, program_rows, columns, place, node) {
+    let turn = match store.request(alloc, program_rows, columns, place, solution) {
         Request::Stops(last) => return Step::Ended(last),
         Request::Unknown => return Step::Closed,
         Request::Goes(turn) => turn,
@@ -62,16 +62,16 @@ fn make_step(
     let Some(size) = size_of(turn.coefficient) else {
         return Step::GivenUp;
     };
-    if !node.turn(program_rows, columns, &store.kept, place, turn, size) {
+    if !solution.turn(program_rows, columns, &store.kept, place, turn, size) {
         return Step::GivenUp;
     }
-    match store.target(alloc, program_rows, weight, place, node, turn, size) {
+    match store.target(alloc, program_rows, weight, place, solution, turn, size) {
         Some(target) => Step::Moved(target),
         None => Step::GivenUp,
     }
 }
 
-/// The run of a node with at most `cap` further pivots, by a tableau of its own, after so many. The error says that it is given up, and how
+/// The run of a solution with at most `cap` further pivots, by a tableau of its own, after so many. The error says that it is given up, and how
 /// many pivots were made before.
 fn run_alone(
     alloc: Global,
@@ -80,23 +80,29 @@ fn run_alone(
     weight: u64,
     store: &DictionaryStore,
     place: usize,
-    node: Node,
+    solution: BasicSolution,
     cap: u64,
     made: u64,
 ) -> Result<IntegerRunEnd, u64>
     requires kept { AreKeptOf program_rows.now.items.value.items weight store.now.kept }
     requires there { place < length store.now.kept.all }
-    requires at { IsAt program_rows.now.items.value.items weight (kept_at store.now.kept.all place) node }
-    requires room { node.pivots + cap < 2 ^ 64 }
+    requires at { IsAt program_rows.now.items.value.items weight (kept_at store.now.kept.all place) solution }
+    requires room { solution.pivots + cap < 2 ^ 64 }
     requires few { made + cap < 2 ^ 64 }
-    ensures value { IfOk result (λ e. EndsAs (run_from cap (view_of numbers.now program_rows.now.items.value.items (kept_at store.now.kept.all place) node)) e.place e.tableau) }
+    ensures value { IfOk result (λ e. EndsAs (run_from cap (view_of numbers.now program_rows.now.items.value.items (kept_at store.now.kept.all place) solution)) e.place e.tableau) }
     ensures within { IfOk result (λ e. PlaceIsWithin (length e.tableau.statuses) e.place) }
     ensures exact { IfOk result (λ e. e.place ≢ Place.Cramped) }
-    ensures capped { IfOk result (λ e. e.tableau.pivots ≤ node.pivots + cap) }
+    ensures capped { IfOk result (λ e. e.tableau.pivots ≤ solution.pivots + cap) }
     ensures given_up { IfErr result (λ m. m ≤ made + cap) }
 {
-    let Ok(tableau) = node.into_tableau(alloc, numbers, program_rows, weight, &store.kept, place)
-    else {
+    let Ok(tableau) = solution.into_tableau(
+        alloc,
+        numbers,
+        program_rows,
+        weight,
+        &store.kept,
+        place,
+    ) else {
         return Err(made);
     };
     match tableau.run(cap) {
@@ -105,7 +111,7 @@ fn run_alone(
     }
 }
 
-/// The end of a run at the last place of a node, after so many pivots. The error says that it is given up.
+/// The end of a run at the last place of a solution, after so many pivots. The error says that it is given up.
 fn ended(
     alloc: Global,
     numbers: &[u32],
@@ -113,24 +119,24 @@ fn ended(
     weight: u64,
     store: &DictionaryStore,
     at: usize,
-    node: Node,
+    solution: BasicSolution,
     place: Place,
     made: u64,
 ) -> Result<IntegerRunEnd, u64>
     requires kept { AreKeptOf program_rows.now.items.value.items weight store.now.kept }
     requires there { at < length store.now.kept.all }
-    requires at_dictionary { IsAt program_rows.now.items.value.items weight (kept_at store.now.kept.all at) node }
+    requires at_dictionary { IsAt program_rows.now.items.value.items weight (kept_at store.now.kept.all at) solution }
     ensures place { IfOk result (λ e. e.place ≡ place) }
-    ensures tableau { IfOk result (λ e. e.tableau ≡ view_of numbers.now program_rows.now.items.value.items (kept_at store.now.kept.all at) node) }
+    ensures tableau { IfOk result (λ e. e.tableau ≡ view_of numbers.now program_rows.now.items.value.items (kept_at store.now.kept.all at) solution) }
     ensures given_up { IfErr result (λ m. m ≡ made) }
 {
-    match node.into_tableau(alloc, numbers, program_rows, weight, &store.kept, at) {
+    match solution.into_tableau(alloc, numbers, program_rows, weight, &store.kept, at) {
         Ok(tableau) => Ok(IntegerRunEnd { place, tableau }),
         Err(_) => Err(made),
     }
 }
 
-/// The run of a node from the first dictionary with at most `cap` pivots. The error says that it is given up, and how many pivots were made
+/// The run of a solution from the first dictionary with at most `cap` pivots. The error says that it is given up, and how many pivots were made
 /// before.
 pub(crate) fn run_stored(
     alloc: Global,
@@ -139,22 +145,22 @@ pub(crate) fn run_stored(
     columns: &Option<CoefficientColumns>,
     weight: u64,
     store: &mut DictionaryStore,
-    node: Node,
+    solution: BasicSolution,
     cap: u64,
 ) -> Result<IntegerRunEnd, u64>
     requires kept { AreKeptOf program_rows.now.items.value.items weight store.old.kept }
     requires columns { IfSome columns.now (AreColumnsOf program_rows.now.items.value.items) }
     requires some { 0 < length store.old.kept.all }
-    requires at { IsAt program_rows.now.items.value.items weight (kept_at store.old.kept.all 0) node }
-    requires fresh { node.pivots ≡ 0 }
-    ensures value { IfOk result (λ e. EndsAs (run_from cap (view_with numbers.now program_rows.now.items.value.items (dictionary_at store.old.kept 0) node)) e.place e.tableau) }
+    requires at { IsAt program_rows.now.items.value.items weight (kept_at store.old.kept.all 0) solution }
+    requires fresh { solution.pivots ≡ 0 }
+    ensures value { IfOk result (λ e. EndsAs (run_from cap (view_with numbers.now program_rows.now.items.value.items (dictionary_at store.old.kept 0) solution)) e.place e.tableau) }
     ensures within { IfOk result (λ e. PlaceIsWithin (length e.tableau.statuses) e.place) }
     ensures exact { IfOk result (λ e. e.place ≢ Place.Cramped) }
     ensures capped { IfOk result (λ e. e.tableau.pivots ≤ cap) }
     ensures given_up { IfErr result (λ made. made ≤ cap) }
     ensures kept { StayKept program_rows.now.items.value.items weight store.old.kept store.new.kept }
 {
-    let mut node = node;
+    let mut solution = solution;
     let mut place = 0;
     for made in 0..cap {
         match make_step(
@@ -164,7 +170,7 @@ pub(crate) fn run_stored(
             weight,
             store,
             place,
-            &mut node,
+            &mut solution,
         ) {
             Step::Moved(next) => place = next,
             Step::Ended(last) => {
@@ -175,7 +181,7 @@ pub(crate) fn run_stored(
                     weight,
                     store,
                     place,
-                    node,
+                    solution,
                     last,
                     made,
                 );
@@ -189,7 +195,7 @@ pub(crate) fn run_stored(
                     weight,
                     store,
                     place,
-                    node,
+                    solution,
                     rest,
                     made,
                 );
@@ -204,7 +210,7 @@ pub(crate) fn run_stored(
         weight,
         store,
         place,
-        node,
+        solution,
         0,
         cap,
     )

@@ -1,16 +1,16 @@
-// What a turn changes of a node.
+// What a turn changes of a solution.
 
 ghost use Rattle.std.specs.Prelude.{◌≡◌, ◌<◌, ◌+◌, ◌*◌, ◌^◌, ◌+ℤ◌, ◌-ℤ◌, ◌*ℤ◌, ℕ, ℤ, pos, nat_abs, length, slice_index_or, IfSome, IsTrue};
 ghost use Rattle.integer_tableau.specs.Arena.{flat_row};
 ghost use Rattle.integer_tableau.specs.Kept.{kept_at};
 ghost use Rattle.integer_tableau.specs.Numbers.{number_at};
 ghost use Rattle.integer_tableau.specs.RowSums.{AreColumnsOf};
-ghost use Rattle.integer_tableau.specs.StoredRun.{IsNodeOf, IsTurnAt, IsTurned, dictionary_at};
+ghost use Rattle.integer_tableau.specs.StoredRun.{IsSolutionOf, IsTurnAt, IsTurned, dictionary_at};
 
+use crate::basic_solution::BasicSolution;
 use crate::coefficient_columns::CoefficientColumns;
 use crate::dictionary::Dictionaries;
 use crate::divisor::Divisor;
-use crate::node::Node;
 use crate::pivot::{is_near, is_upper, size_of};
 use crate::position::Position;
 use crate::program_row::ProgramRow;
@@ -54,8 +54,8 @@ fn step_basic_values(
     true
 }
 
-impl Node {
-    /// Takes the node along a turn, the size of whose pivot is this one; false where that is given up, since numbers grow too large. The node is of no use
+impl BasicSolution {
+    /// Takes the solution along a turn, the size of whose pivot is this one; false where that is given up, since numbers grow too large. The solution is of no use
     /// then.
     #[inline(never)]
     pub(crate) fn turn(
@@ -67,7 +67,7 @@ impl Node {
         turn: Turn,
         size: i64,
     ) -> bool
-        requires node { IsNodeOf program_rows.now (kept_at dictionaries.now.all place) self.old }
+        requires solution { IsSolutionOf program_rows.now (kept_at dictionaries.now.all place) self.old }
         requires columns { IfSome columns.now (AreColumnsOf program_rows.now) }
         requires there { place < length dictionaries.now.all }
         requires turn { IsTurnAt program_rows.now (dictionary_at dictionaries.now place) self.old turn }

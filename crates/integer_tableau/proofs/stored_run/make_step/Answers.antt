@@ -1,7 +1,7 @@
 use Rattle.std.proofs.Common.{◌≡◌, ◌<◌, ap, arith, nat_abs, of_z, pos, refl, rules, subst, to_z, w64, ◌∙◌}
 use mir.Val.{SFits}
 use Rattle.std.proofs.lemmas.Int.{to_z-of_z}
-use Rattle.integer_tableau.proofs.Requests.{as_many, node_of}
+use Rattle.integer_tableau.proofs.Requests.{as_many, solution_of}
 use Rattle.integer_tableau.proofs.StoredRuns.{at_same_place, move_same, turn_same, turning}
 use Rattle.integer_tableau.proofs.stored_run.make_step.Goals as goal
 
@@ -14,13 +14,13 @@ returns-in-Unknown-clause-kept c = λ costs h. c.request.ensures.kept c.args.wei
 pub returns-in_default-clause-kept : goal.returns-in_default-clause-kept
 returns-in_default-clause-kept c = λ costs h. c.request.ensures.kept c.args.weight costs h
 
-pub turn-requires-clause-node : goal.turn-requires-clause-node
-turn-requires-clause-node c =
+pub turn-requires-clause-solution : goal.turn-requires-clause-solution
+turn-requires-clause-solution c =
     let a = c.args in
     let old = a.store.now.kept in
     let mid = c.request.new.self.kept in
-    node_of a.program_rows.now a.weight c.requires.kept.0 mid a.place a.node.now (omega (arith, c.requires.there, as_many mid old c.request.ensures.same))
-    (c.request.ensures.kept a.weight c.requires.kept.0 c.requires.kept.1) (at_same_place a.program_rows.now a.weight mid old a.place a.node.now c.request.ensures.same c.requires.there c.requires.at)
+    solution_of a.program_rows.now a.weight c.requires.kept.0 mid a.place a.solution.now (omega (arith, c.requires.there, as_many mid old c.request.ensures.same))
+    (c.request.ensures.kept a.weight c.requires.kept.0 c.requires.kept.1) (at_same_place a.program_rows.now a.weight mid old a.place a.solution.now c.request.ensures.same c.requires.there c.requires.at)
 
 pub turn-requires-clause-there : goal.turn-requires-clause-there
 turn-requires-clause-there c = omega (arith, c.requires.there, as_many c.request.new.self.kept c.args.store.now.kept c.request.ensures.same)
@@ -28,7 +28,7 @@ turn-requires-clause-there c = omega (arith, c.requires.there, as_many c.request
 pub turn-requires-clause-turn : goal.turn-requires-clause-turn
 turn-requires-clause-turn c =
     let a = c.args in
-    turn_same a.program_rows.now c.request.new.self.kept a.store.now.kept a.place a.node.now c.in-Goes.turn c.request.ensures.same c.requires.there c.in-Goes.ensures.request
+    turn_same a.program_rows.now c.request.new.self.kept a.store.now.kept a.place a.solution.now c.in-Goes.turn c.request.ensures.same c.requires.there c.in-Goes.ensures.request
 
 pub returns-then-not-turn-clause-kept : goal.returns-then-not-turn-clause-kept
 returns-then-not-turn-clause-kept c = λ costs h. c.request.ensures.kept c.args.weight costs h
@@ -50,10 +50,10 @@ target-requires-clause-turning c =
     let g : SFits w64 c.in-Some.size = search rules in
     let size = to_z w64 (of_z w64 c.in-Some.size) in
     let size_is : size ≡ pos (nat_abs w.coefficient) = to_z-of_z w64 c.in-Some.size g ∙ c.in-Some.ensures.0 ∙ ap (λ z. pos (nat_abs z)) same in (
-      a.node.now,
-      turning a.program_rows.now a.weight mid a.place a.node.now w size c.turn.new.self
-          (at_same_place a.program_rows.now a.weight mid old a.place a.node.now c.request.ensures.same c.requires.there c.requires.at)
-          (turn_same a.program_rows.now mid old a.place a.node.now w c.request.ensures.same c.requires.there c.in-Goes.ensures.request)
+      a.solution.now,
+      turning a.program_rows.now a.weight mid a.place a.solution.now w size c.turn.new.self
+          (at_same_place a.program_rows.now a.weight mid old a.place a.solution.now c.request.ensures.same c.requires.there c.requires.at)
+          (turn_same a.program_rows.now mid old a.place a.solution.now w c.request.ensures.same c.requires.there c.in-Goes.ensures.request)
           size_is (subst (λ z. 0 < nat_abs z) same c.in-Some.ensures.1) (c.if-not-turn.ensures.near refl) (c.if-not-turn.ensures.turned refl),
     )
 
@@ -71,10 +71,10 @@ returns-in-Some-target-clause-step c =
     let g : SFits w64 c.in-Some.size = search rules in
     let size = to_z w64 (of_z w64 c.in-Some.size) in
     let size_is : size ≡ pos (nat_abs w.coefficient) = to_z-of_z w64 c.in-Some.size g ∙ c.in-Some.ensures.0 ∙ ap (λ z. pos (nat_abs z)) same in
-    move_same a.program_rows.now a.weight mid old a.place a.node.now c.target.new.self.kept c.in-Some-target.target c.turn.new.self c.request.ensures.same c.requires.there
-    (c.in-Some-target.ensures.moved a.node.now (turning a.program_rows.now a.weight mid a.place a.node.now w size c.turn.new.self
-    (at_same_place a.program_rows.now a.weight mid old a.place a.node.now c.request.ensures.same c.requires.there c.requires.at)
-    (turn_same a.program_rows.now mid old a.place a.node.now w c.request.ensures.same c.requires.there c.in-Goes.ensures.request)
+    move_same a.program_rows.now a.weight mid old a.place a.solution.now c.target.new.self.kept c.in-Some-target.target c.turn.new.self c.request.ensures.same c.requires.there
+    (c.in-Some-target.ensures.moved a.solution.now (turning a.program_rows.now a.weight mid a.place a.solution.now w size c.turn.new.self
+    (at_same_place a.program_rows.now a.weight mid old a.place a.solution.now c.request.ensures.same c.requires.there c.requires.at)
+    (turn_same a.program_rows.now mid old a.place a.solution.now w c.request.ensures.same c.requires.there c.in-Goes.ensures.request)
     size_is (subst (λ z. 0 < nat_abs z) same c.in-Some.ensures.1) (c.if-not-turn.ensures.near refl) (c.if-not-turn.ensures.turned refl)))
 
 pub returns-in-None-clause-kept : goal.returns-in-None-clause-kept

@@ -31,7 +31,7 @@ pub ended-requires-clause-at_dictionary : goal.ended-requires-clause-at_dictiona
 ended-requires-clause-at_dictionary c =
     let a = c.args in
     let l = c.loop-made in
-    unmoved_at a.program_rows.now.items.value.items a.weight l.store.kept c.make_step.new.store.kept l.place l.node c.make_step.new.node c.in-Ended.ensures.step.0 l.invariant.there l.invariant.at
+    unmoved_at a.program_rows.now.items.value.items a.weight l.store.kept c.make_step.new.store.kept l.place l.solution c.make_step.new.solution c.in-Ended.ensures.step.0 l.invariant.there l.invariant.at
 
 pub returns-in-Ended-clause-value : goal.returns-in-Ended-clause-value
 returns-in-Ended-clause-value c =
@@ -40,11 +40,11 @@ returns-in-Ended-clause-value c =
     let ps = a.program_rows.now.items.value.items in
     let old = l.store.kept in
     let new = c.make_step.new.store.kept in
-    let m = c.make_step.new.node in
-    let s = subst (λ ps. IsStep ps a.weight old l.place l.node new m (Ended c.in-Ended.last)) c.deref.ensures.value c.in-Ended.ensures.step in
-    let v = unmoved_view a.numbers.now ps old new l.place l.node m s.0 l.invariant.there in
-    run_ended a.cap l.made (view_with a.numbers.now ps (dictionary_at old l.place) l.node) _ c.in-Ended.last c.ended.result c.loop-made-test.true
-    (last_numbered a.numbers.now ps (dictionary_at old l.place) l.node c.in-Ended.last s.1) l.invariant.same c.ended.ensures.place (IfOk-weaker c.ended.result _ _ (λ e h. h ∙ v) c.ended.ensures.tableau)
+    let m = c.make_step.new.solution in
+    let s = subst (λ ps. IsStep ps a.weight old l.place l.solution new m (Ended c.in-Ended.last)) c.deref.ensures.value c.in-Ended.ensures.step in
+    let v = unmoved_view a.numbers.now ps old new l.place l.solution m s.0 l.invariant.there in
+    run_ended a.cap l.made (view_with a.numbers.now ps (dictionary_at old l.place) l.solution) _ c.in-Ended.last c.ended.result c.loop-made-test.true
+    (last_numbered a.numbers.now ps (dictionary_at old l.place) l.solution c.in-Ended.last s.1) l.invariant.same c.ended.ensures.place (IfOk-weaker c.ended.result _ _ (λ e h. h ∙ v) c.ended.ensures.tableau)
 
 pub returns-in-Ended-clause-within : goal.returns-in-Ended-clause-within
 returns-in-Ended-clause-within c =
@@ -53,10 +53,10 @@ returns-in-Ended-clause-within c =
     let ps = a.program_rows.now.items.value.items in
     let old = l.store.kept in
     let new = c.make_step.new.store.kept in
-    let m = c.make_step.new.node in
-    let s = subst (λ ps. IsStep ps a.weight old l.place l.node new m (Ended c.in-Ended.last)) c.deref.ensures.value c.in-Ended.ensures.step in
-    let v = unmoved_view a.numbers.now ps old new l.place l.node m s.0 l.invariant.there in
-    ended_within (view_with a.numbers.now ps (dictionary_at old l.place) l.node) c.in-Ended.last c.ended.result (last_numbered a.numbers.now ps (dictionary_at old l.place) l.node c.in-Ended.last s.1)
+    let m = c.make_step.new.solution in
+    let s = subst (λ ps. IsStep ps a.weight old l.place l.solution new m (Ended c.in-Ended.last)) c.deref.ensures.value c.in-Ended.ensures.step in
+    let v = unmoved_view a.numbers.now ps old new l.place l.solution m s.0 l.invariant.there in
+    ended_within (view_with a.numbers.now ps (dictionary_at old l.place) l.solution) c.in-Ended.last c.ended.result (last_numbered a.numbers.now ps (dictionary_at old l.place) l.solution c.in-Ended.last s.1)
     c.ended.ensures.place (IfOk-weaker c.ended.result _ _ (λ e h. h ∙ v) c.ended.ensures.tableau)
 
 pub returns-in-Ended-clause-kept : goal.returns-in-Ended-clause-kept
@@ -80,7 +80,7 @@ pub run_alone-requires-clause-at : goal.run_alone-requires-clause-at
 run_alone-requires-clause-at c =
     let a = c.args in
     let l = c.loop-made in
-    unmoved_at a.program_rows.now.items.value.items a.weight l.store.kept c.make_step.new.store.kept l.place l.node c.make_step.new.node c.in-Closed.ensures.step l.invariant.there l.invariant.at
+    unmoved_at a.program_rows.now.items.value.items a.weight l.store.kept c.make_step.new.store.kept l.place l.solution c.make_step.new.solution c.in-Closed.ensures.step l.invariant.there l.invariant.at
 
 pub returns-in-Closed-clause-value : goal.returns-in-Closed-clause-value
 returns-in-Closed-clause-value c =
@@ -89,8 +89,8 @@ returns-in-Closed-clause-value c =
     let ps = a.program_rows.now.items.value.items in
     let old = l.store.kept in
     let new = c.make_step.new.store.kept in
-    let m = c.make_step.new.node in
-    let v = unmoved_view a.numbers.now ps old new l.place l.node m c.in-Closed.ensures.step l.invariant.there in
+    let m = c.make_step.new.solution in
+    let v = unmoved_view a.numbers.now ps old new l.place l.solution m c.in-Closed.ensures.step l.invariant.there in
     subst (λ e. IfOk c.run_alone.result (λ end. EndsAs e end.place end.tableau)) (ap (run_from (a.cap - l.made)) v ∙ l.invariant.same) c.run_alone.ensures.value
 
 pub returns-in-Closed-clause-kept : goal.returns-in-Closed-clause-kept
@@ -110,13 +110,13 @@ loop-made-preserved c =
     let ps = a.program_rows.now.items.value.items in
     let old = l.store.kept in
     let new = c.make_step.new.store.kept in
-    let m = c.make_step.new.node in
-    let h = subst (λ ps. IsStep ps a.weight old l.place l.node new m (Moved c.in-Moved.next)) c.deref.ensures.value c.in-Moved.ensures.step in
+    let m = c.make_step.new.solution in
+    let h = subst (λ ps. IsStep ps a.weight old l.place l.solution new m (Moved c.in-Moved.next)) c.deref.ensures.value c.in-Moved.ensures.step in
     record {
       kept = λ costs h. subst (λ ps. AreKept ps a.weight costs old → AreKept ps a.weight costs new) c.deref.ensures.value (c.make_step.ensures.kept costs) (l.invariant.kept costs h);
       there = h.there;
       at = h.at;
-      same = goes_on a.cap l.made (view_with a.numbers.now ps (dictionary_at old l.place) l.node) (view_with a.numbers.now ps (dictionary_at new c.in-Moved.next) m) _ c.loop-made-test.true (h.step a.numbers.now)
+      same = goes_on a.cap l.made (view_with a.numbers.now ps (dictionary_at old l.place) l.solution) (view_with a.numbers.now ps (dictionary_at new c.in-Moved.next) m) _ c.loop-made-test.true (h.step a.numbers.now)
           l.invariant.same;
       counted = h.counted ∙ ap (λ n. n + 1) l.invariant.counted;
     }
@@ -129,5 +129,5 @@ returns-clause-value c =
     let a = c.args in
     let l = c.loop-made in
     let none : 0 ≡ a.cap - l.made = omega (arith, c.loop-made-test.false) in
-    subst (λ e. IfOk c.run_alone-2.result (λ end. EndsAs e end.place end.tableau)) (ap (λ k. run_from k (view_with a.numbers.now a.program_rows.now.items.value.items (dictionary_at l.store.kept l.place) l.node)) none ∙ l.invariant.same)
+    subst (λ e. IfOk c.run_alone-2.result (λ end. EndsAs e end.place end.tableau)) (ap (λ k. run_from k (view_with a.numbers.now a.program_rows.now.items.value.items (dictionary_at l.store.kept l.place) l.solution)) none ∙ l.invariant.same)
     c.run_alone-2.ensures.value

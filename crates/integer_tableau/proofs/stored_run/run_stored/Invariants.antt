@@ -9,8 +9,8 @@ abbrev pub invariant-loop-made : goal.invariant-loop-made
 invariant-loop-made l = record {
   kept : (costs : List ℤ) → AreKept l.program_rows.items.value.items l.weight costs l.fn.store.kept → AreKept l.program_rows.items.value.items l.weight costs l.store.kept;
   there : l.place < length l.store.kept.all;
-  at : IsAt l.program_rows.items.value.items l.weight (kept_at l.store.kept.all l.place) l.node;
-  same : run_from (l.cap - l.made) (view_with l.numbers l.program_rows.items.value.items (dictionary_at l.store.kept l.place) l.node)
-      ≡ run_from l.cap (view_with l.numbers l.program_rows.items.value.items (dictionary_at l.fn.store.kept 0) l.fn.node);
-  counted : l.node.pivots ≡ l.made;
+  at : IsAt l.program_rows.items.value.items l.weight (kept_at l.store.kept.all l.place) l.solution;
+  same : run_from (l.cap - l.made) (view_with l.numbers l.program_rows.items.value.items (dictionary_at l.store.kept l.place) l.solution)
+      ≡ run_from l.cap (view_with l.numbers l.program_rows.items.value.items (dictionary_at l.fn.store.kept 0) l.fn.solution);
+  counted : l.solution.pivots ≡ l.made;
 }

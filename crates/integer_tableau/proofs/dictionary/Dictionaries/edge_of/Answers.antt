@@ -26,7 +26,7 @@ edges c = c.deref.ensures.value ∙ ap (λ (k : KeptDictionaries). k.edges) c.se
 pub returns-else-index-own-clause-none : goal.returns-else-index-own-clause-none
 returns-else-index-own-clause-none c =
     let a = c.args in
-    none_passes (edge_enters a.direction a.node.now.at_upper.items a.node.now.bounds.items) a.self.now.edges (exit_at a.self.now.exits a.exit) c.first_that_enters-index.result
-    (c.first_that_enters-index.ensures a.node.now.bounds.items (c.deref-3.ensures.value ∙ c.requires.free)
-    ∙ (λ i. position_or_len (edge_enters a.direction (c.deref-2.ensures.value i) a.node.now.bounds.items) (slice_range (edges c i) (own c i).first ((own c i).first + (own c i).count))))
+    none_passes (edge_enters a.direction a.solution.now.at_upper.items a.solution.now.bounds.items) a.self.now.edges (exit_at a.self.now.exits a.exit) c.first_that_enters-index.result
+    (c.first_that_enters-index.ensures a.solution.now.bounds.items (c.deref-3.ensures.value ∙ c.requires.free)
+    ∙ (λ i. position_or_len (edge_enters a.direction (c.deref-2.ensures.value i) a.solution.now.bounds.items) (slice_range (edges c i) (own c i).first ((own c i).first + (own c i).count))))
     (omega (arith, c.if-index-own.false, ap (λ (x : Exit). x.count) (own c))) c.requires.within

@@ -9,7 +9,7 @@ use Rattle.integer_tableau.specs.RankedColumns.{edge_of}
 use Rattle.integer_tableau.specs.declared.entering.Candidate.{Candidate}
 use Rattle.integer_tableau.specs.declared.exits.Edge.{Edge}
 use Rattle.integer_tableau.specs.declared.exits.Exit.{Exit}
-use Rattle.integer_tableau.specs.declared.node.Node.{Node}
+use Rattle.integer_tableau.specs.declared.basic_solution.BasicSolution.{BasicSolution}
 use Rattle.integer_tableau.specs.declared.ranked_column.RankedColumn.{RankedColumn}
 use Rattle.tableau.specs.declared.bounds.Direction.{Direction}
 use Rattle.integer_tableau.proofs.dictionary.Dictionaries.further_edge.Goals as goal
@@ -25,7 +25,7 @@ returns-in_err-self-inside-clause-kept c = λ ps weight costs row_is h.
     with_more ps weight costs (view_inside c.self.inside) c.lengthen.new.edges.items c.lengthen.ensures.stay (subst (AreKept ps weight costs) (sym c.self.view_is) h)
 
 -- what is found of the exit at a place
-abbrev IsFurther : KeptDictionaries → ℕ → ℕ → Node → Direction → List ℤ → List RankedColumn → Type 0
+abbrev IsFurther : KeptDictionaries → ℕ → ℕ → BasicSolution → Direction → List ℤ → List RankedColumn → Type 0
 IsFurther k place exit n w row cs =
     (best : Candidate) × (entering_by_numerators 0 w None (kept_at k.all place).positions n.at_upper.items n.bounds.items (kept_at k.all place).reduced_costs row ≡ Some best)
     × AreEdgesTo (kept_at k.all place).nonbasic (kept_at k.all place).reduced_costs row best (edges_of k.edges (exit_at k.exits exit) ++ map (edge_of place (exit_at k.exits exit).variable) cs)
@@ -40,11 +40,11 @@ module _ (c : After-len) where
   abbrev y : Exit
   y = c.in_ok-self-inside.field-0
 
-  found : IsFurther c.args.self.now c.args.place c.args.exit c.args.node.now c.args.direction c.args.row.now c.rank_further.new.columns.items
+  found : IsFurther c.args.self.now c.args.place c.args.exit c.args.solution.now c.args.direction c.args.row.now c.rank_further.new.columns.items
   found = c.in_ok-rank_further.ensures.some c.if-not-branch.false
 
-  further : IsFurther old c.args.place c.args.exit c.args.node.now c.args.direction c.args.row.now c.rank_further.new.columns.items
-  further = subst (λ k. IsFurther k c.args.place c.args.exit c.args.node.now c.args.direction c.args.row.now c.rank_further.new.columns.items) (sym c.self.view_is) found
+  further : IsFurther old c.args.place c.args.exit c.args.solution.now c.args.direction c.args.row.now c.rank_further.new.columns.items
+  further = subst (λ k. IsFurther k c.args.place c.args.exit c.args.solution.now c.args.direction c.args.row.now c.rank_further.new.columns.items) (sym c.self.view_is) found
 
   exit_there : c.args.exit < length old.exits
   exit_there = subst (λ (k : KeptDictionaries). c.args.exit < length k.exits) (sym c.self.view_is) c.requires.there
@@ -94,15 +94,15 @@ module _ (c : After-len) where
     after : AreKept ps weight costs (record old { exits = set old.exits c.args.exit y; edges = c.lengthen.new.edges.items })
     after = exit_changed ps weight costs (record old { edges = c.lengthen.new.edges.items }) (with_more ps weight costs old c.lengthen.new.edges.items c.lengthen.ensures.stay kept) c.args.exit y exit_there from_is noted
 
-    taken : IsTaken ps c.lengthen.new.edges.items c.args.place (kept_at old.all c.args.place) c.args.node.now x.variable c.args.direction (Some (length c.lengthen.new.edges.items - 1))
+    taken : IsTaken ps c.lengthen.new.edges.items c.args.place (kept_at old.all c.args.place) c.args.solution.now x.variable c.args.direction (Some (length c.lengthen.new.edges.items - 1))
     taken = further_taken ps old.edges c.lengthen.new.edges.items (kept_at old.all c.args.place) x y c.rank_further.new.columns.items c.args.row.now row further.0 is from_is variable_is
-        c.in_ok-self-inside.ensures.exit.2 edges to c.args.place c.args.node.now c.args.direction from further.1
+        c.in_ok-self-inside.ensures.exit.2 edges to c.args.place c.args.solution.now c.args.direction from further.1
 
 pub returns-clause-kept : goal.returns-clause-kept
 returns-clause-kept c = λ ps weight costs row_is h. after c ps weight costs row_is h
 
 -- by other rows by which the leaving row is the same
-by_others : (ps qs : List (List ℤ)) (es : List Edge) (p : ℕ) (d : KeptDictionary) (n : Node) (variable : ℕ) (w : Direction) (e : ℕ) → row_in ps d variable ≡ row_in qs d variable
+by_others : (ps qs : List (List ℤ)) (es : List Edge) (p : ℕ) (d : KeptDictionary) (n : BasicSolution) (variable : ℕ) (w : Direction) (e : ℕ) → row_in ps d variable ≡ row_in qs d variable
     → IsTaken ps es p d n variable w (Some e) → IsTaken qs es p d n variable w (Some e)
 by_others ps qs es p d n variable w e same t = record {
   enters = ap (entering_by_numerators 0 w None d.positions n.at_upper.items n.bounds.items d.reduced_costs) (sym same) ∙ t.enters;
@@ -118,6 +118,6 @@ returns-clause-taken c = λ ps row_is.
     let named : (x c).variable ≡ (exit_at c.args.self.now.exits c.args.exit).variable = ap (λ (k : KeptDictionaries). (exit_at k.exits c.args.exit).variable) c.self.view_is in
     let here = subst (λ (k : KeptDictionaries). c.args.row.now ≡ row_in ps (kept_at k.all c.args.place) (exit_at k.exits c.args.exit).variable) (sym c.self.view_is) row_is in
     let many : length es - 1 ≡ c.len.result - 1 = omega (arith, c.len.ensures, c.lengthen.new.edges.ok.0) in
-    subst (λ e. IsTaken ps es c.args.place d c.args.node.now (exit_at c.args.self.now.exits c.args.exit).variable c.args.direction (Some e)) many
-    (subst (λ v. IsTaken ps es c.args.place d c.args.node.now v c.args.direction (Some (length es - 1))) named
-    (by_others k.0 ps es c.args.place d c.args.node.now (x c).variable c.args.direction (length es - 1) (sym (row c k.0 k.1 k.2 k.4 k.3) ∙ here) (taken c k.0 k.1 k.2 k.4 k.3)))
+    subst (λ e. IsTaken ps es c.args.place d c.args.solution.now (exit_at c.args.self.now.exits c.args.exit).variable c.args.direction (Some e)) many
+    (subst (λ v. IsTaken ps es c.args.place d c.args.solution.now v c.args.direction (Some (length es - 1))) named
+    (by_others k.0 ps es c.args.place d c.args.solution.now (x c).variable c.args.direction (length es - 1) (sym (row c k.0 k.1 k.2 k.4 k.3) ∙ here) (taken c k.0 k.1 k.2 k.4 k.3)))

@@ -61,12 +61,12 @@ rank_to_best-requires-clause-noted c =
     let a = c.args in
     let b = (goal.at.rank_to_best-requires-clause-noted c).After-deref-3 in
     let last = c.last_candidate-last.result in
-    let stay : NotedStay a.direction a.node.now.at_upper.items a.node.now.bounds.items (d b).nonbasic (d b).reduced_costs a.row.now last =
-    noted_stay a.direction a.node.now.at_upper.items a.node.now.bounds.items (d b).nonbasic (d b).reduced_costs a.row.now (edges_of a.self.now.edges (x b)) last (first b) (last_is b) (λ q l. c.requires.none q _ l) in
+    let stay : NotedStay a.direction a.solution.now.at_upper.items a.solution.now.bounds.items (d b).nonbasic (d b).reduced_costs a.row.now last =
+    noted_stay a.direction a.solution.now.at_upper.items a.solution.now.bounds.items (d b).nonbasic (d b).reduced_costs a.row.now (edges_of a.self.now.edges (x b)) last (first b) (last_is b) (λ q l. c.requires.none q _ l) in
     subst (λ us. NotedStay a.direction us c.deref-3.result.now c.nonbasic-nonbasic.result.now c.reduced_costs-costs.result.now a.row.now last) (sym c.deref-2.ensures.value)
-    (subst (λ bs. NotedStay a.direction a.node.now.at_upper.items bs c.nonbasic-nonbasic.result.now c.reduced_costs-costs.result.now a.row.now last) (sym c.deref-3.ensures.value)
-    (subst (λ ns. NotedStay a.direction a.node.now.at_upper.items a.node.now.bounds.items ns c.reduced_costs-costs.result.now a.row.now last) (sym c.nonbasic-nonbasic.ensures.value)
-    (subst (λ costs. NotedStay a.direction a.node.now.at_upper.items a.node.now.bounds.items (d b).nonbasic costs a.row.now last) (sym c.reduced_costs-costs.ensures.value) stay)))
+    (subst (λ bs. NotedStay a.direction a.solution.now.at_upper.items bs c.nonbasic-nonbasic.result.now c.reduced_costs-costs.result.now a.row.now last) (sym c.deref-3.ensures.value)
+    (subst (λ ns. NotedStay a.direction a.solution.now.at_upper.items a.solution.now.bounds.items ns c.reduced_costs-costs.result.now a.row.now last) (sym c.nonbasic-nonbasic.ensures.value)
+    (subst (λ costs. NotedStay a.direction a.solution.now.at_upper.items a.solution.now.bounds.items (d b).nonbasic costs a.row.now last) (sym c.reduced_costs-costs.ensures.value) stay)))
 
 module _ (c : After-sort_unstable) where
   abbrev b : After-deref-3
@@ -79,7 +79,7 @@ module _ (c : After-sort_unstable) where
       (length c.nonbasic-nonbasic.result.now) c.rank_to_best.new.columns.items
   found = c.in_ok-rank_to_best.ensures.some c.if-not-branch.false
 
-  enters : entering_by_numerators 0 c.args.direction None (d b).positions c.args.node.now.at_upper.items c.args.node.now.bounds.items (d b).reduced_costs c.args.row.now ≡ Some found.0
+  enters : entering_by_numerators 0 c.args.direction None (d b).positions c.args.solution.now.at_upper.items c.args.solution.now.bounds.items (d b).reduced_costs c.args.row.now ≡ Some found.0
   enters =
       sym (λ i. entering_by_numerators 0 c.args.direction None (d b).positions (c.deref-2.ensures.value i) (c.deref-3.ensures.value i) (c.reduced_costs-costs.ensures.value i) c.args.row.now)
       ∙ found.1 (d b).positions (subst (AreNonbasic (d b).positions) (sym c.nonbasic-nonbasic.ensures.value) (are b)) (ap length c.deref-2.ensures.value ∙ c.requires.at_upper_there)
@@ -101,7 +101,7 @@ returns-clause-some c = λ some.
     let best = (found c).0 in (
       best,
       enters c,
-      extended a.place (x (b c)).variable a.direction (d (b c)).positions a.node.now.at_upper.items a.node.now.bounds.items (d (b c)).nonbasic (d (b c)).reduced_costs a.row.now es _ c.last_candidate-last.result best
+      extended a.place (x (b c)).variable a.direction (d (b c)).positions a.solution.now.at_upper.items a.solution.now.bounds.items (d (b c)).nonbasic (d (b c)).reduced_costs a.row.now es _ c.last_candidate-last.result best
           (are (b c)) c.requires.at_upper_there (c.requires.bounds_there ∙ c.requires.at_upper_there) (first (b c)) (λ q l. c.requires.none q _ l) (enters c)
           (subst (λ es. IfNone c.last_candidate-last.result (length es ≡ 0)) (edges (b c)) c.last_candidate-last.ensures.none) (last_is (b c))
           c.rank_to_best.new.columns.items c.sort_unstable.new.self.items (ranked c) c.sort_unstable.ensures.permutation c.sort_unstable.ensures.sorted refl,

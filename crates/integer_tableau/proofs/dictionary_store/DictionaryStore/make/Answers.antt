@@ -26,7 +26,7 @@ pub push_behind-requires-clause-width : goal.push_behind-requires-clause-width
 push_behind-requires-clause-width c =
     let a = c.args in
     (c.if-not-solve.ensures refl).width ∙ ap length c.in_ok-put_turn_row.ensures.row
-    ∙ turn_row_width a.program_rows.now a.weight a.self.now.kept a.place c.requires.turning.0 a.turn a.pivot_size a.node.now c.requires.turning.1
+    ∙ turn_row_width a.program_rows.now a.weight a.self.now.kept a.place c.requires.turning.0 a.turn a.pivot_size a.solution.now c.requires.turning.1
     ∙ ap (λ k. length (kept_at k.all a.place).rows) (sym c.put_turn_row.ensures.kept)
 
 pub is_small-requires-clause-full : goal.is_small-requires-clause-full
@@ -35,7 +35,7 @@ is_small-requires-clause-full c =
     let z = to_z-of_z w64 a.pivot_size c.ranges.pivot_size in
     let f : SFits w64 c.number-denominator.result = search rules in
     let y = to_z-of_z w64 c.number-denominator.result f ∙ c.number-denominator.ensures ∙ c.divisor.ensures in
-    code_full a.program_rows.now a.weight a.self.now.kept c.put_turn_row.new.self.kept c.put_turn_row.ensures.kept a.place c.requires.turning.0 a.turn a.pivot_size _ a.node.now z c.requires.turning.1 c.requires.there
+    code_full a.program_rows.now a.weight a.self.now.kept c.put_turn_row.new.self.kept c.put_turn_row.ensures.kept a.place c.requires.turning.0 a.turn a.pivot_size _ a.solution.now z c.requires.turning.1 c.requires.there
     c.put_turn_row.new.self.row c.solve.new.self _ c.in_ok-put_turn_row.ensures.row y (c.if-not-solve.ensures refl) c.push_behind.new.self c.in-Some.ensures.pushed.0 c.in-Some.ensures.pushed.1 c.in-Some.ensures.pushed.2
     c.count-made.result c.count-made.ensures c.requires.kept.0 c.requires.kept.1
 
@@ -45,7 +45,7 @@ is_small-requires-clause-apart c =
     let z = to_z-of_z w64 a.pivot_size c.ranges.pivot_size in
     let f : SFits w64 c.number-denominator.result = search rules in
     let y = to_z-of_z w64 c.number-denominator.result f ∙ c.number-denominator.ensures ∙ c.divisor.ensures in
-    code_apart a.program_rows.now a.weight a.self.now.kept c.put_turn_row.new.self.kept c.put_turn_row.ensures.kept a.place c.requires.turning.0 a.turn a.pivot_size _ a.node.now z c.requires.turning.1 c.requires.there
+    code_apart a.program_rows.now a.weight a.self.now.kept c.put_turn_row.new.self.kept c.put_turn_row.ensures.kept a.place c.requires.turning.0 a.turn a.pivot_size _ a.solution.now z c.requires.turning.1 c.requires.there
     c.put_turn_row.new.self.row c.solve.new.self _ c.in_ok-put_turn_row.ensures.row y (c.if-not-solve.ensures refl) c.push_behind.new.self c.in-Some.ensures.pushed.0 c.in-Some.ensures.pushed.1 c.in-Some.ensures.pushed.2
     c.count-made.result c.count-made.ensures c.requires.kept.0 c.requires.kept.1
 
@@ -55,7 +55,7 @@ is_small-requires-clause-nonbasic c =
     let z = to_z-of_z w64 a.pivot_size c.ranges.pivot_size in
     let f : SFits w64 c.number-denominator.result = search rules in
     let y = to_z-of_z w64 c.number-denominator.result f ∙ c.number-denominator.ensures ∙ c.divisor.ensures in
-    code_nonbasic a.program_rows.now a.weight a.self.now.kept c.put_turn_row.new.self.kept c.put_turn_row.ensures.kept a.place c.requires.turning.0 a.turn a.pivot_size _ a.node.now z c.requires.turning.1 c.requires.there
+    code_nonbasic a.program_rows.now a.weight a.self.now.kept c.put_turn_row.new.self.kept c.put_turn_row.ensures.kept a.place c.requires.turning.0 a.turn a.pivot_size _ a.solution.now z c.requires.turning.1 c.requires.there
     c.put_turn_row.new.self.row c.solve.new.self _ c.in_ok-put_turn_row.ensures.row y (c.if-not-solve.ensures refl) c.push_behind.new.self c.in-Some.ensures.pushed.0 c.in-Some.ensures.pushed.1 c.in-Some.ensures.pushed.2
     c.count-made.result c.count-made.ensures c.requires.kept.0 c.requires.kept.1
 
@@ -65,7 +65,7 @@ is_small-requires-clause-listed c =
     let z = to_z-of_z w64 a.pivot_size c.ranges.pivot_size in
     let f : SFits w64 c.number-denominator.result = search rules in
     let y = to_z-of_z w64 c.number-denominator.result f ∙ c.number-denominator.ensures ∙ c.divisor.ensures in
-    code_listed a.program_rows.now a.weight a.self.now.kept c.put_turn_row.new.self.kept c.put_turn_row.ensures.kept a.place c.requires.turning.0 a.turn a.pivot_size _ a.node.now z c.requires.turning.1 c.requires.there
+    code_listed a.program_rows.now a.weight a.self.now.kept c.put_turn_row.new.self.kept c.put_turn_row.ensures.kept a.place c.requires.turning.0 a.turn a.pivot_size _ a.solution.now z c.requires.turning.1 c.requires.there
     c.put_turn_row.new.self.row c.solve.new.self _ c.in_ok-put_turn_row.ensures.row y (c.if-not-solve.ensures refl) c.push_behind.new.self c.in-Some.ensures.pushed.0 c.in-Some.ensures.pushed.1 c.in-Some.ensures.pushed.2
     c.count-made.result c.count-made.ensures c.requires.kept.0 c.requires.kept.1
 
@@ -75,7 +75,7 @@ is_small-requires-clause-positive c =
     let z = to_z-of_z w64 a.pivot_size c.ranges.pivot_size in
     let f : SFits w64 c.number-denominator.result = search rules in
     let y = to_z-of_z w64 c.number-denominator.result f ∙ c.number-denominator.ensures ∙ c.divisor.ensures in
-    code_positive a.program_rows.now a.weight a.self.now.kept c.put_turn_row.new.self.kept c.put_turn_row.ensures.kept a.place c.requires.turning.0 a.turn a.pivot_size _ a.node.now z c.requires.turning.1 c.requires.there
+    code_positive a.program_rows.now a.weight a.self.now.kept c.put_turn_row.new.self.kept c.put_turn_row.ensures.kept a.place c.requires.turning.0 a.turn a.pivot_size _ a.solution.now z c.requires.turning.1 c.requires.there
     c.put_turn_row.new.self.row c.solve.new.self _ c.in_ok-put_turn_row.ensures.row y (c.if-not-solve.ensures refl) c.push_behind.new.self c.in-Some.ensures.pushed.0 c.in-Some.ensures.pushed.1 c.in-Some.ensures.pushed.2
     c.count-made.result c.count-made.ensures c.requires.kept.0 c.requires.kept.1
 
@@ -91,7 +91,7 @@ returns-clause-kept c =
     let f : SFits w64 c.number-denominator.result = search rules in
     let y = to_z-of_z w64 c.number-denominator.result f ∙ c.number-denominator.ensures ∙ c.divisor.ensures in
     λ costs h.
-    code_kept a.program_rows.now a.weight a.self.now.kept c.put_turn_row.new.self.kept c.put_turn_row.ensures.kept a.place c.requires.turning.0 a.turn a.pivot_size _ a.node.now z c.requires.turning.1 c.requires.there
+    code_kept a.program_rows.now a.weight a.self.now.kept c.put_turn_row.new.self.kept c.put_turn_row.ensures.kept a.place c.requires.turning.0 a.turn a.pivot_size _ a.solution.now z c.requires.turning.1 c.requires.there
     c.put_turn_row.new.self.row c.solve.new.self _ c.in_ok-put_turn_row.ensures.row y (c.if-not-solve.ensures refl) c.push_behind.new.self c.in-Some.ensures.pushed.0 c.in-Some.ensures.pushed.1 c.in-Some.ensures.pushed.2
     c.count-made.result c.count-made.ensures costs h c.put.new.self.kept c.put.ensures (c.if-not-is_small.ensures refl) c.in-Some.ensures.exits c.in-Some.ensures.edges
 
@@ -102,6 +102,6 @@ returns-clause-moved c =
     let f : SFits w64 c.number-denominator.result = search rules in
     let y = to_z-of_z w64 c.number-denominator.result f ∙ c.number-denominator.ensures ∙ c.divisor.ensures in
     λ n t.
-    code_moves a.program_rows.now a.weight a.self.now.kept c.put_turn_row.new.self.kept c.put_turn_row.ensures.kept a.place n a.turn a.pivot_size _ a.node.now z t c.requires.there
+    code_moves a.program_rows.now a.weight a.self.now.kept c.put_turn_row.new.self.kept c.put_turn_row.ensures.kept a.place n a.turn a.pivot_size _ a.solution.now z t c.requires.there
     c.put_turn_row.new.self.row c.solve.new.self _ c.in_ok-put_turn_row.ensures.row y (c.if-not-solve.ensures refl) c.push_behind.new.self c.in-Some.ensures.pushed.0 c.in-Some.ensures.pushed.1 c.in-Some.ensures.pushed.2
     c.count-made.result c.count-made.ensures c.requires.kept.0 c.requires.kept.1 c.put.new.self.kept c.put.ensures (c.if-not-is_small.ensures refl)

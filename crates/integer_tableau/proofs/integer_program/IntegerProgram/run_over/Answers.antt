@@ -6,7 +6,7 @@ use Rattle.tableau.specs.Start.{started}
 use Rattle.integer_tableau.proofs.Programs.{program_over}
 use Rattle.integer_tableau.proofs.StoredStarts.{at_first, can_start_over, run_over_box, started_at}
 use Rattle.integer_tableau.specs.IntegerProgram.{CanStart, column_bounds, fraction_program}
-use Rattle.integer_tableau.specs.Kept.{AreKept, IsStartNode}
+use Rattle.integer_tableau.specs.Kept.{AreKept, IsStartSolution}
 use Rattle.integer_tableau.specs.StoredRun.{dictionary_at, view_with}
 use Rattle.integer_tableau.proofs.integer_program.IntegerProgram.run_over.Goals as goal
 
@@ -19,8 +19,8 @@ invariant_of-self c = (c.self.invariant.0, c.is_ready.ensures.kept c.self.inside
 pub invariant_of-self-in_err-bounds : goal.invariant_of-self-in_err-bounds
 invariant_of-self-in_err-bounds c = (c.self.invariant.0, c.is_ready.ensures.kept c.self.inside.rows.items.value.items c.self.inside.weight c.self.inside.bounds.items (sym c.len.ensures) c.self.invariant.0 c.self.invariant.1, c.self.invariant.2, c.self.invariant.3)
 
-pub invariant_of-self-in_err-node : goal.invariant_of-self-in_err-node
-invariant_of-self-in_err-node c = (c.self.invariant.0, c.is_ready.ensures.kept c.self.inside.rows.items.value.items c.self.inside.weight c.self.inside.bounds.items (sym c.len.ensures) c.self.invariant.0 c.self.invariant.1, c.self.invariant.2, c.start.ensures.sums c.self.inside.rows.items.value.items c.self.invariant.2 c.self.invariant.3)
+pub invariant_of-self-in_err-solution : goal.invariant_of-self-in_err-solution
+invariant_of-self-in_err-solution c = (c.self.invariant.0, c.is_ready.ensures.kept c.self.inside.rows.items.value.items c.self.inside.weight c.self.inside.bounds.items (sym c.len.ensures) c.self.invariant.0 c.self.invariant.1, c.self.invariant.2, c.start.ensures.sums c.self.inside.rows.items.value.items c.self.invariant.2 c.self.invariant.3)
 
 pub invariant_of-self-in_default : goal.invariant_of-self-in_default
 invariant_of-self-in_default c = (c.self.invariant.0, c.is_ready.ensures.kept c.self.inside.rows.items.value.items c.self.inside.weight c.self.inside.bounds.items (sym c.len.ensures) c.self.invariant.0 c.self.invariant.1, c.self.invariant.2, c.start.ensures.sums c.self.inside.rows.items.value.items c.self.invariant.2 c.self.invariant.3)
@@ -44,8 +44,8 @@ run_stored-requires-clause-at c =
     let can : CanStart ps p.weight p.costs c.in_ok-bounds.bounds.items = subst (CanStart ps p.weight p.costs) (sym bounds_are) (can_start_over ps p.weight p.costs p.bounds.items area many c.self.invariant.0) in
     let kept : AreKept ps p.weight p.costs k = c.is_ready.ensures.kept ps p.weight p.bounds.items (sym c.len.ensures) c.self.invariant.0 c.self.invariant.1 in
     let some : 0 < length k.all = c.is_ready.ensures.some c.if-not-is_ready.false in
-    let start : IsStartNode p.columns p.start_sums p.costs c.in_ok-bounds.bounds.items c.in-Some.node = rw c.in-Some.is at c.in_ok-node.ensures.node in
-    at_first ps p.weight p.costs c.in_ok-bounds.bounds.items k c.in-Some.node can kept some p.columns p.start_sums start c.self.invariant.2 c.self.invariant.3
+    let start : IsStartSolution p.columns p.start_sums p.costs c.in_ok-bounds.bounds.items c.in-Some.solution = rw c.in-Some.is at c.in_ok-solution.ensures.solution in
+    at_first ps p.weight p.costs c.in_ok-bounds.bounds.items k c.in-Some.solution can kept some p.columns p.start_sums start c.self.invariant.2 c.self.invariant.3
 
 pub invariant_of-self-2 : goal.invariant_of-self-2
 invariant_of-self-2 c = (c.self.invariant.0, c.run_stored.ensures.kept c.self.inside.costs (c.is_ready.ensures.kept c.self.inside.rows.items.value.items c.self.inside.weight c.self.inside.bounds.items (sym c.len.ensures) c.self.invariant.0 c.self.invariant.1), c.self.invariant.2, c.start.ensures.sums c.self.inside.rows.items.value.items c.self.invariant.2 c.self.invariant.3)
@@ -62,9 +62,9 @@ returns-clause-value c =
     let can : CanStart ps p.weight p.costs c.in_ok-bounds.bounds.items = subst (CanStart ps p.weight p.costs) (sym bounds_are) (can_start_over ps p.weight p.costs p.bounds.items area many c.self.invariant.0) in
     let kept : AreKept ps p.weight p.costs k = c.is_ready.ensures.kept ps p.weight p.bounds.items (sym c.len.ensures) c.self.invariant.0 c.self.invariant.1 in
     let some : 0 < length k.all = c.is_ready.ensures.some c.if-not-is_ready.false in
-    let start : IsStartNode p.columns p.start_sums p.costs c.in_ok-bounds.bounds.items c.in-Some.node = rw c.in-Some.is at c.in_ok-node.ensures.node in
+    let start : IsStartSolution p.columns p.start_sums p.costs c.in_ok-bounds.bounds.items c.in-Some.solution = rw c.in-Some.is at c.in_ok-solution.ensures.solution in
     let numbers = c.deref-2.result.now in
     let program_is : over c.args.self.now area ≡ fraction_program ps p.costs c.in_ok-bounds.bounds.items numbers =
     ap (λ p. over p area) (sym c.self.view_is) ∙ program_over ps p.costs p.bounds.items p.numbers.items area ∙ (λ i. fraction_program ps p.costs (sym bounds_are i) (sym c.deref-2.ensures.value i)) in
-    run_over_box (over c.args.self.now area) c.args.cap (view_with numbers ps (dictionary_at k 0) c.in-Some.node) c.run_stored.result
-    (ap started program_is ∙ started_at ps p.weight p.costs c.in_ok-bounds.bounds.items k c.in-Some.node can kept some p.columns p.start_sums start numbers) c.run_stored.ensures.value
+    run_over_box (over c.args.self.now area) c.args.cap (view_with numbers ps (dictionary_at k 0) c.in-Some.solution) c.run_stored.result
+    (ap started program_is ∙ started_at ps p.weight p.costs c.in_ok-bounds.bounds.items k c.in-Some.solution can kept some p.columns p.start_sums start numbers) c.run_stored.ensures.value

@@ -4,7 +4,7 @@ use Rattle.integer_tableau.proofs.KeptViews.{basic_once, basic_within}
 use Rattle.integer_tableau.proofs.Loops.{back64}
 use Rattle.integer_tableau.specs.Combined.{expanded}
 use Rattle.integer_tableau.specs.IntegerTableau.{of_parts, tableau_of}
-use Rattle.integer_tableau.proofs.node.Node.into_tableau.Goals as goal
+use Rattle.integer_tableau.proofs.basic_solution.BasicSolution.into_tableau.Goals as goal
 
 pub rows_by_column-requires-clause-columns : goal.rows_by_column-requires-clause-columns
 rows_by_column-requires-clause-columns c p l =

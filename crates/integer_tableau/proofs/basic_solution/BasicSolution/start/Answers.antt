@@ -13,8 +13,8 @@ use Rattle.integer_tableau.specs.declared.position.Position.TheVariants.{InBasis
 use Rattle.integer_tableau.proofs.RowSums.{start_apart}
 use Rattle.integer_tableau.proofs.Starting.{length_columns, length_start_numbers}
 use Rattle.integer_tableau.proofs.StartFromCode.{start_compact, start_is}
-use Rattle.integer_tableau.proofs.node.Node.start.Goals as goal
-use Rattle.integer_tableau.proofs.node.Node.start.Goals.{In_ok-free}
+use Rattle.integer_tableau.proofs.basic_solution.BasicSolution.start.Goals as goal
+use Rattle.integer_tableau.proofs.basic_solution.BasicSolution.start.Goals.{In_ok-free}
 
 -- what the parts are
 module _ (c : In_ok-free) where
@@ -74,8 +74,8 @@ row_sums-requires-clause-values_there c =
       c.width-width.ensures,
     )
 
-pub returns-clause-node : goal.returns-clause-node
-returns-clause-node c = record {
+pub returns-clause-solution : goal.returns-clause-solution
+returns-clause-solution c = record {
   at = λ ps weight d are hold ready s. record {
     compact = start_compact ps weight c.reach_of-reach.result c.args.costs.now c.args.bounds.items ready (reached c) (near c) (room c) d.positions c.in_ok-at_upper.at_upper.items
         c.in_ok-nonbasic_values.nonbasic_values.items d.rows d.reduced_costs c.in_ok-values.values.items d.denominator ps

@@ -3,7 +3,7 @@ use Rattle.std.proofs.lemmas.List.{map_more}
 use Rattle.tableau.specs.Leaving.{bounds_differ}
 use Rattle.integer_tableau.specs.IntegerTableau.{fraction_bounds}
 use Rattle.integer_tableau.specs.declared.integer_bounds.IntegerBounds.{IntegerBounds}
-use Rattle.integer_tableau.proofs.node.free_of.Goals as goal
+use Rattle.integer_tableau.proofs.basic_solution.free_of.Goals as goal
 
 pub loop-own-preserved : goal.loop-own-preserved
 loop-own-preserved c =

@@ -22,33 +22,33 @@ use Rattle.integer_tableau.specs.Numbers.{number_at}
 use Rattle.integer_tableau.specs.Pivot.{AreSubstitutedValues}
 use Rattle.integer_tableau.specs.Substitution.{quotient_numerator}
 use Rattle.integer_tableau.specs.declared.position.Position.TheVariants.{InBasis, InColumn}
-use Rattle.integer_tableau.proofs.node.Node.turn.Goals as goal
+use Rattle.integer_tableau.proofs.basic_solution.BasicSolution.turn.Goals as goal
 
 pub value_with_sums-value-requires-clause-near : goal.value_with_sums-value-requires-clause-near
 value_with_sums-value-requires-clause-near c =
     let f : SFits w64 c.number.result = search rules in
-    near_from_code _ _ _ _ c.requires.node.at.compact c.deref-3.result.now c.deref-4.result.now _ c.deref-3.ensures.value c.deref-4.ensures.value
+    near_from_code _ _ _ _ c.requires.solution.at.compact c.deref-3.result.now c.deref-4.result.now _ c.deref-3.ensures.value c.deref-4.ensures.value
     (ap nat_abs (to_z-of_z w64 c.number.result f ∙ c.number.ensures ∙ c.divisor-divisor.ensures))
 
 pub value_with_sums-value-requires-clause-basic : goal.value_with_sums-value-requires-clause-basic
 value_with_sums-value-requires-clause-basic c =
     let d : KeptDictionary = kept_at c.args.dictionaries.now.all c.args.place in
     let n = c.args.self.now in
-    let many : length c.deref-4.result.now ≡ length d.rows = ap length c.deref-4.ensures.value ∙ c.requires.node.at.compact.values in
-    c.basic_columns-basic_columns.ensures ∙ c.requires.node.kept.basic ∙ sym (same_basic 0 (length d.rows) n.positions.items d.positions c.requires.node.at.basis)
+    let many : length c.deref-4.result.now ≡ length d.rows = ap length c.deref-4.ensures.value ∙ c.requires.solution.at.compact.values in
+    c.basic_columns-basic_columns.ensures ∙ c.requires.solution.kept.basic ∙ sym (same_basic 0 (length d.rows) n.positions.items d.positions c.requires.solution.at.basis)
     ∙ (λ i. basic_from 0 (sym many i) (sym c.deref-2.ensures.value i))
 
 pub step_basic_values-requires-clause-rise : goal.step_basic_values-requires-clause-rise
 step_basic_values-requires-clause-rise c =
     let d : KeptDictionary = kept_at c.args.dictionaries.now.all c.args.place in
-    let same = c.basic_columns-basic_columns.ensures ∙ c.requires.node.kept.basic in
+    let same = c.basic_columns-basic_columns.ensures ∙ c.requires.solution.kept.basic in
     subst (λ js. (p q : ℕ) → p < q → q < length js → get_or js p 0 < get_or js q 0) (sym same) (columns_rise 0 (length d.rows) d.positions)
 
 pub step_basic_values-requires-clause-there : goal.step_basic_values-requires-clause-there
 step_basic_values-requires-clause-there c =
     let d : KeptDictionary = kept_at c.args.dictionaries.now.all c.args.place in
-    let same = c.basic_columns-basic_columns.ensures ∙ c.requires.node.kept.basic in
-    let many : length c.deref_mut.result.now ≡ length d.rows = ap length c.deref_mut.ensures.value ∙ c.requires.node.at.compact.values in
+    let same = c.basic_columns-basic_columns.ensures ∙ c.requires.solution.kept.basic in
+    let many : length c.deref_mut.result.now ≡ length d.rows = ap length c.deref_mut.ensures.value ∙ c.requires.solution.at.compact.values in
     subst (λ js. (p : ℕ) → p < length js → get_or js p 0 < length c.deref_mut.result.now) (sym same) (λ p l. omega (arith, many, column_within 0 (length d.rows) d.positions p l))
 
 pub step_basic_values-requires-clause-column : goal.step_basic_values-requires-clause-column
@@ -56,7 +56,7 @@ step_basic_values-requires-clause-column c =
     let d : KeptDictionary = kept_at c.args.dictionaries.now.all c.args.place in
     let width : c.dictionaries.inside.width ≡ c.args.dictionaries.now.width = ap (λ (k : KeptDictionaries). k.width) c.dictionaries.view_is in
     let many : length d.rows ≡ c.args.dictionaries.now.width = ap length c.rows.ensures.rows ∙ rows_many _ _ _ in
-    omega (arith, width, many, c.requires.node.kept.columns, (c.requires.node.kept.nonbasic.all c.args.turn.entering c.args.turn.column c.requires.turn.column).0)
+    omega (arith, width, many, c.requires.solution.kept.columns, (c.requires.solution.kept.nonbasic.all c.args.turn.entering c.args.turn.column c.requires.turn.column).0)
 
 pub returns-clause-near : goal.returns-clause-near
 returns-clause-near c = λ _. subst (λ z. c.args.self.now.reach * nat_abs z < 2 ^ 63) (to_z-of_z w64 c.args.size c.ranges.size) (c.if-not-is_near.ensures refl)
@@ -69,7 +69,7 @@ returns-clause-turned c = λ _.
     let d : KeptDictionary = kept_at c.args.dictionaries.now.all c.args.place in
     let xs = n.nonbasic_values.items in
     let vs = n.values.items in
-    let compact = c.requires.node.at.compact in
+    let compact = c.requires.solution.at.compact in
     let fb : SFits w64 c.violated-bound.result = search rules in
     let fl : SFits w64 c.index-left.result.now = search rules in
     let fc : SFits w64 t.coefficient = search rules in
@@ -77,7 +77,7 @@ returns-clause-turned c = λ _.
     let fm : SFits w64 c.number-2.result = search rules in
     let fv : SFits w128 c.value_with_sums-value.result = search rules in
     let fy : SFits w128 c.in-Some.entering = search rules in
-    let same = c.requires.node.at.basis in
+    let same = c.requires.solution.at.basis in
     let entering_at = in_some_column (get_or n.positions.items t.entering InBasis)
     (λ e. let no : InBasis ≡ InColumn t.column = sym (same.to t.entering e) ∙ c.requires.turn.column in cc) in
     let own = c.index.result.now in
@@ -85,7 +85,7 @@ returns-clause-turned c = λ _.
     let own_is : get_or (map fraction_bounds n.bounds.items) t.leaving unbounded ≡ fraction_bounds own =
     get_or-map fraction_bounds n.bounds.items t.leaving own unbounded own_there ∙ ap fraction_bounds (sym c.index.ensures) in
     let bound = to_z w64 (of_z w64 c.violated-bound.result) in
-    let divisor : c.divisor-divisor.result.number ≡ pos (nat_abs d.denominator) = c.divisor-divisor.ensures ∙ size_is d.denominator c.requires.node.kept.positive in
+    let divisor : c.divisor-divisor.result.number ≡ pos (nat_abs d.denominator) = c.divisor-divisor.ensures ∙ size_is d.denominator c.requires.solution.kept.positive in
     let denominator : to_z w64 (of_z w64 c.number.result) ≡ d.denominator = to_z-of_z w64 c.number.result fn ∙ c.number.ensures ∙ c.divisor-divisor.ensures in
     let left_there : t.entering < length xs = omega (arith, c.requires.turn.entering, compact.consistent.nonbasic_values) in
     let left : to_z w64 (of_z w64 c.index-left.result.now) ≡ number_at xs t.entering =
@@ -94,14 +94,14 @@ returns-clause-turned c = λ _.
     let value : to_z w128 (of_z w128 c.value_with_sums-value.result) ≡ number_at (expanded_values (nat_abs d.denominator) ps d.positions xs vs) t.leaving =
     to_z-of_z w128 c.value_with_sums-value.result fv ∙ c.value_with_sums-value.ensures
     ∙ (λ i. number_at (expanded_values (nat_abs (denominator i)) ps (c.deref-2.ensures.value i) (c.deref-3.ensures.value i) (c.deref-4.ensures.value i)) t.leaving)
-    ∙ ap (λ ws. number_at ws t.leaving) (same_values (nat_abs d.denominator) ps n.positions.items d.positions xs vs c.requires.node.at.basis) in
+    ∙ ap (λ ws. number_at ws t.leaving) (same_values (nat_abs d.denominator) ps n.positions.items d.positions xs vs c.requires.solution.at.basis) in
     let number = to_z-of_z w64 c.number-2.result fm ∙ c.number-2.ensures ∙ divisor in
     let entering = to_z-of_z w128 c.in-Some.entering fy ∙ c.in-Some.ensures ∙ (λ i. quotient_numerator (coefficient i) (value i -ℤ coefficient i *ℤ left i -ℤ number i *ℤ bound)) in
     let y = to_z w128 (of_z w128 c.in-Some.entering) in
     let width : c.dictionaries.inside.width ≡ c.args.dictionaries.now.width = ap (λ (k : KeptDictionaries). k.width) c.dictionaries.view_is in
     let columns : length d.rows ≡ c.dictionaries.inside.width = ap length c.rows.ensures.rows ∙ rows_many _ _ _ ∙ sym width in
     let within : t.column < c.dictionaries.inside.width =
-    omega (arith, columns, c.requires.node.kept.columns, (c.requires.node.kept.nonbasic.all t.entering t.column c.requires.turn.column).0) in
+    omega (arith, columns, c.requires.solution.kept.columns, (c.requires.solution.kept.nonbasic.all t.entering t.column c.requires.turn.column).0) in
     let stepped = c.step_basic_values.new.values in
     let put = c.put_value.new.values in
     let middle = take n.values.len (stepped ++ drop (length stepped) vs) in
@@ -127,7 +127,7 @@ returns-clause-turned c = λ _.
         nonbasic_values = refl;
         positions = refl;
         at_upper = search (rules, c.is_upper.ensures);
-        sums = c.turn_kept_sums.ensures ps n.positions.items xs t.column entering_at.0 c.requires.columns c.requires.node.at.sums (compact.consistent.nonbasic_values ∙ sym same.count)
+        sums = c.turn_kept_sums.ensures ps n.positions.items xs t.column entering_at.0 c.requires.columns c.requires.solution.at.sums (compact.consistent.nonbasic_values ∙ sym same.count)
             (omega (arith, c.requires.turn.leaving, same.count)) (omega (arith, c.requires.turn.entering, same.count)) (same.back t.leaving c.requires.turn.basic) entering_at.1 (sym left);
         bounds = refl;
         free = refl;

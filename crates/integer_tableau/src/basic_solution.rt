@@ -1,8 +1,8 @@
-// Nodes: what a tableau has beside its dictionary.
+// Basic solutions: what a tableau has beside its dictionary.
 
 ghost use Rattle.std.specs.Prelude.{◌≡◌, ◌<◌, ◌+◌, ℕ, ℤ, List, length, slice_index_or, IfOk, IfSome};
 ghost use Rattle.integer_tableau.specs.Exits.{IsOnceEach, are_free};
-ghost use Rattle.integer_tableau.specs.Kept.{IsAt, IsKept, IsStartNode, kept_at, view_of};
+ghost use Rattle.integer_tableau.specs.Kept.{IsAt, IsKept, IsStartSolution, kept_at, view_of};
 ghost use Rattle.integer_tableau.specs.Positions.{AreNonbasic};
 ghost use Rattle.integer_tableau.specs.RowSums.{AreColumnsOf, AreColumnSums};
 
@@ -21,9 +21,9 @@ use crate::start_sums::StartSums;
 use std::alloc::{AllocError, Global};
 use std::rc::RcSlice;
 
-/// A tableau but for its dictionary, which it shares with others.
+/// A basic solution: a tableau but for its dictionary, which it shares with others.
 #[derive(Drop)]
-pub(crate) struct Node {
+pub(crate) struct BasicSolution {
     pub(crate) bounds: Vec<IntegerBounds>,
     /// Which variables aren't fixed.
     pub(crate) free: Vec<bool>,
@@ -87,8 +87,8 @@ impl Dictionaries {
     }
 }
 
-impl Node {
-    /// The node at the start, where each column is at the bound that its cost asks for, for so many rows. None where the numbers are too
+impl BasicSolution {
+    /// The solution at the start, where each column is at the bound that its cost asks for, for so many rows. None where the numbers are too
     /// large. The one error is want of memory.
     pub(crate) fn start(
         alloc: Global,
@@ -97,10 +97,10 @@ impl Node {
         start_sums: &mut StartSums,
         costs: &IntegerRow,
         bounds: Vec<IntegerBounds>,
-    ) -> Result<Option<Node>, AllocError>
+    ) -> Result<Option<BasicSolution>, AllocError>
         requires there { length bounds.items ≡ length costs.now + rows }
         requires columns { (ps : List (List ℤ)) × IfSome columns.now (AreColumnsOf ps) }
-        ensures node { IfOk result (λ o. IfSome o (λ n. IsStartNode columns.now start_sums.old costs.now bounds.items n)) }
+        ensures solution { IfOk result (λ o. IfSome o (λ n. IsStartSolution columns.now start_sums.old costs.now bounds.items n)) }
         ensures sums { (ps : List (List ℤ)) → IfSome columns.now (AreColumnsOf ps) → AreColumnSums ps start_sums.old.values.items start_sums.old.sums.items → AreColumnSums ps start_sums.new.values.items start_sums.new.sums.items }
     {
         let width = costs.width();
@@ -114,7 +114,7 @@ impl Node {
         let values = Vec::from_elem(alloc, 0, width)?;
         let row_sums = start_sums.row_sums(alloc, columns, width, &nonbasic_values)?;
         let free = free_of(alloc, &bounds)?;
-        Ok(Some(Node {
+        Ok(Some(BasicSolution {
             bounds,
             free,
             reach,
@@ -127,7 +127,7 @@ impl Node {
         }))
     }
 
-    /// The tableau of the node, which has a copy of its dictionary. The one error is want of memory.
+    /// The tableau of the solution, which has a copy of its dictionary. The one error is want of memory.
     pub(crate) fn into_tableau(
         self,
         alloc: Global,
