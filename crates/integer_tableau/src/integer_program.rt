@@ -25,7 +25,6 @@ use std::rc::RcSlice;
 use tableau::{Bounds, Entry, LinearProgram};
 
 /// A linear program of whole numbers, made ready for tableaus over many boxes. Contracts see the linear program itself.
-#[derive(Drop)]
 pub struct IntegerProgram {
     pub(crate) rows: RcSlice<ProgramRow>,
     /// The coefficients of the rows by column; none where they are too many.
@@ -39,6 +38,22 @@ pub struct IntegerProgram {
     pub(crate) numbers: Vec<u32>,
     /// What runs over boxes leave for later ones.
     pub(crate) store: DictionaryStore,
+}
+
+/// By hand, so that a proof that drops a program sees one call and not the drop of each of its parts.
+impl Drop for IntegerProgram {
+    fn drop(self) {
+        let IntegerProgram {
+            rows: _,
+            columns: _,
+            start_sums: _,
+            weight: _,
+            costs: _,
+            bounds: _,
+            numbers: _,
+            store: _,
+        } = self;
+    }
 }
 
 impl Model for IntegerProgram {
