@@ -20,11 +20,15 @@ use problem_box::IntBox;
 use std::alloc::{AllocError, Global};
 use std::rc::RcSlice;
 
-/// The columns' positions. The one error is want of memory.
-fn column_positions(alloc: Global, columns: usize) -> Result<Vec<Position>, AllocError>
+/// The columns' positions, in a list with room for so many variables. The one error is want of memory.
+fn column_positions(
+    alloc: Global,
+    columns: usize,
+    room: usize,
+) -> Result<Vec<Position>, AllocError>
     ensures { IfOk result (λ v. v.items ≡ columns_from 0 columns) }
 {
-    let mut positions = Vec::with_capacity(alloc, columns)?;
+    let mut positions = Vec::with_capacity(alloc, room)?;
     for column in 0..columns {
         positions.push(Position::InColumn(column))?;
     }
@@ -39,7 +43,7 @@ pub(crate) fn start_positions(
 ) -> Result<Vec<Position>, AllocError>
     ensures { IfOk result (λ v. v.items ≡ columns_from 0 columns ++ replicate rows Position.InBasis) }
 {
-    let mut positions = column_positions(alloc, columns)?;
+    let mut positions = column_positions(alloc, columns, columns.saturating_add(rows))?;
     for _i in 0..rows {
         positions.push(Position::InBasis)?;
     }
@@ -58,11 +62,11 @@ fn start_nonbasic(alloc: Global, columns: usize) -> Result<Vec<usize>, AllocErro
     Ok(nonbasic)
 }
 
-/// Whether each column is at its upper bound. The one error is want of memory.
-fn columns_at_upper(alloc: Global, costs: &[i64]) -> Result<Vec<bool>, AllocError>
+/// Whether each column is at its upper bound, in a list with room for so many variables. The one error is want of memory.
+fn columns_at_upper(alloc: Global, costs: &[i64], room: usize) -> Result<Vec<bool>, AllocError>
     ensures { IfOk result (λ v. v.items ≡ map is_negative costs.now) }
 {
-    let mut at_upper = Vec::with_capacity(alloc, costs.len())?;
+    let mut at_upper = Vec::with_capacity(alloc, room)?;
     for cost in costs {
         at_upper.push(*cost < 0)?;
     }
@@ -77,7 +81,7 @@ pub(crate) fn start_at_upper(
 ) -> Result<Vec<bool>, AllocError>
     ensures { IfOk result (λ v. v.items ≡ map is_negative costs.now ++ replicate rows false) }
 {
-    let mut at_upper = columns_at_upper(alloc, costs)?;
+    let mut at_upper = columns_at_upper(alloc, costs, costs.len().saturating_add(rows))?;
     for _i in 0..rows {
         at_upper.push(false)?;
     }
@@ -95,16 +99,17 @@ fn start_number(cost: i64, bounds: &IntegerBounds) -> i64
     }
 }
 
-/// The value of each column. The one error is want of memory.
+/// The value of each column, in a list with room for so many variables. The one error is want of memory.
 fn column_numbers(
     alloc: Global,
     costs: &[i64],
     bounds: &[IntegerBounds],
+    room: usize,
 ) -> Result<Vec<i64>, AllocError>
     requires { length costs.now ≤ length bounds.now }
     ensures { IfOk result (λ v. v.items ≡ start_numbers costs.now bounds.now) }
 {
-    let mut numbers = Vec::with_capacity(alloc, costs.len())?;
+    let mut numbers = Vec::with_capacity(alloc, room)?;
     for (column, cost) in costs.iter().enumerate() {
         numbers.push(start_number(*cost, &bounds[column]))?;
     }
@@ -121,7 +126,7 @@ pub(crate) fn start_numbers(
     requires { length costs.now ≤ length bounds.now }
     ensures { IfOk result (λ v. v.items ≡ start_numbers costs.now bounds.now ++ replicate rows (pos 0)) }
 {
-    let mut numbers = column_numbers(alloc, costs, bounds)?;
+    let mut numbers = column_numbers(alloc, costs, bounds, costs.len().saturating_add(rows))?;
     for _i in 0..rows {
         numbers.push(0)?;
     }
