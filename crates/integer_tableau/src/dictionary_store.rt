@@ -18,11 +18,14 @@ use crate::same_basis::are_nonbasic;
 use indexmap::IndexMap;
 use std::alloc::{AllocError, Global};
 
-/// How many words the dictionaries take at most, about.
-const MOST_WORDS: usize = 1 << 19;
+/// How many words the dictionaries of a new store may take, about.
+const FIRST_WORDS: usize = 1 << 19;
+
+/// How many words they take at most, about.
+const MOST_WORDS: usize = 1 << 21;
 
 /// How many dictionaries there are at most.
-const MOST_DICTIONARIES: usize = 1 << 12;
+const MOST_DICTIONARIES: usize = 1 << 14;
 
 /// How much of the budget a new dictionary takes. A step to a dictionary that is kept already adds 1.
 const COST_OF_NEW: u32 = 3;
@@ -36,8 +39,8 @@ const MOST_BUDGET: u32 = 1 << 13;
 /// How many dictionaries tell how large those of a linear program are.
 const SAMPLE: usize = 8;
 
-/// How many words a dictionary takes at most on average: of larger ones fewer than 256 could be kept.
-const MOST_AVERAGE: usize = MOST_WORDS / 256;
+/// How many words a dictionary takes at most on average: of larger ones a new store could keep fewer than 256.
+const MOST_AVERAGE: usize = FIRST_WORDS / 256;
 
 /// For how many runs the store is suspended the first time. Each further time is twice as long, until the budget has come to its greatest.
 const FIRST_SUSPENSION: u32 = 32;
@@ -47,8 +50,8 @@ const MOST_SUSPENSION: u32 = 4096;
 
 /// Dictionaries of one linear program, whatever the bounds are: the runs over its boxes share them.
 ///
-/// They are dropped all together where they take too many bytes. Where few are met again, or they are so large that few could be kept, the store is
-/// suspended for some runs.
+/// They may take more bytes while most steps go to one that is kept already, up to a limit; where they take too many, they are dropped all together.
+/// Where few are met again, or they are so large that few could be kept, the store is suspended for some runs.
 #[derive(Drop)]
 pub(crate) struct DictionaryStore {
     pub(crate) kept: Dictionaries,
@@ -62,6 +65,8 @@ pub(crate) struct DictionaryStore {
     pub(crate) columns: Vec<RankedColumn>,
     /// Places of dictionaries by their hashes. The first dictionary isn't among them, nor one for which memory was wanting.
     places: IndexMap<u64, usize>,
+    /// How many words the dictionaries may take for now.
+    limit: usize,
     /// How much new dictionaries may still take before the store is suspended.
     budget: u32,
     /// How many of the next runs go without the store.
@@ -94,6 +99,7 @@ impl DictionaryStore {
             basic: Vec::new(alloc),
             columns: Vec::new(alloc),
             places: IndexMap::new(alloc),
+            limit: FIRST_WORDS,
             budget: FIRST_BUDGET,
             suspended_runs: 0,
             next_suspension: FIRST_SUSPENSION,
@@ -121,7 +127,14 @@ impl DictionaryStore {
     /// Whether there is no room for more dictionaries.
     #[inline(always)]
     fn is_full(&self) -> bool {
-        self.kept.count() >= MOST_DICTIONARIES || self.kept.words() >= MOST_WORDS
+        self.kept.count() >= MOST_DICTIONARIES || self.kept.words() >= self.limit
+    }
+
+    /// Whether the dictionaries may take more words than now: so many steps went to one that was kept already that it is worth it.
+    fn may_grow(&self) -> bool {
+        self.budget >= MOST_BUDGET / 2
+            && self.limit < MOST_WORDS
+            && self.kept.count() < MOST_DICTIONARIES
     }
 
     /// Whether the dictionaries are so large that few could be kept.
@@ -150,6 +163,9 @@ impl DictionaryStore {
         if self.are_large() {
             self.suspended_runs = MOST_SUSPENSION;
             return false;
+        }
+        if self.is_full() && self.may_grow() {
+            self.limit = self.limit.saturating_mul(2);
         }
         if self.kept.count() == 0 || self.is_full() {
             return self.begin(rows, costs).is_ok();
