@@ -21,11 +21,7 @@ use std::alloc::{AllocError, Global};
 use std::rc::RcSlice;
 
 /// The columns' positions, in a list with room for so many variables. The one error is want of memory.
-fn column_positions(
-    alloc: Global,
-    columns: usize,
-    room: usize,
-) -> Result<Vec<Position>, AllocError>
+fn column_positions(alloc: Global, columns: usize, room: usize) -> Result<Vec<Position>, AllocError>
     ensures { IfOk result (λ v. v.items ≡ columns_from 0 columns) }
 {
     let mut positions = Vec::with_capacity(alloc, room)?;
