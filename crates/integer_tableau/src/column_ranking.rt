@@ -19,7 +19,7 @@ use tableau::Direction;
 /// The best so far, with one nonbasic variable more, of these numerators. Its column is put behind the others, if it has a coefficient, comes behind the last
 /// candidate, if there is one, and before the best so far. What doesn't come behind the last candidate may not enter. The one error is want of memory.
 ///
-/// Few come first by their ratio, and the processor guesses this well, so it is tested first.
+/// Two thirds of the columns don't come first by their ratio, and this test is the cheapest, so it is made first.
 #[inline(always)]
 fn with_column(
     columns: &mut Vec<RankedColumn>,

@@ -2,8 +2,8 @@
 
 ghost use Rattle.std.specs.Prelude.{◌≡◌, ◌<◌, ◌+◌, ◌^◌, ℕ, ℤ, List, length, slice_index_or, IfOk, IfSome, IsTrue, OnOk};
 ghost use Rattle.integer_tableau.specs.IntegerProgram.{CanStart};
-ghost use Rattle.integer_tableau.specs.StoreCalls.{AreKeptOf, HasTurned, IsTarget, StayKept};
-ghost use Rattle.integer_tableau.specs.StoredRun.{HasTurnRow, IsOfEdge, IsTurning};
+ghost use Rattle.integer_tableau.specs.StoreCalls.{AreKeptOf, HasTurned, IsTarget, IsTurnedSolution, StayKept};
+ghost use Rattle.integer_tableau.specs.StoredRun.{HasTurnRow, IsOfEdge};
 ghost use Rattle.integer_tableau.specs.Kept.{AreKept, HaveSameBasis, IsKept, kept_at, row_in};
 ghost use Rattle.integer_tableau.specs.declared.integer_bounds.IntegerBounds.{IntegerBounds};
 
@@ -220,7 +220,7 @@ impl DictionaryStore {
     ///
     /// As many variables are nonbasic by each basis, so that two are the same where those of the one are nonbasic by the other.
     fn found(&self, solution: &BasicSolution, denominator: i64, hash: u64) -> usize
-        requires turning { (ps : List (List ℤ)) × (weight : ℕ) × (costs : List ℤ) × (place : ℕ) × (n : BasicSolution) × (turn : Turn) × (size : ℤ) × AreKept ps weight costs self.now.kept × (place < length self.now.kept.all) × IsTurning ps weight self.now.kept place n turn size solution.now }
+        requires turning { IsTurnedSolution self.now.kept solution.now }
         ensures there { 0 < result → result < length self.now.kept.all }
         ensures basis { 0 < result → HaveSameBasis solution.now.positions.items (kept_at self.now.kept.all result).positions }
         ensures denominator { 0 < result → (kept_at self.now.kept.all result).denominator ≡ denominator }
