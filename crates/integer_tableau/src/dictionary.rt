@@ -108,6 +108,13 @@ impl Dictionaries {
         self.edges.clear();
     }
 
+    /// Makes room for so many numerators more. The one error is want of memory.
+    pub(crate) fn reserve(&mut self, count: usize) -> Result<(), AllocError>
+        ensures { self.new ≡ self.old }
+    {
+        self.numerators.reserve(count)
+    }
+
     /// How many there are.
     #[inline(always)]
     pub(crate) fn count(&self) -> usize

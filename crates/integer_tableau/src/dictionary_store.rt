@@ -21,6 +21,9 @@ use std::alloc::{AllocError, Global};
 /// How many words the dictionaries of a new store may take, about.
 const FIRST_WORDS: usize = 1 << 19;
 
+/// Room for how many numerators a store begins with, so that they aren't moved while they are few.
+const FIRST_ROOM: usize = 1 << 16;
+
 /// How many words they take at most, about.
 const MOST_WORDS: usize = 1 << 21;
 
@@ -29,6 +32,9 @@ const MOST_DICTIONARIES: usize = 1 << 14;
 
 /// How much of the budget a new dictionary takes. A step to a dictionary that is kept already adds 1.
 const COST_OF_NEW: u32 = 3;
+
+/// How many runs go without a new store: where a linear program gets a cut after few runs, a store doesn't pay.
+const FIRST_RUNS: u32 = 2;
 
 /// The budget of a new store, and of one that was suspended.
 const FIRST_BUDGET: u32 = 256 * COST_OF_NEW;
@@ -101,7 +107,7 @@ impl DictionaryStore {
             places: IndexMap::new(alloc),
             limit: FIRST_WORDS,
             budget: FIRST_BUDGET,
-            suspended_runs: 0,
+            suspended_runs: FIRST_RUNS,
             next_suspension: FIRST_SUSPENSION,
             met: 0,
         }
@@ -121,6 +127,7 @@ impl DictionaryStore {
     {
         self.kept.clear();
         self.places.clear();
+        self.kept.reserve(FIRST_ROOM)?;
         self.kept.push_start(rows, costs)
     }
 
