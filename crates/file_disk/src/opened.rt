@@ -142,27 +142,29 @@ impl Opened {
         Ok(())
     }
 
-    // Where the length is that of the last sync, the system need not write what it keeps of the file besides its bytes: on ext4 that takes half
-    // of the time (docs/DECISIONS.md, entry 79).
-    fn sync_bytes(&mut self) -> io::Result<()> {
-        if !self.resized {
-            return self.file.sync_data();
-        }
-        self.file.sync_all()?;
-        self.resized = false;
-        Ok(())
-    }
-
-    /// Waits until the file's bytes and its length are on the disk. That needs no permission to write. It fails at a file that has lost its
-    /// last name: what is synced there is gone when the file is closed.
-    pub(crate) fn sync(&mut self) -> io::Result<()> {
-        self.sync_bytes()?;
+    // Fails where the file has lost its last name: what is synced there is gone when the file is closed.
+    fn check_name(&self) -> io::Result<()> {
         if self.found.nlink() > 0 && self.metadata()?.nlink() == 0 {
             return Err(Error::new(
                 ErrorKind::NotFound,
                 "it was removed while the run had it open",
             ));
         }
+        Ok(())
+    }
+
+    /// Waits until the file's bytes and its length are on the disk. That needs no permission to write.
+    ///
+    /// Where the length is that of the last sync, the system need not write what it keeps of the file besides its bytes: on ext4 that takes half
+    /// of the time (docs/DECISIONS.md, entry 79). Such a sync fails at a file that has lost its last name. It is the last of each append, so no
+    /// append to such a file succeeds.
+    pub(crate) fn sync(&mut self) -> io::Result<()> {
+        if !self.resized {
+            self.file.sync_data()?;
+            return self.check_name();
+        }
+        self.file.sync_all()?;
+        self.resized = false;
         Ok(())
     }
 
