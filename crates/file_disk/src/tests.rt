@@ -396,11 +396,15 @@ fn the_entry_is_that_of_a_links_target(rt: HostRuntime) -> Result<(), Fail> {
     Ok(())
 }
 
-/// Whether a file is not synced whose name is gone, or another's. It may have been synced before.
+/// The calls of an append, of which the last one finds that the name is gone.
+const APPEND_FAILS: [Step; 4] = [Write(3, b"d"), Sync, Write(0, b"e"), SyncFails];
+
+/// Whether a file is not synced whose name is gone, or another's. It may have been synced before, and then no append succeeds.
 fn are_gone_names_noticed(rt: &HostRuntime, path: &Option<String>) -> bool {
     let (new, synced) = ([Write(0, b"abc")], [Write(0, b"abc"), Sync]);
     is_disk_beside(rt, path, &new, (Remove, path), &[SyncFails])
         && is_disk_beside(rt, path, &synced, (Remove, path), &[SyncFails])
+        && is_disk_beside(rt, path, &synced, (Remove, path), &APPEND_FAILS)
         && is_disk_beside(rt, path, &new, (Replace, path), &[SyncFails])
         && is_disk_beside(rt, path, &synced, (Replace, path), &[SyncFails])
 }
