@@ -11,11 +11,12 @@ use tableau::LinearProgram;
 const BY_HAND: &[u8] =
     b"ROWS\n N o\n L r\n L s\nCOLUMNS\n m 'MARKER' 'INTORG'\n x o -3 r 2\n x s 1\n y o -4 r 1\n y s 2\nRHS\n r 4 s 6\nBOUNDS\n UP x 3\n UP y 3\nENDATA\n";
 
-/// Bounds of x: its box, those of its children, its box once more. All pivots to kept dictionaries are those of noted edges.
-const CHILDREN: [(i64, i64); 4] = [(0, 3), (0, 0), (1, 3), (0, 3)];
+/// Bounds of x: its box thrice, of which the first two runs keep no dictionaries, those of its children, its box once more. All pivots to kept
+/// dictionaries are those of noted edges.
+const CHILDREN: [(i64, i64); 6] = [(0, 3), (0, 3), (0, 3), (0, 0), (1, 3), (0, 3)];
 
-/// Bounds of x with which the second run comes to the basis of the first by other pivots. So no edge to it is noted, and it is found by its basis.
-const SAME_BASIS: [(i64, i64); 2] = [(1, 1), (1, 3)];
+/// Bounds of x with which the fourth run comes to the basis of the third by other pivots. So no edge to it is noted, and it is found by its basis.
+const SAME_BASIS: [(i64, i64); 4] = [(0, 3), (0, 3), (1, 1), (1, 3)];
 
 /// The box of x from one bound to another, and of y from 0 to 3. The one error is want of memory.
 fn area_of(alloc: Global, low: i64, high: i64) -> Result<IntBox, AllocError> {
