@@ -19,7 +19,7 @@ use indexmap::IndexMap;
 use std::alloc::{AllocError, Global};
 
 /// How many words the dictionaries of a new store may take, about.
-const FIRST_WORDS: usize = 1 << 19;
+const FIRST_WORDS: usize = 1 << 18;
 
 /// Room for how many numerators a store begins with, so that they aren't moved while they are few.
 const FIRST_ROOM: usize = 1 << 16;
@@ -45,8 +45,8 @@ const MOST_BUDGET: u32 = 1 << 13;
 /// How many dictionaries tell how large those of a linear program are.
 const SAMPLE: usize = 8;
 
-/// How many words a dictionary takes at most on average: of larger ones a new store could keep fewer than 256.
-const MOST_AVERAGE: usize = FIRST_WORDS / 256;
+/// How many words a dictionary takes at most on average: of larger ones a store could keep fewer than 1,024.
+const MOST_AVERAGE: usize = MOST_WORDS / 1024;
 
 /// For how many runs the store is suspended the first time. Each further time is twice as long, until the budget has come to its greatest.
 const FIRST_SUSPENSION: u32 = 32;
@@ -56,7 +56,7 @@ const MOST_SUSPENSION: u32 = 4096;
 
 /// Dictionaries of one linear program, whatever the bounds are: the runs over its boxes share them.
 ///
-/// They may take more bytes while most steps go to one that is kept already, up to a limit; where they take too many, they are dropped all together.
+/// Where they take too many bytes, they are dropped all together; they may take more while most steps go to one that is kept already, up to a limit.
 /// Where few are met again, or they are so large that few could be kept, the store is suspended for some runs.
 #[derive(Drop)]
 pub(crate) struct DictionaryStore {
@@ -73,6 +73,8 @@ pub(crate) struct DictionaryStore {
     places: IndexMap<u64, usize>,
     /// How many words the dictionaries may take for now.
     limit: usize,
+    /// Whether they took all of these once.
+    was_full: bool,
     /// How much new dictionaries may still take before the store is suspended.
     budget: u32,
     /// How many of the next runs go without the store.
@@ -106,6 +108,7 @@ impl DictionaryStore {
             columns: Vec::new(alloc),
             places: IndexMap::new(alloc),
             limit: FIRST_WORDS,
+            was_full: false,
             budget: FIRST_BUDGET,
             suspended_runs: FIRST_RUNS,
             next_suspension: FIRST_SUSPENSION,
@@ -144,6 +147,19 @@ impl DictionaryStore {
             && self.kept.count() < MOST_DICTIONARIES
     }
 
+    /// Lets the dictionaries take twice as many words, where they took all a second time, and it is worth it.
+    fn grow(&mut self)
+        ensures { self.new.kept ≡ self.old.kept }
+    {
+        if !self.is_full() || !self.may_grow() {
+            return;
+        }
+        if self.was_full {
+            self.limit = self.limit.saturating_mul(2);
+        }
+        self.was_full = !self.was_full;
+    }
+
     /// Whether the dictionaries are so large that few could be kept.
     fn are_large(&self) -> bool {
         let count = self.kept.count();
@@ -171,9 +187,7 @@ impl DictionaryStore {
             self.suspended_runs = MOST_SUSPENSION;
             return false;
         }
-        if self.is_full() && self.may_grow() {
-            self.limit = self.limit.saturating_mul(2);
-        }
+        self.grow();
         if self.kept.count() == 0 || self.is_full() {
             return self.begin(rows, costs).is_ok();
         }
