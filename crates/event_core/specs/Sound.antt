@@ -14,6 +14,8 @@ abbrev pub AreApart : List Holder → Type 0
 AreApart [] = Unit {0}
 AreApart (h ∷ hs) = (list_any (λ (k : Holder). nat_eq k.worker h.worker) hs ≡ false) × (list_any (λ (k : Holder). nat_eq k.node h.node) hs ≡ false) × AreApart hs
 
+-- The parts of a state fit one another, and nothing in it is false: its nodes are a tree whose open nodes are leaves, each cut is the rounded row
+-- of its multipliers, the incumbent is feasible, and each node that is held is open, and held by one worker, who holds no other.
 pub record IsSound (s : State) : Type 0 where
   pub lengths : length s.ended ≡ length s.nodes
   pub tree : IsTree (tree_of s)

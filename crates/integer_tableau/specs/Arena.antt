@@ -26,6 +26,7 @@ positions_by n nonbasic = places_from 0 n (λ v. in_column (position (nat_eq v) 
 abbrev pub flat_row : ℕ → List ℤ → ℕ → List ℤ
 flat_row width numerators i = slice_range numerators (i * width) (i * width + width)
 
+-- the row at this place; no numbers where no place is told
 abbrev pub flat_row_if_there : ℕ → List ℤ → Option ℕ → List ℤ
 flat_row_if_there width numerators None = []
 flat_row_if_there width numerators (Some i) = flat_row width numerators i

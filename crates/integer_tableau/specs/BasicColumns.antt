@@ -16,13 +16,15 @@ abbrev pub count_below : ℕ → List ℕ → ℕ
 count_below x [] = 0
 count_below x (y ∷ ys) = if nat_lt y x then suc (count_below x ys) else 0
 
--- r leaves the basis and c comes into it, of which those below n are columns
+-- the list after variable r has left the basis; the variables below n are columns
 abbrev pub without_column : ℕ → ℕ → List ℕ → List ℕ
 without_column n r js = if nat_lt r n then remove js (count_below r js) else js
 
+-- the list after variable c has entered the basis
 abbrev pub with_column : ℕ → ℕ → List ℕ → List ℕ
 with_column n c js = if nat_lt c n then insert js (count_below c js) c else js
 
+-- the list after r has left the basis and c has entered it
 abbrev pub basic_exchanged : ℕ → ℕ → ℕ → List ℕ → List ℕ
 basic_exchanged n r c js = with_column n c (without_column n r js)
 

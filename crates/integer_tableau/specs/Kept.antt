@@ -53,6 +53,7 @@ pub record KeptDictionaries : Type 0 where
 abbrev pub rows_of : ℕ → List ℤ → Dictionary → List ℤ
 rows_of width numerators d = slice_range numerators d.numerators (d.numerators + d.count * width)
 
+-- its reduced costs, which stand behind its rows
 abbrev pub costs_of : ℕ → List ℤ → Dictionary → List ℤ
 costs_of width numerators d = slice_range numerators (d.numerators + d.count * width) (d.numerators + d.count * width + width)
 

@@ -35,6 +35,7 @@ map_from f i (x ∷ xs) = f i x ∷ map_from f (i + 1) xs
 abbrev pub unscaled_value : Scales → ℕ → ℚ → ℚ
 unscaled_value σ i x = scaled_by 1 (σ i) x
 
+-- the values of the variables from i on, as the program's own
 abbrev pub unscaled_values : Scales → ℕ → List ℚ → List ℚ
 unscaled_values σ i xs = map_from (unscaled_value σ) i xs
 
@@ -42,9 +43,11 @@ unscaled_values σ i xs = map_from (unscaled_value σ) i xs
 abbrev pub bounds_over : ℕ → Bounds → Bounds
 bounds_over k b = record { lower = option_map (scaled_by 1 k) b.lower; upper = option_map (scaled_by 1 k) b.upper }
 
+-- the bounds of variable i, as the program's own
 abbrev pub unscaled_bounds : Scales → ℕ → Bounds → Bounds
 unscaled_bounds σ i b = bounds_over (σ i) b
 
+-- the bounds of the variables from i on, as the program's own
 abbrev pub all_bounds : Scales → ℕ → List Bounds → List Bounds
 all_bounds σ i bs = map_from (unscaled_bounds σ) i bs
 
@@ -57,6 +60,7 @@ abbrev pub unscaled_rows : Scales → ℕ → List Coefficients → List Coeffic
 unscaled_rows σ i rows = map_from (λ i row. unscaled_row σ (σ i) 0 row) i rows
 
 -- ---- all of it, where the costs are s times the program's
+-- the tableau of the program itself that a scaled tableau is read as
 abbrev pub unscaled : Scales → ℕ → Tableau → Tableau
 unscaled σ s t = record {
   columns = t.columns;
@@ -70,6 +74,7 @@ unscaled σ s t = record {
   pivots = t.pivots;
 }
 
+-- the end of a run, with its tableau as one of the program itself
 abbrev pub unscaled_end : Scales → ℕ → RunEnd → RunEnd
 unscaled_end σ s e = record { place = e.place; pivots = e.pivots; tableau = option_map (unscaled σ s) e.tableau }
 

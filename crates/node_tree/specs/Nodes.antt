@@ -5,6 +5,7 @@ use Rattle.problem_box.specs.declared.span.Span.{Span}
 use Rattle.node_tree.specs.declared.branch.Branch.{Branch}
 use Rattle.node_tree.specs.declared.branch.Node.{Node}
 
+-- the box of node 0, the nodes by their numbers, and how many splits fit without memory
 pub record Tree : Type 0 where
   pub root : List Span
   pub nodes : List Node

@@ -14,6 +14,7 @@ IsInBox (s ∷ ss) [] = ⊥
 IsInBox (s ∷ ss) (x ∷ xs) = IsWithin s x × IsInBox ss xs
 
 -- ---- the test
+-- the test for a number of the span
 abbrev pub is_within : Span → ℤ → Bool
 is_within s x = int_le s.lo x && int_le x s.hi
 

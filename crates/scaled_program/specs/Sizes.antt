@@ -28,6 +28,7 @@ pub record IsSmall (σ : Scales) (s : ℕ) (t : Tableau) : Type 0 where
   pub at_denominator : IsSmallAt denominator σ s t
 
 -- ---- runs
+-- where a run goes on, its next tableau has property P
 abbrev pub IfGoesOn : (Tableau → Type 0) → RunEnd ⊎ Tableau → Type 0
 IfGoesOn P (inl e) = Unit {0}
 IfGoesOn P (inr u) = P u

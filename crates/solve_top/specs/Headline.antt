@@ -129,6 +129,7 @@ pub record IsShowing (q : Request) (r : Run) (v : Survey) : Type 0 where
   pub nothing : TakesNothing r.cert
   pub kept : Stays r.cert.faults
 
+-- 0: the figures of the journal are told, and nothing was done on it
 pub record EndsAsShown (q : Request) (r : Run) : Type 0 where
   pub number : r.number ≡ exit_number status.Done
   pub survey : Survey
@@ -166,6 +167,7 @@ pub data BreaksOff (q : Request) (r : Run) : Type 0 where
   in_spent : (s : Search) → HandsBack q r s → HasSpent (limits_in q).nodes s → TakesNothing r.cert → TakesPrefix r.out (lines_due s) → BreaksOff q r
   in_figures : (v : Survey) → IsShowing q r v → TakesPrefix r.out (survey_lines v) → BreaksOff q r
 
+-- 7: the certificate's sink didn't fail, but that of the lines did, after a prefix of them
 pub record EndsAsLinesFault (q : Request) (r : Run) : Type 0 where
   pub number : r.number ≡ exit_number status.Sink
   pub kept : Stays r.cert.faults

@@ -99,6 +99,7 @@ abbrev pub Commits : ℕ → ℕ → Finding → Result Receipt CommitFault → 
 Commits w node f r at own = MakesOf w (settling node f at) r at own
 
 -- ---- release and halt
+-- a release adds the event that gives the worker's node back
 abbrev pub Releases : ℕ → ℕ → List PoolEntry → List PoolEntry → Type 0
 Releases w node at own = own ≡ Happened (entry_by w (event.Release node)) ∷ []
 
