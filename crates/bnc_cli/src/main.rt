@@ -118,8 +118,9 @@ fn status_of<
     ran.status
 }
 
-/// Runs the words of the command line over the files that they name. Words that are no command name none, and are refused by the
-/// run. Where memory runs out before it, or the standard descriptors can't be held, nothing is printed.
+/// Runs the words of the command line over the files that they name. They are parsed here for the paths, and by the run once more
+/// (docs/DECISIONS.md, entry 64). Words that are no command name no file, and are refused by the run. Where memory runs out before it, or the
+/// standard descriptors can't be held, nothing is printed.
 fn main(rt: HostRuntime) -> ExitCode {
     if hold_standard(&rt).is_err() {
         return ExitCode::from(Status::Sink.number());

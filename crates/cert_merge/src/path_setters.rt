@@ -10,7 +10,8 @@ use crate::setters::Setters;
 use node_tree::{Branch, Tree};
 use std::alloc::{AllocError, Global};
 
-/// The setters of one node of a tree, with those that the branches on its path replaced, by which the setters of its parent are made of its own.
+/// The setters of one node of a tree, with those that the branches on its path replaced, by which the setters of its parent are made of its own
+/// (docs/DECISIONS.md, entry 62).
 #[derive(Drop)]
 pub struct PathSetters {
     /// The node.

@@ -17,7 +17,7 @@ use std::alloc::{AllocError, Global};
 use std::marker::Model;
 
 /// The derived lines of the certificate of a search in which no node is open, seen as the list of those that are still to come. It keeps a place in
-/// them and no list of lines: 16 bytes for each node.
+/// them and no list of lines: 16 bytes for each node (docs/DECISIONS.md, entry 22).
 #[derive(Drop)]
 pub struct Feed<'a> {
     state: &'a State,

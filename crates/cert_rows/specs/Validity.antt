@@ -24,7 +24,7 @@ use Rattle.problem.specs.Rows.{Rows}
 use Rattle.fraction.specs.Whole.{IsWhole}
 
 -- ---- one line, over the lines before it
--- a combination of earlier lines for a G or an L row
+-- a combination of earlier lines for a G or an L row (docs/DECISIONS.md, entry 10)
 pub record IsCombination (ls : List CertLine) (s : Sense) (mult : Multipliers) : Type 0 where
   pub earlier : All (λ m. m.0 < length ls) mult
   pub signs : AllSigned s ls mult
@@ -68,7 +68,7 @@ pub record IsRounded (ls : List CertLine) (r : Row) (mult : Multipliers) : Type 
   pub whole_terms : HasWholeCoefficients (combination r.sense ls mult)
   pub dominates : Dominates (rounded (combination r.sense ls mult)) r
 
--- a G row or an L row; lin and rnd give no other by themselves
+-- a G row or an L row; lin and rnd give no other by themselves (docs/DECISIONS.md, entry 9)
 abbrev pub IsInequality : Sense → Type 0
 IsInequality G = Unit {0}
 IsInequality L = Unit {0}

@@ -8,7 +8,7 @@ use std::marker::Model;
 
 /// A label: a letter with a number, as `N12`. It is seen as its text.
 ///
-/// A certificate has a label for each of its lines, so a label keeps no text.
+/// A certificate has a label for each of its lines, so a label keeps no text (docs/DECISIONS.md, entry 38).
 #[derive(Debug, Drop)]
 pub struct Label {
     letter: u8,

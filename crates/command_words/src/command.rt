@@ -77,9 +77,9 @@ fn entered(alloc: Global, matches: &ArgMatches<'_>) -> Result<Command, WordsFaul
     }
 }
 
-/// The command that the words are.
+/// The command that the words are, as `clap` decides (docs/DECISIONS.md, entry 19).
 ///
-/// `Usage`: they are no command. `Memory`: memory ran out, which says nothing of the words.
+/// `Usage`: they are no command. `Memory`: memory ran out, which says nothing of the words (docs/DECISIONS.md, entry 20).
 pub fn parse(alloc: Global, words: &Words) -> Result<Command, WordsFault>
     ensures command { IfOk result (λ c. command_of words.now ≡ Some (asked c)) }
     ensures range { IfOk result HasRanges }

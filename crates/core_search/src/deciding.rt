@@ -76,7 +76,7 @@ fn settlement(
     settle(alloc, finding, state, node.number, &node.area, worker.limit)
 }
 
-/// How the node is settled once cuts were made, of which no more are sought. The one error is want of memory.
+/// How the node is settled once cuts were made, of which no more are sought (docs/DECISIONS.md, entry 43). The one error is want of memory.
 fn settle_again(
     alloc: Global,
     state: &State,

@@ -31,7 +31,8 @@ pub enum Ending {
     Memory,
 }
 
-/// Searches on as worker 0, with at most `cuts` cuts, or with those that are there already. The pool's budget says how many nodes the tree may have.
+/// Searches on as worker 0 over a pool, as several workers do (docs/DECISIONS.md, entry 49), with at most `cuts` cuts, or with those that are there
+/// already. The pool's budget says how many nodes the tree may have.
 ///
 /// The open node of greatest number is next. The verdict on its box closes it, or leaves its one point, which becomes the incumbent. Else the linear
 /// program over its box with all cuts does: it is infeasible, or its bound reaches the cutoff, or its optimum is whole and becomes the incumbent. A

@@ -15,7 +15,7 @@ use std::alloc::{AllocError, Global};
 pub struct Worker {
     /// The relaxation of the problem with all cuts.
     pub relaxation: Relaxation,
-    /// What the splits of each column have gained so far.
+    /// What the splits of each column have gained so far. The history has none of it (docs/DECISIONS.md, entry 42).
     pub costs: Costs,
     /// How many cuts the book takes at most.
     pub limit: u32,

@@ -3,7 +3,7 @@
 //! Where a node takes about as long as the turns that it needs, more workers gain nothing: they wait for one another, and the pool moves from core to
 //! core. Then a worker but the first rests between two nodes, and longer each time that it finds no room. The others go on at full speed, and the one
 //! that rests comes back where nodes get dear again. All this is counted in turns, since no clock is at hand: the turns of others for which the worker
-//! waited, and those that ended while it worked on its own.
+//! waited, and those that ended while it worked on its own (docs/DECISIONS.md, entry 71).
 
 use turn_lock::Traffic;
 

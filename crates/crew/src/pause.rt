@@ -45,7 +45,7 @@ impl<'a> Pauses<'a> {
     }
 
     /// Each open node is held: waits for a moment, by spinning and yielding at first, then by sleeps, so that a worker that waits long leaves its core
-    /// to others.
+    /// to others (docs/DECISIONS.md, entry 58).
     pub(crate) fn idle<R: Wait>(&mut self, rt: &R, traffic: Traffic) {
         if let Some(crowd) = &mut self.crowd {
             crowd.forget(traffic);

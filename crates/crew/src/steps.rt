@@ -1,5 +1,5 @@
 //! The steps of a worker one by one, and the gates of two workers: for a caller that makes each step itself, as a program that shows what the gates
-//! answer. A worker of a search makes them in `work`.
+//! answer (docs/DECISIONS.md, entry 60). A worker of a search makes them in `work`.
 ghost use Rattle.std.specs.Prelude.{◌≡◌, ◌∷◌, [], true, IfOk, OnOk, OnErr};
 ghost use Rattle.turn_lock.specs.Lists.{GoesOn};
 ghost use Rattle.turn_lock.specs.Names.{names_below};

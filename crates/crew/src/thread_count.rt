@@ -13,7 +13,7 @@ fn has_room(alloc: Global, bytes: usize) -> bool {
 }
 
 /// The most threads, up to this number, for which there is memory: the calling thread, and the others with what each of them may take. Under a limit on
-/// memory more threads would leave none for the search.
+/// memory more threads would leave none for the search (docs/DECISIONS.md, entry 72).
 pub(crate) fn threads_for(alloc: Global, workers: usize) -> usize
     requires { 0 < workers }
     ensures some { 0 < result }

@@ -15,7 +15,7 @@ use fraction::Frac;
 use problem::{MOST_COLUMNS, Term};
 use problem_box::{IntBox, Span};
 
-/// The greatest size of a numerator that is left of a column.
+/// The greatest size of a numerator that is left of a column (docs/DECISIONS.md, entry 88).
 const MOST_LEFT: u128 = 1 << 84;
 
 /// The greatest size of a bound.

@@ -155,13 +155,14 @@ impl Relaxation {
         }
     }
 
-    /// What the dual simplex answers over a box, by the least-index run from the rows' values as the basis. Where the run ends with a tableau, that is
-    /// handed out too.
+    /// What the dual simplex answers over a box, by the least-index run from the rows' values as the basis (docs/DECISIONS.md, entry 39). Where the
+    /// run ends with a tableau, that is handed out too.
     ///
     /// The run goes on whole numbers first, and where a number isn't whole, on scaled ones. Where that is given up, exact fractions go on from the
     /// last pivot, or where there is no start on such numbers, from the start. The answer is the same. The one error is want of memory.
     ///
-    /// It borrows the relaxation for writing, since a program may keep what a run computes for the next one. That changes no answer.
+    /// It borrows the relaxation for writing, since a program may keep what a run computes for the next one (docs/DECISIONS.md, entry 92). That
+    /// changes no answer.
     pub fn solve(
         &mut self,
         alloc: Global,
@@ -214,7 +215,7 @@ impl Relaxation {
     }
 
     /// Whether what `solve` answers over a box is that it is cramped after so many pivots, as somebody claims. The run ends behind the pivot that has to
-    /// be cramped by the claim, however long `solve` would go on. The one error is want of memory.
+    /// be cramped by the claim, however long `solve` would go on (docs/DECISIONS.md, entry 74). The one error is want of memory.
     pub fn is_cramped_after(
         &self,
         alloc: Global,

@@ -23,7 +23,7 @@ const MOST: u128 = 1 << 74;
 /// The greatest size of a right side.
 const MOST_SIDE: u128 = 1 << 50;
 
-/// A point over one common denominator, seen as the point itself.
+/// A point over one common denominator, seen as the point itself (docs/DECISIONS.md, entry 54).
 #[derive(Drop)]
 pub(crate) struct ScaledPoint {
     denominator: u128,

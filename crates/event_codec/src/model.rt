@@ -16,7 +16,7 @@ use std::alloc::{AllocError, Global};
 /// The one format of a model's record.
 const FORMAT: u8 = 1;
 
-/// The record of a model: what a search of it begins with.
+/// The record of a model: what a search of it begins with. It has no limit of the search (docs/DECISIONS.md, entry 46).
 #[derive(Clone, Copy, Debug, Drop, PartialEq, Eq)]
 pub struct ModelRecord<'a> {
     /// The model's text.

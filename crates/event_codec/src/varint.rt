@@ -1,4 +1,4 @@
-//! Numbers in as few bytes as they need.
+//! Numbers in as few bytes as they need (docs/DECISIONS.md, entry 87).
 
 ghost use Rattle.std.specs.Prelude.{◌≡◌, ◌<◌, ◌≤◌, ◌-◌, ◌^◌, nat_lt, length, if◌then◌else◌, OnOk, ◌++◌, IfOk, IfErr, Ok, Err, Some, None};
 ghost use Rattle.event_codec.specs.ReadResults.{Reads};
@@ -138,7 +138,7 @@ fn wide_varint_value(bytes: &[u8]) -> Option<u128>
     Some(value)
 }
 
-/// The bytes of a varint.
+/// The bytes of a varint, which are found before their number is judged (docs/DECISIONS.md, entry 85).
 #[tactic(auto, unfolding(crate::specs::Reading::varint_bytes_at))]
 fn varint_bytes<'a>(cursor: &mut Cursor<'a>) -> Result<&'a [u8], CodecFault>
     ensures found { IfOk result (λ b. varint_bytes_at cursor.old ≡ Ok (b.now, cursor.new)) }

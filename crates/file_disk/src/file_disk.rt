@@ -23,8 +23,9 @@ enum Place {
 /// path each call fails.
 ///
 /// Reading takes nothing from others. The first write or cut takes the file for writing until the disk is dropped, and fails where that can't
-/// be. A sync is the file's `sync_all`, or its `sync_data` where it is as long as at the last one. The first that succeeds has synced its entry
-/// in its folder too. Of its faults it keeps what the system said of the last one, for a person; no contract speaks of that.
+/// be (docs/DECISIONS.md, entry 45). A sync is the file's `sync_all`, or its `sync_data` where it is as long as at the last one. The first that
+/// succeeds has synced its entry in its folder too. Of its faults it keeps what the system said of the last one, for a person; no contract speaks of
+/// that (docs/DECISIONS.md, entry 70).
 pub struct FileDisk<'a, R: Files<File = File>> {
     files: &'a R,
     path: &'a Option<String>,

@@ -116,7 +116,8 @@ impl Opened {
         self.file.read_exact_at(buf, at)
     }
 
-    /// Writes all bytes from a place on. In a file that may only be read a few of the same may stand there already: then nothing is to be written.
+    /// Writes all bytes from a place on. In a file that may only be read a few of the same may stand there already: then nothing is to be written
+    /// (docs/DECISIONS.md, entry 68).
     pub(crate) fn write(&mut self, at: u64, bytes: &[u8]) -> io::Result<()> {
         if !self.writable && holds_already(&self.file, at, bytes) {
             return Ok(());
@@ -142,7 +143,7 @@ impl Opened {
         Ok(())
     }
 
-    // Fails where the file has lost its last name: what is synced there is gone when the file is closed.
+    // Fails where the file has lost its last name: what is synced there is gone when the file is closed (docs/DECISIONS.md, entry 69).
     fn check_name(&self) -> io::Result<()> {
         if self.found.nlink() > 0 && self.metadata()?.nlink() == 0 {
             return Err(Error::new(
@@ -157,7 +158,7 @@ impl Opened {
     ///
     /// Where the length is that of the last sync, the system need not write what it keeps of the file besides its bytes: on ext4 that takes half
     /// of the time (docs/DECISIONS.md, entry 79). Such a sync fails at a file that has lost its last name. It is the last of each append, so no
-    /// append to such a file succeeds.
+    /// append to such a file succeeds (docs/DECISIONS.md, entry 97).
     pub(crate) fn sync(&mut self) -> io::Result<()> {
         if !self.resized {
             self.file.sync_data()?;

@@ -113,7 +113,7 @@ fn check_empty(file: &File) -> io::Result<()> {
 }
 
 // Locks the file until it is closed. It fails where another had it locked, as a run has its journal, whatever the name of that is by now. Where
-// the file system has no locks, no journal is in use.
+// the file system has no locks, no journal is in use (docs/DECISIONS.md, entry 52).
 fn check_unused(file: &File) -> io::Result<()> {
     match file.try_lock() {
         Err(TryLockError::WouldBlock) => {

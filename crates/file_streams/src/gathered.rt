@@ -6,7 +6,7 @@ use std::alloc::Global;
 /// How many bytes are gathered.
 const PIECE: usize = 65_536;
 
-/// Bytes that are gathered, so that the system is called once for many lines.
+/// Bytes that are gathered, so that the system is called once for many lines (docs/DECISIONS.md, entry 80).
 #[derive(Drop)]
 pub(crate) struct Gathered {
     bytes: Vec<u8>,

@@ -1,5 +1,5 @@
 // What is looked at before a run, so that nothing is searched whose certificate could not be written without harm, and nothing told into a file of
-// the user's.
+// the user's (docs/DECISIONS.md, entry 67).
 use crate::destination::Destination;
 use crate::head::Head;
 use crate::inode::{Inode, STANDARD_ERROR, STANDARD_OUTPUT};

@@ -5,7 +5,8 @@ use std::os::unix::fs::{FileTypeExt, MetadataExt};
 use std::rt::Files;
 use std::{fs, io};
 
-/// Where the system shows the files of the standard streams. `std` has no other way to ask for one that it did not open.
+/// Where the system shows the files of the standard streams. `std` has no other way to ask for one that it did not open
+/// (docs/DECISIONS.md, entry 32).
 pub(crate) const STANDARD_OUTPUT: &str = "/proc/self/fd/1";
 
 pub(crate) const STANDARD_ERROR: &str = "/proc/self/fd/2";

@@ -1,4 +1,5 @@
-// A file that is written beside the place where it is to stand, so that what stands there is not taken away before the new one is whole.
+// A file that is written beside the place where it is to stand, so that what stands there is not taken away before the new one is whole
+// (docs/DECISIONS.md, entry 66).
 use file_entry::{behind_links, is_at, sync_entry};
 use std::fs::{File, OpenOptions, Permissions};
 use std::io::{Error, ErrorKind};

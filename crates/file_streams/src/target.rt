@@ -17,7 +17,7 @@ pub enum Target {
     /// A file that is written where it stands: a device, a pipe, or one beside which none can be made.
     Own(File),
     /// A file that is standard output's too. Opened again it would be written from its front, over what standard output writes, so both write
-    /// through the one descriptor.
+    /// through the one descriptor (docs/DECISIONS.md, entry 34).
     Output(Stdout),
     /// The same of standard error.
     Error(Stderr),

@@ -23,7 +23,7 @@ use std::marker::Model;
 /// A rational number, kept in lowest terms: the denominator is at least 1, and both parts are at most 2^127 - 1 in size. Zero is 0/1.
 ///
 /// An operation that answers `Option` gives the exact value, or `None` exactly where one of the numbers that it multiplies or adds up
-/// on its way is larger than that. Contracts see the rational number itself.
+/// on its way is larger than that (docs/DECISIONS.md, entry 4). Contracts see the rational number itself.
 #[derive(Clone, Copy, PartialEq, Eq)]
 pub struct Frac {
     num: i128,
@@ -161,7 +161,7 @@ impl Frac {
         self.den
     }
 
-    /// Both parts of each fraction have 127 bits. This computes nothing: its contract is for callers' proofs.
+    /// Both parts of each fraction have 127 bits. This computes nothing: its contract is for callers' proofs (docs/DECISIONS.md, entry 30).
     #[inline(always)]
     pub fn limits_hold(&self)
         ensures { FitsFraction self.now }

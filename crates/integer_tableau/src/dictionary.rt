@@ -37,7 +37,8 @@ pub(crate) struct Dictionary {
     pub(crate) exits: usize,
 }
 
-/// Dictionaries of one linear program, in the order in which they were made. The first is that at the start.
+/// Dictionaries of one linear program, in the order in which they were made. The first is that at the start. They share lists, so that none is an
+/// allocation of its own (docs/DECISIONS.md, entry 93).
 #[derive(Drop)]
 pub(crate) struct Dictionaries {
     /// How many variables there are.

@@ -24,7 +24,7 @@ const FIRST_WORDS: usize = 1 << 18;
 /// Room for how many numerators a store begins with, so that they aren't moved while they are few.
 const FIRST_ROOM: usize = 1 << 16;
 
-/// How many words they take at most, about.
+/// How many words they take at most, about (docs/DECISIONS.md, entry 96).
 const MOST_WORDS: usize = 1 << 21;
 
 /// How many dictionaries there are at most.
@@ -45,7 +45,7 @@ const MOST_BUDGET: u32 = 1 << 13;
 /// How many dictionaries tell how large those of a linear program are.
 const SAMPLE: usize = 8;
 
-/// How many words a dictionary takes at most on average: of larger ones a store could keep fewer than 1,024.
+/// How many words a dictionary takes at most on average: of larger ones a store could keep fewer than 1,024 (docs/DECISIONS.md, entry 95).
 const MOST_AVERAGE: usize = MOST_WORDS / 1024;
 
 /// For how many runs the store is suspended the first time. Each further time is twice as long, until the budget has come to its greatest.

@@ -60,7 +60,7 @@ pub(crate) fn may_enter(
 }
 
 /// The same as `may_enter`, of a variable that is free or not. The conditions that hold are counted: of `&` the compiler would make branches, which the
-/// processor guesses badly.
+/// processor guesses badly (docs/DECISIONS.md, entry 96).
 #[inline(always)]
 pub(crate) fn enters(direction: Direction, at_upper: bool, free: bool, numerator: i64) -> bool
     ensures { result ≡ (is_eligible_at direction at_upper numerator && free) }

@@ -33,7 +33,7 @@ pub(crate) struct Edge {
 }
 
 /// What is noted of a variable that leaves: edges, by rising ratio, and by rising number where ratios are the same. They are as many as were asked for so
-/// far: few are.
+/// far: few are. Those of both directions stand together (docs/DECISIONS.md, entry 94).
 #[derive(Clone, Copy)]
 pub(crate) struct Exit {
     /// The place of its dictionary.

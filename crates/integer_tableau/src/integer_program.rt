@@ -26,6 +26,7 @@ use tableau::{Bounds, Entry, LinearProgram};
 
 /// A linear program of whole numbers, made ready for tableaus over many boxes. Contracts see the linear program itself.
 pub struct IntegerProgram {
+    /// The tableaus share them (docs/DECISIONS.md, entry 53).
     pub(crate) rows: RcSlice<ProgramRow>,
     /// The coefficients of the rows by column; none where they are too many.
     pub(crate) columns: Option<CoefficientColumns>,

@@ -38,7 +38,8 @@ impl IntegerTableau {
 
     /// The run with at most `cap` further pivots, each the one that the tableau asks for. Its place is a pivot exactly where it met the cap.
     ///
-    /// The error says that it is given up, and how many pivots it made before: the tableau after these is there once more by `after_pivots`.
+    /// The error says that it is given up, and how many pivots it made before: the tableau after these is there once more by `after_pivots`
+    /// (docs/DECISIONS.md, entry 40).
     pub fn run(self, cap: u64) -> Result<IntegerRunEnd, u64>
         requires { self.pivots + cap < 2 ^ 64 }
         ensures value { IfOk result (λ e. EndsAs (run_from cap self) e.place e.tableau) }

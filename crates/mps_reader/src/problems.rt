@@ -19,7 +19,8 @@ use problem_box::IntBox;
 use std::alloc::Global;
 use std::hash::BuildHasher;
 
-/// The problem of the tables, or the fault at the end: no objective, or the first column's that isn't whole or has no bound.
+/// The problem of the tables, or the fault at the end: no objective, or the first column's that isn't whole or has no bound. That the problem keeps
+/// to its limits follows from the format, so nothing is tested twice (docs/DECISIONS.md, entry 17).
 pub fn problem_of<'a, B: BuildHasher + Drop>(
     alloc: Global,
     tables: Tables<'a, B>,

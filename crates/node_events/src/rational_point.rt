@@ -8,7 +8,8 @@ use std::marker::Model;
 
 /// One fraction per column, seen as a list of rational numbers.
 ///
-/// The history of a search keeps a point for nearly every split, and nearly all numbers fit into 64 bits: such a point takes 16 bytes a column.
+/// The history of a search keeps a point for nearly every split, and nearly all numbers fit into 64 bits: such a point takes 16 bytes a column, and
+/// stands behind a pointer, so that an event stays small (docs/DECISIONS.md, entry 41).
 #[derive(Drop)]
 pub struct RationalPoint {
     numbers: Box<Numbers>,

@@ -13,7 +13,7 @@ use crate::{AppendFault, Scanned};
 use outside::Disk;
 
 /// A journal: a list of payloads on a disk, to which more can be added. A crash at any moment leaves a disk that has
-/// each payload that was acknowledged. The payloads themselves stand on the disk alone.
+/// each payload that was acknowledged. The payloads themselves stand on the disk alone (docs/DECISIONS.md, entry 44).
 pub struct Journal<D: Disk> {
     disk: D,
     // How many payloads there are.

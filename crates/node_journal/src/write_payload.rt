@@ -18,7 +18,7 @@ use std::alloc::AllocError;
 const SIZE_LIMIT: u64 = 1 << 63;
 
 /// Makes a buffer the length, the payload and a closed gate. The room for all three is made at once: a byte that is pushed behind a full buffer
-/// would double it.
+/// would double it (docs/DECISIONS.md, entry 89).
 fn stage(frame: &mut Vec<u8>, payload: &[u8]) -> Result<(), AllocError>
     requires { length payload.now < 2 ^ 32 }
     ensures { OnOk result (frame.new.items ≡ tail_of payload.now) }

@@ -43,7 +43,7 @@ abbrev pub entries_from : Enc → List (List ℕ) → Option (List Entry)
 entries_from enc [] = Some []
 entries_from enc (p ∷ ps) = with_spelled (spelled enc p) (λ next. entries_from next ps)
 
--- the events of these payloads, which stand behind the model's record
+-- the events of these payloads, which stand behind the model's record (docs/DECISIONS.md, entry 84)
 abbrev pub entries_in : List (List ℕ) → Option (List Entry)
 entries_in ps = entries_from One ps
 
@@ -52,6 +52,7 @@ abbrev pub model_in : List (List ℕ) → List ℕ
 model_in ps = slice_index_or ps 0 []
 
 -- the events of a journal: those of the payloads behind the model's record; none where there is no record, or one of them spells nothing
+-- (docs/DECISIONS.md, entry 78)
 abbrev pub journal_entries : List (List ℕ) → Option (List Entry)
 journal_entries [] = None
 journal_entries (model ∷ ps) = entries_in ps

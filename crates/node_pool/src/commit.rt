@@ -143,9 +143,9 @@ impl<D: Disk> Pool<D> {
         }
     }
 
-    /// Adds events of a worker, 1 to 64, each admitted after those before it, to the journal as one payload, and then to the state: at `Ok` they are
-    /// acknowledged. None is a claim or a release, and a split is alone in its list. At a fault the state is as before, with none of them; the pool is halted
-    /// at each fault but `Memory`.
+    /// Adds events of a worker, 1 to 64, each admitted after those before it, to the journal as one payload (docs/DECISIONS.md, entry 77), and then
+    /// to the state: at `Ok` they are acknowledged. None is a claim or a release, and a split is alone in its list. At a fault the state is as
+    /// before, with none of them; the pool is halted at each fault but `Memory`.
     pub fn commit_all(
         &mut self,
         alloc: Global,

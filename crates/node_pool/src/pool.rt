@@ -26,7 +26,7 @@ pub struct Pool<D: Disk> {
     /// How many nodes the tree may have.
     pub(crate) budget: u32,
     pub(crate) halt: Option<Halt>,
-    /// The state when the pool was halted. It has no bytes, and is for contracts.
+    /// The state when the pool was halted. It has no bytes, and is for contracts (docs/DECISIONS.md, entry 82).
     pub(crate) at_halt: Snapshot<State>,
     /// The disk's count of faults when the pool was made.
     pub(crate) faults: u64,

@@ -19,7 +19,7 @@ use std::marker::Model;
 /// Node 0 is the root. A node is split at a number in one column: its left child takes the numbers up to that, and its right child those
 /// above, the two having the next two numbers in this order. There are at most `MOST_NODES` nodes.
 ///
-/// The box of one node is kept, since the boxes that are asked for next are mostly those of nodes near it.
+/// The box of one node is kept, since the boxes that are asked for next are mostly those of nodes near it (docs/DECISIONS.md, entry 62).
 #[derive(Drop)]
 pub struct Tree {
     nodes: Nodes,

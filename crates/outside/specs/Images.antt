@@ -9,7 +9,7 @@ abbrev pub is_in_ranges : List (ℕ × ℕ) → ℕ → Bool
 is_in_ranges ranges i = list_any (λ r. nat_le r.0 i && nat_lt i (r.0 + r.1)) ranges
 
 -- A crash at this moment may leave these bytes: any in the ranges that were written since the last sync, any or none past
--- the least length since, up to the greatest, and elsewhere what was there at that sync.
+-- the least length since, up to the greatest, and elsewhere what was there at that sync (docs/DECISIONS.md, entry 6).
 pub record IsImage (m : Moment) (c : List ℕ) : Type 0 where
   pub no_shorter : m.least ≤ length c
   pub no_longer : length c ≤ m.most

@@ -13,7 +13,7 @@ use crate::{Failed, Moment};
 pub trait Disk {
     ghost use Rattle.outside.specs.declared.moment.Moment.{Moment};
 
-    /// Whether disks of this kind tell their content, and what a crash may leave.
+    /// Whether disks of this kind tell their content, and what a crash may leave (docs/DECISIONS.md, entry 5).
     ghost tells: { Bool };
 
     /// The moments before this one, the oldest first. No call takes one away or changes one.

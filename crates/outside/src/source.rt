@@ -10,7 +10,7 @@ pub enum Got {
     Gave(usize),
     /// No byte is left.
     End,
-    /// The read failed, was counted, and took no byte.
+    /// The read failed, was counted, and took no byte (docs/DECISIONS.md, entry 7).
     Failed,
 }
 

@@ -1,6 +1,6 @@
 // The limits of a problem, each named once. What each of them limits is told in `specs/Limits`, where the same names stand.
 
-/// The most columns of a problem.
+/// The most columns of a problem. Sums over so many still have room (docs/DECISIONS.md, entry 88).
 pub const MOST_COLUMNS: usize = 8_000;
 
 /// The most rows of a problem.

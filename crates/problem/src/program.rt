@@ -134,7 +134,8 @@ impl Problem {
         self.sense
     }
 
-    /// The terms of the objective that a search minimises: those of the problem's own one, negated where the problem is maximised.
+    /// The terms of the objective that a search minimises: those of the problem's own one, negated where the problem is maximised
+    /// (docs/DECISIONS.md, entry 83).
     pub fn aim(&self) -> &Terms
         ensures value { result.now ≡ aim self.now }
         ensures limited { AreLimited (length self.now.spans) result.now }
@@ -186,7 +187,7 @@ impl Problem {
         self.aim().value(point)
     }
 
-    /// Each problem keeps to the limits. This computes nothing: its contract is for callers' proofs.
+    /// Each problem keeps to the limits. This computes nothing: its contract is for callers' proofs (docs/DECISIONS.md, entry 12).
     pub fn limits_hold(&self)
         ensures { IsLimited self.now }
     {

@@ -9,7 +9,8 @@ use std::marker::Model;
 
 /// A column with its coefficient, seen as the pair of them.
 ///
-/// Tables have many terms, and nearly all coefficients fit into 64 bits: such a term takes 24 bytes. A wider coefficient lies apart.
+/// Tables have many terms, and nearly all coefficients fit into 64 bits: such a term takes 24 bytes. A wider coefficient lies apart
+/// (docs/DECISIONS.md, entry 24).
 #[derive(Drop)]
 pub struct Term {
     form: Form,

@@ -90,7 +90,7 @@ fn with_payload<D: Disk>(
     }
 }
 
-/// A journal with the record of the upgrade, which is added where it isn't there.
+/// A journal with the record of the upgrade, which is added where it isn't there (docs/DECISIONS.md, entry 86).
 fn upgrade<D: Disk>(journal: Journal<D>, upgraded: bool) -> Result<Journal<D>, (ResumeFault, D)>
     requires sound { journal.fault ≡ None }
     requires known { D.tells ≡ true → upgraded ≡ is_upgraded (payloads_in (D.now journal.disk)) }
@@ -315,11 +315,11 @@ fn record_of(alloc: Global, text: Vec<u8>, upper: Option<i64>) -> Result<Vec<u8>
 
 /// The pool of the search of this model: the one that the journal on a disk stands for, or on an empty disk one in its first state, whose journal
 /// has the records of the model and of the upgrade alone. The problem is the one that the text reads as with this upper bound, which is 0 to `LARGEST_BOUND`.
-/// The text is let go of once its record is made, before the journal is read.
+/// The text is let go of once its record is made, before the journal is read (docs/DECISIONS.md, entry 89).
 ///
-/// The journal is read and checked whole before anything is written. Then it is recovered, and the record of the upgrade is added where it isn't
-/// there. `NotAJournal`, `Damaged` and `OtherModel` come exactly where the content calls
-/// for them, and leave the disk as it is; `Disk` comes only where the disk failed and counted it. The disk comes back with each of them.
+/// The journal is read and checked whole before anything is written (docs/DECISIONS.md, entry 48). Then it is recovered, and the record of the
+/// upgrade is added where it isn't there. `NotAJournal`, `Damaged` and `OtherModel` come exactly where the content calls for them, and leave the disk
+/// as it is; `Disk` comes only where the disk failed and counted it. The disk comes back with each of them.
 pub fn open_pool<B: BuildHasher + Drop, D: Disk>(
     alloc: Global,
     keys: B,

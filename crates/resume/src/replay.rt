@@ -154,7 +154,8 @@ fn apply_payload(
 }
 
 /// The state to which the payloads behind the first one lead, which is the record of a model of this problem, and whether the record of the upgrade is among
-/// them. `Damaged` has the place of the gate of the first with which they stand for no search.
+/// them. `Damaged` has the place of the gate of the first with which they stand for no search. One thread does all of it
+/// (docs/DECISIONS.md, entry 73).
 pub fn replay(
     alloc: Global,
     scanned: &Scanned,

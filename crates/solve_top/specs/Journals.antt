@@ -22,7 +22,8 @@ use Rattle.solve_top.specs.Changes.{SourceChange, DiskChange, Rises, Stays, IsUn
 use Rattle.solve_top.specs.Models.{IsFreshOrWith, model_before, record_of}
 use Rattle.solve_top.specs.Searches.{Search}
 
--- Of a disk that was at rest before the call. `IsOwn` says which problem the run is about, and by which record of its model.
+-- What is promised of crashes (docs/DECISIONS.md, entry 51), of a disk that was at rest before the call. `IsOwn` says which problem the run is about,
+-- and by which record of its model.
 pub record KeepsJournal (d : DiskChange) (IsOwn : List ℕ → Problem → Type 0) : Type 0 where
   -- The moments from before the call stay the first ones.
   pub extends : ExtendsMoments (moments_before d) (moments_after d)
@@ -99,7 +100,7 @@ HasEventsOf Show d s = ⊥
 HasEventsOf (Drill seed limits) d s = IsUntouched d
 
 -- Nothing is written on a disk, however the command ends, but by `solve` where it held no payload or a journal of its model, and by `resume` where it
--- held a journal. A drill counts no fault of the disk either.
+-- held a journal (docs/DECISIONS.md, entry 61). A drill counts no fault of the disk either.
 abbrev pub LeavesAlone : Request → SourceChange → DiskChange → Type 0
 LeavesAlone (Solve limits upper) m d = m.tells ≡ true → d.tells ≡ true → IsUntouched d ⊎ ((p : Problem) × Reads m.text upper p × IsFreshOrOf (record_of m.text upper) p d.now_before.seen)
 LeavesAlone (Resume limits) m d = d.tells ≡ true → IsUntouched d ⊎ StandsForSome d.now_before.seen

@@ -1,4 +1,4 @@
-//! Begins a command: opens what it searches in, or does what takes no search.
+//! Begins a command: opens what it searches in, or does what takes no search (docs/DECISIONS.md, entry 59).
 ghost use Rattle.std.specs.Prelude.{◌≡◌, [], None};
 ghost use Rattle.resume.specs.Journals.{IsReadFrom};
 ghost use Rattle.solve_top.specs.Begun.{HasBegun, IsReadyPool};

@@ -31,7 +31,8 @@ fn recorded(upper: Option<u32>) -> Option<i64>
     }
 }
 
-/// The pool of the search of a model, which goes on from the journal where the disk has one. `upper` is the upper bound of columns that have none.
+/// The pool of the search of a model, which goes on from the journal where the disk has one (docs/DECISIONS.md, entry 47). `upper` is the upper bound
+/// of columns that have none.
 pub fn open_of<B: BuildHasher + Drop, D: Disk>(
     alloc: Global,
     keys: B,

@@ -56,7 +56,7 @@ fn push_answer(text: &mut Vec<u8>, claim: &Goal) -> Result<(), AllocError>
     Ok(())
 }
 
-/// The lines of a search that is finished: its answer, and the numbers of nodes and cuts; for a drill the answer alone.
+/// The lines of a search that is finished: its answer, and the numbers of nodes and cuts; for a drill the answer alone (docs/DECISIONS.md, entry 50).
 pub fn finished_text(
     alloc: Global,
     request: &Request,

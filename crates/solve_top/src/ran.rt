@@ -14,7 +14,7 @@ pub struct Ran<D, S = u8> {
     pub status: S,
     /// The disk that the run was handed.
     pub disk: D,
-    /// The state at which the search ended, with its history; none where no search began.
+    /// The state at which the search ended, with its history; none where no search began (docs/DECISIONS.md, entry 35).
     pub last: Option<State>,
 }
 

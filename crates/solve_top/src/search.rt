@@ -47,8 +47,8 @@ fn text_spells_no_other(state: &State)
     texts_spell_one_certificate();
 }
 
-// Writes the certificate of a head and of a feed's lines to a sink that keeps it. After an error a prefix of it was taken, which is all of it where
-// the sink fails at the end.
+// Writes the certificate of a head and of a feed's lines to a sink that keeps it, before its answer is told (docs/DECISIONS.md, entry 18). After an
+// error a prefix of it was taken, which is all of it where the sink fails at the end.
 #[tactic(auto, using(crate::proofs::Keeping::whole_is_prefix))]
 fn keep<F: LineFeed, C: Sink>(
     alloc: Global,

@@ -13,7 +13,7 @@ use std::alloc::Global;
 use std::sync::Wait;
 use std::thread::Threads;
 
-/// Searches on within the limits that are asked for, or with what is there, by one worker, who takes no lock.
+/// Searches on within the limits that are asked for, or with what is there, by one worker, who takes no lock (docs/DECISIONS.md, entry 57).
 pub fn search_alone<D: Disk>(alloc: Global, pool: Pool<D>, request: &Request) -> (Ending, Pool<D>)
     requires ranges { HasRanges request.now }
     requires ready { IsReadyPool request.now pool }

@@ -188,8 +188,8 @@ impl SparseRow {
         sum_over(self.entries.as_slice(), values)
     }
 
-    /// Makes this the row of so many coefficients with copies of these entries, in room of its own that fits them. The one error is want of
-    /// memory; the row is empty then.
+    /// Makes this the row of so many coefficients with copies of these entries, in room of its own that fits them (docs/DECISIONS.md, entry 90). The
+    /// one error is want of memory; the row is empty then.
     fn set(&mut self, width: usize, entries: &Entries) -> Result<(), AllocError>
         requires { IsSparse width entries.now }
         ensures { OnOk result (self.new ≡ coefficients_from 0 width entries.now) }

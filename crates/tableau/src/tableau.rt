@@ -13,7 +13,8 @@ use std::marker::Model;
 
 /// A tableau of a linear program over exact fractions: which variables are basic, and what each row says of its basic variable.
 ///
-/// Variables are numbered from 0: first the columns, then the values of the rows. A row keeps those coefficients alone that aren't 0.
+/// Variables are numbered from 0: first the columns, then the values of the rows. A row keeps those coefficients alone that aren't 0
+/// (docs/DECISIONS.md, entry 91).
 #[derive(Drop)]
 pub struct Tableau {
     pub(crate) columns: usize,

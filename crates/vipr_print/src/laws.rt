@@ -5,7 +5,7 @@ ghost use Rattle.vipr_print.specs.Unique.{TextsSpellOneCertificate, TextsBeginNo
 use problem::Problem;
 
 /// Two certificates with one text are the same certificate, and no text of one begins that of another. Names and labels have neither
-/// blanks nor line feeds, each point has a number for each column, and no number has more than 64 digits.
+/// blanks nor line feeds, each point has a number for each column, and no number has more than 64 digits (docs/DECISIONS.md, entry 23).
 pub fn texts_spell_one_certificate()
     ensures one { TextsSpellOneCertificate }
     ensures no_prefix { TextsBeginNoOther }

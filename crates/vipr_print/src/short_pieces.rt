@@ -1,4 +1,5 @@
-// Pieces of a line whose numbers have 64 bits: each is made in a buffer on the stack, from its end to its front, and pushed at once.
+// Pieces of a line whose numbers have 64 bits: each is made in a buffer on the stack, from its end to its front, and pushed at once
+// (docs/DECISIONS.md, entry 80).
 ghost use Rattle.std.specs.Prelude.{◌≡◌, ◌+◌, ◌<◌, ◌≤◌, ◌++◌, [], ◌∷◌, OnOk, codes, drop, length};
 ghost use Rattle.std.specs.Fmt.{decimal, signed_decimal};
 

@@ -10,7 +10,8 @@ use turn_lock::Traffic;
 /// What a worker may ask of a pool.
 ///
 /// Each call finds a list of entries that begins with all that the gate had seen, goes on by entries of others, and ends with the entries that the call
-/// made, which are told by what it answers. The conditions of a call speak of what the gate had seen: entries of others leave them standing.
+/// made, which are told by what it answers. The conditions of a call speak of what the gate had seen: entries of others leave them standing
+/// (docs/DECISIONS.md, entry 55).
 pub trait PoolGate {
     ghost use Rattle.std.specs.Prelude.{◌≡◌, ℕ, List};
     ghost use Rattle.worker_gate.specs.declared.entry.PoolEntry.{PoolEntry};

@@ -13,7 +13,7 @@ use std::mem;
 use std::sync::Wait;
 use turn_lock::{Pass, Traffic, TurnLock};
 
-/// A gate to the pool under a lock. Between two calls it has a pass and no turn. It has to be ended by `into_pass`.
+/// A gate to the pool under a lock (docs/DECISIONS.md, entry 56). Between two calls it has a pass and no turn. It has to be ended by `into_pass`.
 pub struct LockGate<'a, D: Disk> {
     lock: &'a TurnLock<Kin<D>>,
     pass: Option<Pass<Kin<D>>>,
