@@ -19,8 +19,9 @@ use Rattle.problem.specs.Modest.{IsModest}
 use Rattle.problem.specs.Rising.{RiseFrom}
 use Rattle.problem.specs.Limited.{IsModestSpan, AreLimited, IsLimitedRow}
 use Rattle.problem.specs.Problem.{Problem}
-use Rattle.problem.specs.Limits.{most_columns, largest_bound}
+use Rattle.problem.specs.Limits.{most_columns, largest_bound, finest}
 use Rattle.problem.specs.Lemmas.Rising.{before_first}
+use Rattle.problem.specs.Lemmas.Modest.{largest_term}
 use Rattle.cert_rows.specs.Lines.{CertLine, row_at}
 use Rattle.derivation_book.specs.declared.cut.Cut.{Cut}
 use Rattle.derivation_book.specs.Known.{known_lines}
@@ -29,22 +30,22 @@ use Rattle.derivation_book.specs.Rounded.{is_zero}
 use Rattle.derivation_book.specs.Price.{bound_for, with_bound, with_reduced_cost, with_columns, price}
 use Rattle.expand.proofs.Prices.{neg_is}
 
--- a multiple of 10^-15 of size at most a * 10^-15
+-- a multiple of 1 / finest of size at most a / finest
 abbrev Small : ℕ → ℚ → Type 0
-Small a x = Within (10 ^ 15) a x
+Small a x = Within finest a x
 
 pub zero_small : Small 0 (whole (pos 0))
-zero_small = record { divides = rw (whole_parts (pos 0)).1 (one-dvd (10 ^ 15)); size = rw (whole_parts (pos 0)).0 (omega arith) }
+zero_small = record { divides = rw (whole_parts (pos 0)).1 (one-dvd finest); size = rw (whole_parts (pos 0)).0 (omega arith) }
 
 wider : (a b : ℕ) (x : ℚ) → a ≤ b → Small a x → Small b x
-wider a b x l h = record { divides = h.divides; size = larger (nat_abs x.num * 10 ^ 15) x.den h.size }
+wider a b x l h = record { divides = h.divides; size = larger (nat_abs x.num * finest) x.den h.size }
   where
     larger : (n d : ℕ) → n ≤ a * d → n ≤ b * d
     larger n d k = let m : a * d ≤ b * d = mul-le-mul_right d l in omega (arith, m, k)
 
 negated : (a : ℕ) (x : ℚ) → Small a x → Small a (neg_ℚ x)
 negated a x h =
-    let minus : Small (a * 1) (x *ℚ whole (negsuc 0)) = Within-*ℚ x (negsuc 0) (10 ^ 15) a 1 (omega arith) h (omega (arith, ints)) in
+    let minus : Small (a * 1) (x *ℚ whole (negsuc 0)) = Within-*ℚ x (negsuc 0) finest a 1 (omega arith) h (omega (arith, ints)) in
     let same : x *ℚ whole (negsuc 0) ≡ neg_ℚ x = *ℚ_comm x (whole (negsuc 0)) ∙ sym (neg_is x) in
     wider (a * 1) a (neg_ℚ x) (omega arith) (subst (Small (a * 1)) same minus)
 
@@ -55,7 +56,7 @@ with_product_is s m a h k = ap (option_and_then (λ v. add_checked s v)) (mul_is
 
 -- with a multiplier of size 1
 num_small : (a : ℕ) (x : ℚ) → Small a x → nat_abs x.num ≤ a
-num_small a x h = at_most (nat_abs x.num) (10 ^ 15) x.den (omega arith) h.divides h.size
+num_small a x h = at_most (nat_abs x.num) finest x.den (omega arith) h.divides h.size
   where
     at_most : (m n d : ℕ) → 0 < n → d ∣ n → m * n ≤ a * d → m ≤ a
     at_most m n d o q l =
@@ -66,19 +67,19 @@ one_fits : (z : ℤ) (x : ℚ) (a : ℕ) → nat_abs z ≤ 1 → a ≤ 10 ^ 25 �
 one_fits z x a l k h =
     let w = whole_parts z in
     let n = num_small a x h in
-    let o : 0 < 10 ^ 15 = omega arith in
+    let o : 0 < finest = omega arith in
     let d = le_of_dvd o h.divides in
     mul_fits_small (whole z) x (rw w.0 (omega (arith, mul-le-mul l n, k))) (rw w.1 (omega (arith, d)))
 
 one_small : (z : ℤ) (x : ℚ) (a : ℕ) → nat_abs z ≤ 1 → Small a x → Small a (whole z *ℚ x)
 one_small z x a l h =
-    wider (a * 1) a (whole z *ℚ x) (omega arith) (subst (Small (a * 1)) (*ℚ_comm x (whole z)) (Within-*ℚ x z (10 ^ 15) a 1 (omega arith) h l))
+    wider (a * 1) a (whole z *ℚ x) (omega arith) (subst (Small (a * 1)) (*ℚ_comm x (whole z)) (Within-*ℚ x z finest a 1 (omega arith) h l))
 
 -- one row's number, added to 0
 pub one_row : (z : ℤ) (x : ℚ) (a : ℕ) → nat_abs z ≤ 1 → a ≤ 10 ^ 25 → Small a x → (y : ℚ) × (with_product (whole (pos 0)) (whole z) x ≡ Some y) × Small a y
 one_row z x a l k h =
     let m = one_small z x a l h in
-    let fits = add_fits_within (whole (pos 0)) (whole z *ℚ x) (10 ^ 15) 0 a (omega arith) (omega arith) (omega (arith, k)) zero_small m in
+    let fits = add_fits_within (whole (pos 0)) (whole z *ℚ x) finest 0 a (omega arith) (omega arith) (omega (arith, k)) zero_small m in
     (whole (pos 0) +ℚ whole z *ℚ x, with_product_is (whole (pos 0)) (whole z) x (one_fits z x a l k h) fits, subst (Small a) (sym (zero-+ℚ (whole z *ℚ x))) m)
 
 -- ---- columns
@@ -89,10 +90,10 @@ module _ (a c : ℚ) (ma : IsModest a) (mc : IsModest c) (s : Span) (ms : IsMode
   left = a +ℚ neg_ℚ c
 
   left_is : sub_checked a c ≡ Some left
-  left_is = add_is a (neg_ℚ c) (add_fits_within a (neg_ℚ c) (10 ^ 15) (10 ^ 24) (10 ^ 24) (omega arith) (omega arith) (omega arith) ma (negated (10 ^ 24) c mc))
+  left_is = add_is a (neg_ℚ c) (add_fits_within a (neg_ℚ c) finest (largest_bound * finest) (largest_bound * finest) (omega arith) (omega arith) (omega arith) ma (negated (largest_bound * finest) c mc))
 
-  left_small : Small (2 * 10 ^ 24) left
-  left_small = wider (10 ^ 24 + 10 ^ 24) (2 * 10 ^ 24) left (omega arith) (Within-+ℚ a (neg_ℚ c) (10 ^ 15) (10 ^ 24) (10 ^ 24) (omega arith) ma (negated (10 ^ 24) c mc))
+  left_small : Small (2 * (largest_bound * finest)) left
+  left_small = wider (largest_bound * finest + largest_bound * finest) (2 * (largest_bound * finest)) left (omega arith) (Within-+ℚ a (neg_ℚ c) finest (largest_bound * finest) (largest_bound * finest) (omega arith) ma (negated (largest_bound * finest) c mc))
 
   bound_modest : nat_abs (bound_for left s) ≤ largest_bound
   bound_modest = step (int_lt (pos 0) left.num)
@@ -101,29 +102,29 @@ module _ (a c : ℚ) (ma : IsModest a) (mc : IsModest c) (s : Span) (ms : IsMode
       step true = ms.0
       step false = ms.1
 
-  product_small : Small (2 * 10 ^ 33) (left *ℚ whole (bound_for left s))
+  product_small : Small (2 * largest_term) (left *ℚ whole (bound_for left s))
   product_small =
-      wider (2 * 10 ^ 24 * largest_bound) (2 * 10 ^ 33) (left *ℚ whole (bound_for left s)) (omega arith)
-      (Within-*ℚ left (bound_for left s) (10 ^ 15) (2 * 10 ^ 24) largest_bound (omega arith) left_small bound_modest)
+      wider (2 * (largest_bound * finest) * largest_bound) (2 * largest_term) (left *ℚ whole (bound_for left s)) (omega arith)
+      (Within-*ℚ left (bound_for left s) finest (2 * (largest_bound * finest)) largest_bound (omega arith) left_small bound_modest)
 
   product_is : with_product total left (whole (bound_for left s)) ≡ Some (total +ℚ left *ℚ whole (bound_for left s))
   product_is =
       with_product_is total left (whole (bound_for left s))
-      (mul_fits_within left (bound_for left s) (10 ^ 15) (2 * 10 ^ 24) largest_bound (omega arith) (omega arith) (omega arith) left_small bound_modest)
-      (add_fits_within total (left *ℚ whole (bound_for left s)) (10 ^ 15) k (2 * 10 ^ 33) (omega arith) (omega arith) (omega (arith, lk)) mt product_small)
+      (mul_fits_within left (bound_for left s) finest (2 * (largest_bound * finest)) largest_bound (omega arith) (omega arith) (omega arith) left_small bound_modest)
+      (add_fits_within total (left *ℚ whole (bound_for left s)) finest k (2 * largest_term) (omega arith) (omega arith) (omega (arith, lk)) mt product_small)
 
   abbrev HasNext : Option ℚ → Type 0
-  HasNext o = (t : ℚ) × (o ≡ Some t) × Small (k + 2 * 10 ^ 33) t
+  HasNext o = (t : ℚ) × (o ≡ Some t) × Small (k + 2 * largest_term) t
 
   next : HasNext (with_bound total left s)
   next = step (is_zero left)
     where
       step : (b : Bool) → HasNext (cond b (Some total) (with_product total left (whole (bound_for left s))))
-      step true = (total, refl, wider k (k + 2 * 10 ^ 33) total (omega arith) mt)
+      step true = (total, refl, wider k (k + 2 * largest_term) total (omega arith) mt)
       step false = (
         total +ℚ left *ℚ whole (bound_for left s),
         product_is,
-        Within-+ℚ total (left *ℚ whole (bound_for left s)) (10 ^ 15) k (2 * 10 ^ 33) (omega arith) mt product_small,
+        Within-+ℚ total (left *ℚ whole (bound_for left s)) finest k (2 * largest_term) (omega arith) mt product_small,
       )
 
   pub next_total : HasNext (with_reduced_cost total a c s)
@@ -135,17 +136,17 @@ AreModestColumns [] = Unit {0}
 AreModestColumns (c ∷ cs) = IsModest c × AreModestColumns cs
 
 pub all_columns : (target : List (ℕ × ℚ)) → ((j : ℕ) → IsModest (coefficient target j)) → (j : ℕ) (cs : List ℚ) (ss : List Span) (total : ℚ) (k : ℕ)
-    → k + length ss * (2 * 10 ^ 33) ≤ 10 ^ 38 → Small k total → AreModestColumns cs → All IsModestSpan ss → (v : ℚ) × (with_columns total target j cs ss ≡ Some v)
+    → k + length ss * (2 * largest_term) ≤ 10 ^ 38 → Small k total → AreModestColumns cs → All IsModestSpan ss → (v : ℚ) × (with_columns total target j cs ss ≡ Some v)
 all_columns target mt j [] ss total k l h mc ms = (total, refl)
 all_columns target mt j (c ∷ cs) [] total k l h mc ms = (total, refl)
 all_columns target mt j (c ∷ cs) (s ∷ ss) total k l h mc ms =
     let n = next_total (coefficient target j) c (mt j) mc.0 s (All-head IsModestSpan s ss ms) k total (omega (arith, l)) h in
-    let r = all_columns target mt (j + 1) cs ss n.0 (k + 2 * 10 ^ 33) (omega (arith, l)) n.2 mc.1 (All-tail IsModestSpan s ss ms) in
+    let r = all_columns target mt (j + 1) cs ss n.0 (k + 2 * largest_term) (omega (arith, l)) n.2 mc.1 (All-tail IsModestSpan s ss ms) in
     (r.0, ap (option_and_then (λ t. with_columns t target (j + 1) cs ss)) n.1 ∙ r.1)
 
 -- ---- coefficients of rising terms
 zero_modest : IsModest (whole (pos 0))
-zero_modest = wider 0 (10 ^ 24) (whole (pos 0)) (omega arith) zero_small
+zero_modest = wider 0 (largest_bound * finest) (whole (pos 0)) (omega arith) zero_small
 
 rising_modest : (k : ℕ) (ts : List (ℕ × ℚ)) → RiseFrom k ts → All (λ t. IsModest t.1) ts → (j : ℕ) → IsModest (coefficient ts j)
 rising_modest k [] h m j = zero_modest
@@ -208,7 +209,7 @@ row_price_there p cs box i z n l few modest row =
     let ls = known_lines p cs in
     price_there p cs box [] ((i, whole z) ∷ []) few modest none_modest
     (λ j.
-    let y = one_row z (coefficient_at ls j i) (10 ^ 24) l (omega arith) (limited_modest n (row_at ls i).terms row.terms j) in
+    let y = one_row z (coefficient_at ls j i) (largest_bound * finest) l (omega arith) (limited_modest n (row_at ls i).terms row.terms j) in
     (y.0, added_once (coefficient_at ls j) i (whole z) y.0 y.1, y.2))
-    (let y = one_row z (side_at ls i) (2 * 10 ^ 24) l (omega arith) row.rhs in
-    (y.0, added_once (side_at ls) i (whole z) y.0 y.1, wider (2 * 10 ^ 24) (10 ^ 25) y.0 (omega arith) y.2))
+    (let y = one_row z (side_at ls i) (2 * (largest_bound * finest)) l (omega arith) row.rhs in
+    (y.0, added_once (side_at ls) i (whole z) y.0 y.1, wider (2 * (largest_bound * finest)) (10 ^ 25) y.0 (omega arith) y.2))

@@ -10,6 +10,7 @@ use Rattle.std.specs.List.{list_all}
 use Rattle.std.specs.Str.Parse.{digits_value}
 use Rattle.fraction.specs.Rational.{frac}
 use Rattle.fraction.specs.Lemmas.Rational.{frac_same}
+use Rattle.problem.specs.Limits.{finest}
 use Rattle.mps_lines.specs.Decimals.{is_digit, with_sign, within_limits, amount, spelt_of, capped}
 use Rattle.mps_lines.proofs.Judging.{judged_is, within_large, within_fine, within_ok}
 use Rattle.mps_lines.proofs.Places.{Parts, parts, all_digits}
@@ -23,7 +24,7 @@ amount_is : (negative : Bool) (cs : List ℕ) (up down : ℕ) → list_all is_di
     → within_limits negative (digits_value 10 cs * 10 ^ up) (10 ^ down) ≡ judged negative (weighed down (up + 15) cs)
 amount_is negative cs up down h =
     judged_is negative (digits_value 10 cs * 10 ^ up) down _
-    (subst (λ n. Parts n (10 ^ down) (weighed down (up + 15) cs)) (shift (digits_value 10 cs) (10 ^ up) (10 ^ 15) _ _ (pow-add 10 up 15) refl) (parts down (up + 15) cs h))
+    (subst (λ n. Parts n (10 ^ down) (weighed down (up + 15) cs)) (shift (digits_value 10 cs) (10 ^ up) finest _ _ (pow-add 10 up 15) refl) (parts down (up + 15) cs h))
 
 huge : (negative : Bool) (d k q : ℕ) → 0 < d → k + 10 ≤ q → within_limits negative (d * 10 ^ q) (10 ^ k) ≡ Err NumFault.TooLarge
 huge negative d k q hd h =
@@ -36,9 +37,9 @@ huge negative d k q hd h =
 tiny : (negative : Bool) (d l k : ℕ) → 0 < d → d < 10 ^ l → l + 15 ≤ k → within_limits negative (d * 10 ^ 0) (10 ^ k) ≡ Err NumFault.TooFine
 tiny negative d l k hd hl h =
     let a : 10 ^ (l + 15) ≤ 10 ^ k = pow-le-pow_right {n = 10} (omega arith) {i = l + 15} {j = k} h in
-    let b : 10 ^ (l + 15) ≡ 10 ^ l * 10 ^ 15 = pow-add 10 l 15 in
-    let small : d * 10 ^ 0 * 10 ^ 15 < 10 ^ k = omega arith in
-    within_fine negative (d * 10 ^ 0) (10 ^ k) (d * 10 ^ 0 * 10 ^ 15) (omega arith) (mod-eq_of_lt small) (omega arith)
+    let b : 10 ^ (l + 15) ≡ 10 ^ l * finest = pow-add 10 l 15 in
+    let small : d * 10 ^ 0 * finest < 10 ^ k = omega arith in
+    within_fine negative (d * 10 ^ 0) (10 ^ k) (d * 10 ^ 0 * finest) (omega arith) (mod-eq_of_lt small) (omega arith)
 
 pub none_above : (negative : Bool) (d k p q : ℕ) → d ≡ 0 → within_limits negative (d * 10 ^ p) (10 ^ k) ≡ within_limits negative (d * 10 ^ q) (10 ^ k)
 none_above negative d k p q h = rw h (ap (λ n. within_limits negative n (10 ^ k)) (omega arith))

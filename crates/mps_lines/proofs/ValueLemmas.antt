@@ -6,6 +6,7 @@ use Rattle.std.proofs.Common.{refl, ap, ◌∙◌, arith}
 use Rattle.std.proofs.lemmas.Bool.{lt-leb}
 use Rattle.std.proofs.Math.Nat.{one-le-pow}
 use Rattle.fraction.specs.Rational.{ℚ, frac}
+use Rattle.problem.specs.Limits.{largest_bound, finest}
 use Rattle.mps_lines.specs.Decimals.{Spelt, spelling, decimal, amount, amount_of, within_limits, with_sign, sign_at}
 use Rattle.mps_lines.specs.declared.decimals.NumFault.TheVariants as num
 use Rattle.mps_lines.specs.Infinities.{infinite, infinity_word, vast, is_vast}
@@ -13,11 +14,11 @@ use Rattle.mps_lines.specs.declared.values.Value.TheVariants as value
 use Rattle.mps_lines.specs.Values.{IsValue}
 
 -- a number within the limits isn't vast
-small_size : (negative : Bool) (size unit : ℕ) (q : ℚ) → within_limits negative size unit ≡ Ok q → size ≤ 10 ^ 9 * unit
+small_size : (negative : Bool) (size unit : ℕ) (q : ℚ) → within_limits negative size unit ≡ Ok q → size ≤ largest_bound * unit
 unfolding within_limits
-small_size negative size unit q h = by (nat_lt (10 ^ 9 * unit) size) refl h
+small_size negative size unit q h = by (nat_lt (largest_bound * unit) size) refl h
   where
-    by : (b : Bool) → nat_lt (10 ^ 9 * unit) size ≡ b → cond b (Err num.TooLarge) (if size * 10 ^ 15 % unit == 0 then Ok (frac (with_sign negative size) unit) else Err num.TooFine) ≡ Ok q → size ≤ 10 ^ 9 * unit
+    by : (b : Bool) → nat_lt (largest_bound * unit) size ≡ b → cond b (Err num.TooLarge) (if size * finest % unit == 0 then Ok (frac (with_sign negative size) unit) else Err num.TooFine) ≡ Ok q → size ≤ largest_bound * unit
     by true e h = cc
     by false e h = grind arith
 

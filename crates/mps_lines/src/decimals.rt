@@ -4,25 +4,21 @@ ghost use Rattle.std.specs.Prelude.{◌≡◌, ℕ, ◌+◌, ◌*◌, ◌^◌, �
 ghost use Rattle.std.specs.List.{prefix_len, list_all};
 ghost use Rattle.std.specs.Option.{option_map};
 ghost use Rattle.std.specs.Str.Parse.{digits_value};
-ghost use Rattle.mps_lines.specs.Decimals.{is_digit, front_digits, behind_digits, sign_at, point_at, power_at, exponent_at, with_sign, within_limits, decimal, capped, amount, spelt_of, largest_number, finest_number};
+ghost use Rattle.mps_lines.specs.Decimals.{is_digit, front_digits, behind_digits, sign_at, point_at, power_at, exponent_at, with_sign, within_limits, decimal, capped, amount, spelt_of};
+ghost use Rattle.problem.specs.Limits.{largest_bound, finest};
 ghost use Rattle.mps_lines.specs.Weights.{weighed, with_digit, judged};
 
 use fraction::Frac;
-
-/// The largest size of a number.
-const LARGEST_NUMBER: u128 = 1_000_000_000;
-
-/// A number is a multiple of 1 over this.
-const FINEST_NUMBER: u128 = 1_000_000_000_000_000;
+use problem::{FINEST, LARGEST_BOUND};
 
 /// Why a field is no number that is read.
 #[derive(Clone, Copy, Debug, PartialEq, Eq)]
 pub enum NumFault {
     /// It isn't spelled as a number.
     BadNumber,
-    /// Its size is above 10^9.
+    /// Its size is above `LARGEST_BOUND`, 10^9.
     TooLarge,
-    /// It isn't a multiple of 10^-15, and its size is at most 10^9.
+    /// It isn't a multiple of 1 / `FINEST`, 10^-15, and its size is at most `LARGEST_BOUND`.
     TooFine,
 }
 
@@ -173,11 +169,11 @@ fn weigh(whole: &[u8], part: &[u8], at: u128, unit: u128) -> Sum
     sum
 }
 
-/// Whether the number is above the largest, 10^9.
+/// Whether the number is above `LARGEST_BOUND`.
 fn is_too_large(sum: Sum) -> bool
-    ensures { result ≡ (sum.high || nat_lt (largest_number * finest_number) sum.middle || ((sum.middle == largest_number * finest_number) && sum.low)) }
+    ensures { result ≡ (sum.high || nat_lt (largest_bound * finest) sum.middle || ((sum.middle == largest_bound * finest) && sum.low)) }
 {
-    const LARGEST: u128 = LARGEST_NUMBER * FINEST_NUMBER;
+    const LARGEST: u128 = LARGEST_BOUND as u128 * FINEST as u128;
     sum.high || sum.middle > LARGEST || (sum.middle == LARGEST && sum.low)
 }
 
@@ -203,7 +199,7 @@ fn judge(negative: bool, sum: Sum) -> Result<Frac, NumFault>
     if sum.low {
         return Err(NumFault::TooFine);
     }
-    Ok(Frac::make(with_sign(negative, sum.middle), FINEST_NUMBER as i128))
+    Ok(Frac::make(with_sign(negative, sum.middle), FINEST as i128))
 }
 
 /// Whether each byte is a digit.

@@ -23,7 +23,7 @@ pub enum Kind {
     Infinite,
     /// A number of a size above `LARGEST_BOUND`.
     TooLarge,
-    /// A number that is no multiple of 10^-15.
+    /// A number that is no multiple of 1 / `FINEST`.
     TooFine,
     /// The text ends before ENDATA.
     NoEnd,

@@ -13,11 +13,11 @@ most_rows = 8000
 abbrev pub most_cuts : ℕ
 most_cuts = 256
 
--- the largest size of a column's bound, and of a coefficient; a right side may have twice that size
+-- the largest size of a column's bound, of a coefficient, and of a number of a model's text; a right side may have twice that size
 abbrev pub largest_bound : ℕ
 largest_bound = 10 ^ 9
 
--- coefficients and right sides are multiples of 1 / finest
+-- coefficients, right sides and the numbers of a model's text are multiples of 1 / finest
 abbrev pub finest : ℕ
 finest = 10 ^ 15
 

@@ -10,7 +10,9 @@ mod row;
 mod term;
 mod terms;
 
-pub use limits::{LARGEST_BOUND, LARGEST_CUT_COEFFICIENT, MOST_COLUMNS, MOST_CUTS, MOST_ROWS};
+pub use limits::{
+    FINEST, LARGEST_BOUND, LARGEST_CUT_COEFFICIENT, MOST_COLUMNS, MOST_CUTS, MOST_ROWS,
+};
 pub use names::Names;
 pub use objective_sense::ObjectiveSense;
 pub use point::Point;

@@ -19,7 +19,8 @@ use std::marker::Model;
 /// A problem within the limits, seen as its integer program: minimise or maximise the objective over the whole points of the box that satisfy the rows.
 ///
 /// The limits: at most `MOST_COLUMNS` columns and `MOST_ROWS` rows; bounds of size at most `LARGEST_BOUND`; coefficients that are multiples of
-/// 10^-15 of at most that size; right sides that are such multiples of at most twice that size. Under them no sum over a point of the box is cramped.
+/// 1 / `FINEST` of at most that size; right sides that are such multiples of at most twice that size. Under them no sum over a point of the box
+/// is cramped.
 #[derive(Drop)]
 pub struct Problem {
     names: Names,
