@@ -1,5 +1,5 @@
-# make test: the gate. `rt ci` proves each crate, tries the edits that have to be refused, and runs the tests and the programs. Then come
-# checks of our own: the examples are the models that the cases run, the definitions stand apart from lemmas, the built program
+# make test: the merge gate. `rt ci` proves each crate, tries the edits that have to be refused, and runs the tests and the programs. Then
+# come checks of our own: the examples are the models that the cases run, the definitions stand apart from lemmas, the built program
 # leaves a user's files whole, and the tools for people work.
 # make demo: solves examples/one.mps, and shows the answer and the certificate. It takes the proved program where there is one. Else it
 # builds the same program without its proof, and says so.
