@@ -1,17 +1,14 @@
 -- Whole numbers of combinations: the fractions that they stand for, alone and over one denominator.
-use Rattle.std.specs.Prelude.{◌≡◌, ◌<◌, ◌^◌, ◌&&◌, ℕ, zero, suc, ℤ, pos, ◌*ℤ◌, nat_abs, nat_eq, List, [], ◌∷◌, map, length, replicate, slice_set, slice_index_or, All, Some, option_map, refl}
+use Rattle.std.specs.Prelude.{◌≡◌, ◌<◌, ◌^◌, ℕ, zero, suc, ℤ, pos, ◌*ℤ◌, nat_abs, List, [], ◌∷◌, map, length, replicate, slice_set, slice_index_or, All, Some, option_map, refl}
 use Rattle.std.specs.Option.{option_and_then}
 use Rattle.std.proofs.Common.{sym, ap, ◌∙◌, subst, arith}
 use Rattle.std.proofs.lemmas.Int.{ints}
-use Rattle.std.proofs.lemmas.Bool.{and_parts, eqb-true}
-use Rattle.std.proofs.lemmas.Option.{cond_some}
 use Rattle.std.proofs.lemmas.List.{length-map, map-set}
 use Rattle.std.proofs.lemmas.List.Elements.{All-map, All-weaker}
 use Rattle.std.proofs.Math.ListN.{get_or-map}
 use Rattle.fraction.specs.Rational.{ℚ, whole, frac}
-use Rattle.fraction.specs.Narrow.{is_narrow, narrow_integer}
 use Rattle.fraction.specs.Fits.{FitsFraction}
-use Rattle.fraction.specs.Lemmas.Rational.{lit_one, frac_same, ℚ_is}
+use Rattle.fraction.specs.Lemmas.Rational.{lit_one, frac_same}
 use Rattle.fraction.specs.Lemmas.Bounds.{whole_parts}
 use Rattle.problem.specs.declared.row.Row.{Row}
 use Rattle.derivation_book.specs.Sums.{with_product, Sums, sums_of}
@@ -33,12 +30,6 @@ zeros_are zero = refl
 zeros_are (suc n) = ap (λ (xs : List ℚ). whole (pos 0) ∷ xs) (zeros_are n)
 
 -- ---- one term more
-pub integer_is : (x : ℚ) (z : ℤ) → Some z ≡ narrow_integer x → x ≡ whole z
-integer_is x z e =
-    let w = cond_some (is_narrow x && nat_eq x.den 1) x.num z (sym e) in
-    let one : x.den ≡ 1 = eqb-true x.den 1 (and_parts (is_narrow x) (nat_eq x.den 1) w.0).1 in
-    ℚ_is x ∙ ap (frac x.num) one ∙ ap whole w.1
-
 -- the same numbers, written otherwise
 pub product_added : (z z' f f' n n' u u' : ℤ) → z' ≡ z → f' ≡ f → n' ≡ n → u' ≡ u → with_product (whole z') (whole f') (whole n') ≡ Some (whole u') → with_product (whole z) (whole f) (whole n) ≡ Some (whole u)
 product_added z z' f f' n n' u u' ez ef en eu h = (λ i. with_product (whole (sym ez i)) (whole (sym ef i)) (whole (sym en i))) ∙ h ∙ ap (λ x. Some (whole x)) eu

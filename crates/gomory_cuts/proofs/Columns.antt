@@ -5,10 +5,9 @@ use Rattle.std.specs.Ordering.{int_eq}
 use Rattle.std.proofs.lemmas.Int.{ints}
 use Rattle.std.proofs.lemmas.Bool.Decides.{Decides-int_eq}
 use Rattle.std.proofs.lemmas.List.{append_assoc, append-nil, drop_all, drop_more, length-map}
-use Rattle.std.proofs.Math.Nat.{mul-one, mul-pos}
+use Rattle.std.proofs.Math.Nat.{mul-one}
 use Rattle.fraction.specs.Rational.{ℚ, whole, frac, floor, ceil, ◌+ℚ◌, ◌*ℚ◌, neg_ℚ}
-use Rattle.fraction.specs.Lemmas.Integers.{is_diff, diff-pos, diff-mul, diff-add, diff-same}
-use Rattle.fraction.specs.Lemmas.Rational.{lit_one, frac_same, frac-+ℚ, frac-*ℚ, neg_ℚ-frac, zero-*ℚ}
+use Rattle.fraction.specs.Lemmas.Rational.{lit_one, frac_same, frac-+ℚ_over_one, frac-*ℚ, neg_ℚ-frac, zero-*ℚ}
 use Rattle.fraction.specs.Lemmas.Ring.{+ℚ-zero}
 use Rattle.fraction.specs.Lemmas.Bounds.{whole_parts}
 use Rattle.problem_box.specs.declared.span.Span.{Span}
@@ -52,24 +51,18 @@ with_whole all more j z h e = λ others.
     not_zero false f = f
 
 -- ---- the right side
-summed : (a b : ℤ) (d : ℕ) → (a *ℤ pos d +ℤ b *ℤ pos d) *ℤ pos d ≡ (a +ℤ b) *ℤ pos (d * d)
-summed a b d = rw (is_diff a, is_diff b) (simp (diff-pos, diff-mul, diff-add) (diff-same _ _ _ _ (omega arith)))
-
-add_frac : (a b : ℤ) (d : ℕ) → 0 < d → frac a d +ℚ frac b d ≡ frac (a +ℤ b) d
-add_frac a b d o = frac-+ℚ a b d d o o ∙ frac_same _ _ _ _ (mul-pos o o) o (summed a b d)
-
 whole_over : (w : ℤ) (d : ℕ) → 0 < d → whole w ≡ frac (w *ℤ pos d) d
 whole_over w d o = frac_same w (w *ℤ pos d) 1 d lit_one o (omega (arith, ints))
 
 filler_over : (w z f : ℤ) (d : ℕ) → 0 < d → w *ℤ pos d ≡ z +ℤ f → whole w +ℚ neg_ℚ (frac z d) ≡ frac f d
 filler_over w z f d o e =
-    (λ i. whole_over w d o i +ℚ neg_ℚ-frac z d o i) ∙ add_frac (w *ℤ pos d) (neg_ℤ z) d o ∙ ap (λ n. frac n d) (omega (arith, ints, e))
+    (λ i. whole_over w d o i +ℚ neg_ℚ-frac z d o i) ∙ frac-+ℚ_over_one (w *ℤ pos d) (neg_ℤ z) d o ∙ ap (λ n. frac n d) (omega (arith, ints, e))
 
 pub side_over : (s f b w z : ℤ) (d : ℕ) → 0 < d → w *ℤ pos d ≡ z +ℤ f → frac (s +ℤ f *ℤ b) d ≡ frac s d +ℚ (whole w +ℚ neg_ℚ (frac z d)) *ℚ whole b
 side_over s f b w z d o e =
     sym (ap (λ x. frac s d +ℚ x *ℚ whole b) (filler_over w z f d o e)
     ∙ ap (λ x. frac s d +ℚ x) (frac-*ℚ f b d 1 o lit_one ∙ ap (frac (f *ℤ b)) (mul-one d))
-    ∙ add_frac s (f *ℤ b) d o)
+    ∙ frac-+ℚ_over_one s (f *ℤ b) d o)
 
 -- ---- a column that the combination doesn't have
 zero_to : (b : BasisStatus) (d : ℕ) → 0 < d → whole_to b (frac (pos 0) d) ≡ pos 0

@@ -1,16 +1,14 @@
 -- One more term in a sum over ends of spans whose terms have whole coefficients.
-use Rattle.std.specs.Prelude.{◌≡◌, ◌<◌, ◌≤◌, ◌+◌, ◌*◌, ◌^◌, ◌&&◌, ℕ, ℤ, pos, ◌+ℤ◌, ◌*ℤ◌, nat_abs, nat_eq, List, Some}
+use Rattle.std.specs.Prelude.{◌≡◌, ◌<◌, ◌≤◌, ◌+◌, ◌*◌, ◌^◌, ℕ, ℤ, pos, ◌+ℤ◌, ◌*ℤ◌, nat_abs, List, Some}
 use Rattle.std.proofs.Common.{sym, ap, ◌∙◌, subst, arith}
 use Rattle.std.specs.Int.{w64}
 use Rattle.std.proofs.lemmas.Int.{ints, to_z-of_z}
 use mir.Val.{SFits, to_z, of_z}
-use Rattle.std.proofs.lemmas.Bool.{and_parts, eqb-true}
-use Rattle.std.proofs.lemmas.Option.{cond_some}
-use Rattle.fraction.specs.Rational.{ℚ, frac, whole, ◌+ℚ◌, ◌*ℚ◌}
-use Rattle.fraction.specs.Narrow.{is_narrow, narrow_integer}
-use Rattle.fraction.specs.Lemmas.Rational.{ℚ_is, zero-+ℚ}
+use Rattle.fraction.specs.Rational.{ℚ, whole, ◌+ℚ◌, ◌*ℚ◌}
+use Rattle.fraction.specs.Narrow.{narrow_integer}
+use Rattle.fraction.specs.Lemmas.Rational.{zero-+ℚ}
 use Rattle.fraction.specs.Lemmas.Bounds.{whole_parts}
-use Rattle.fraction.specs.Lemmas.Whole.{whole-+, whole-*}
+use Rattle.fraction.specs.Lemmas.Whole.{narrow_integer_is, whole-+, whole-*}
 use Rattle.problem_box.specs.declared.span.Span.{Span}
 use Rattle.problem.specs.Lemmas.Modest.{largest_term, IsSumOf, whole_within}
 use Rattle.problem.specs.Limits.{most_columns, largest_bound, finest}
@@ -20,14 +18,8 @@ use Rattle.row_activity.specs.IntegerSums.{IsIntegerSum}
 use Rattle.row_activity.proofs.Steps.{IsTotal, IsNext, few, one_more}
 
 -- the coefficient of a term that is whole
-integer_is : (x : ℚ) (z : ℤ) → Some z ≡ narrow_integer x → x ≡ whole z
-integer_is x z e =
-    let w = cond_some (is_narrow x && nat_eq x.den 1) x.num z (sym e) in
-    let one : x.den ≡ 1 = eqb-true x.den 1 (and_parts (is_narrow x) (nat_eq x.den 1) w.0).1 in
-    ℚ_is x ∙ ap (frac x.num) one ∙ ap whole w.1
-
 pub coefficient_is : (x : ℚ) (z : ℤ) → SFits w64 z → Some z ≡ narrow_integer x → x ≡ whole (to_z w64 (of_z w64 z))
-coefficient_is x z f e = integer_is x z e ∙ ap whole (sym (to_z-of_z w64 z f))
+coefficient_is x z f e = narrow_integer_is x z e ∙ ap whole (sym (to_z-of_z w64 z f))
 
 -- the sum over no terms
 pub no_integers : (e : ℚ → Span → ℤ) (ss : List Span) (ts : List (ℕ × ℚ)) → IsIntegerSum e ss ts 0 (pos 0)

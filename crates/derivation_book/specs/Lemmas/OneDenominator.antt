@@ -2,15 +2,15 @@
 use Rattle.std.specs.Prelude.{◌≡◌, ℕ, zero, suc, ◌*◌, ◌/◌, ◌^◌, ◌<◌, ◌≤◌, ℤ, pos, ◌+ℤ◌, ◌*ℤ◌, nat_abs, true, Some}
 use Rattle.std.proofs.Common.{ap, ◌∙◌, arith}
 use Rattle.std.proofs.lemmas.Int.{ints, unsigned_abs-mul}
-use Rattle.std.proofs.Math.Nat.{mul-one, mul-div_cancel', mul-pos, div-mul_cancel, le_of_dvd}
+use Rattle.std.proofs.Math.Nat.{mul-one, mul-div_cancel', div-mul_cancel, le_of_dvd}
 use Prim.Native.Nat.{◌∣◌}
 use borrow.Author.Tests.{lt-ltb}
 use Rattle.fraction.specs.Gcd.{gcd}
 use Rattle.fraction.specs.Rational.{ℚ, whole, frac}
 use Rattle.fraction.specs.Checked.{add_fits, add_checked, mul_checked}
 use Rattle.fraction.specs.Lemmas.Gcd.{gcd_is, lcm_dvd}
-use Rattle.fraction.specs.Lemmas.Integers.{is_diff, diff-pos, diff-mul, diff-add, diff-same, cancel_ℤ, add-mul_ℤ}
-use Rattle.fraction.specs.Lemmas.Rational.{lit_one, frac_is, frac_den, frac_same, frac-+ℚ, frac-*ℚ}
+use Rattle.fraction.specs.Lemmas.Integers.{is_diff, diff-pos, diff-mul, diff-same, cancel_ℤ, add-mul_ℤ}
+use Rattle.fraction.specs.Lemmas.Rational.{lit_one, frac_is, frac_den, frac_same, frac-+ℚ_over_one, frac-*ℚ}
 use Rattle.fraction.specs.Lemmas.Bounds.{add_is, mul_is, mul_fits_small, is_small_from, frac-num_le, small_product}
 
 pub zero_over : (d : ℕ) → 0 < d → whole (pos 0) ≡ frac (pos 0) d
@@ -56,14 +56,11 @@ sum_fits x y a b d o h k l m e f u v =
     )
     (lt-ltb _ _ (let w : x.den * (y.den / gcd x.den y.den) < 2 ^ 127 = omega (arith, le_of_dvd o c, h) in w))
 
-summed : (a b : ℤ) (d : ℕ) → (a *ℤ pos d +ℤ b *ℤ pos d) *ℤ pos d ≡ (a +ℤ b) *ℤ pos (d * d)
-summed a b d = rw (is_diff a, is_diff b) (simp (diff-pos, diff-mul, diff-add) (diff-same _ _ _ _ (omega arith)))
-
 pub add_over : (a b : ℤ) (d : ℕ) → 0 < d → d < 2 ^ 127 → nat_abs a < 2 ^ 127 → nat_abs b < 2 ^ 127 → nat_abs (a +ℤ b) < 2 ^ 127
     → add_checked (frac a d) (frac b d) ≡ Some (frac (a +ℤ b) d)
 add_over a b d o h k l m =
     add_is (frac a d) (frac b d) (sum_fits (frac a d) (frac b d) a b d o h k l m (frac_is a d o) (frac_is b d o) (frac_den a d o) (frac_den b d o))
-    ∙ ap Some (frac-+ℚ a b d d o o ∙ frac_same _ _ _ _ (mul-pos o o) o (summed a b d))
+    ∙ ap Some (frac-+ℚ_over_one a b d o)
 
 -- ---- products
 

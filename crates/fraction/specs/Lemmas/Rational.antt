@@ -96,6 +96,13 @@ pub frac-+ℚ : (a b : ℤ) (c d : ℕ) → 0 < c → 0 < d → frac a c +ℚ fr
 unfolding ◌+ℚ◌
 frac-+ℚ a b c d p q = frac_same _ _ _ _ (mul-pos (frac a c).lowest.0 (frac b d).lowest.0) (mul-pos p q) (add_by a b _ _ c d _ _ (frac_is a c p) (frac_is b d q))
 
+-- over one denominator the numerators are added
+summed : (a b : ℤ) (d : ℕ) → (a *ℤ pos d +ℤ b *ℤ pos d) *ℤ pos d ≡ (a +ℤ b) *ℤ pos (d * d)
+summed a b d = rw (is_diff a, is_diff b) (simp (diff-pos, diff-mul, diff-add) (diff-same _ _ _ _ (omega arith)))
+
+pub frac-+ℚ_over_one : (a b : ℤ) (d : ℕ) → 0 < d → frac a d +ℚ frac b d ≡ frac (a +ℤ b) d
+frac-+ℚ_over_one a b d o = frac-+ℚ a b d d o o ∙ frac_same _ _ _ _ (mul-pos o o) o (summed a b d)
+
 pairs : (p q : ℤ) (c d : ℕ) → (p *ℤ q) *ℤ pos (c * d) ≡ (p *ℤ pos c) *ℤ (q *ℤ pos d)
 pairs p q c d = rw (is_diff p, is_diff q) (simp (diff-pos, diff-mul) (diff-same _ _ _ _ (omega arith)))
 

@@ -5,9 +5,10 @@ use Rattle.std.proofs.lemmas.List.{get_or_default}
 use Rattle.std.proofs.lemmas.List.Elements.{All-set}
 use mir.Val.{SFits, to_z, of_z}
 use Rattle.fraction.specs.Rational.{whole}
+use Rattle.fraction.specs.Lemmas.Whole.{narrow_integer_is}
 use Rattle.derivation_book.specs.Adding.{columns_added}
 use Rattle.derivation_book.specs.IntegerSums.{FitsInteger}
-use Rattle.derivation_book.proofs.Numerators.{integer_is, product_added, term_added}
+use Rattle.derivation_book.proofs.Numerators.{product_added, term_added}
 use Rattle.derivation_book.proofs.integer_sums.add_term.Goals as goal
 
 pub returns-in-Some-with_product-clause-added : goal.returns-in-Some-with_product-clause-added
@@ -23,7 +24,7 @@ returns-in-Some-with_product-clause-added c = λ t.
     let s_fits : SFits w128 s = search rules in
     let there : k < length zs = omega arith in
     ap (λ (j : ℕ). columns_added (map whole zs) 0 (whole c.args.factor) ((j, a) ∷ [])) (sym c.column-column.ensures)
-    ∙ term_added zs c.args.factor k a n z (to_z w128 (of_z w128 s)) c.requires there (get_or_default zs k (pos 0) z there) (integer_is a n c.in-Some.ensures)
+    ∙ term_added zs c.args.factor k a n z (to_z w128 (of_z w128 s)) c.requires there (get_or_default zs k (pos 0) z there) (narrow_integer_is a n c.in-Some.ensures)
     (product_added z (to_z w128 (of_z w128 z)) c.args.factor (to_z w64 (of_z w64 c.args.factor)) n (to_z w64 (of_z w64 n)) (to_z w128 (of_z w128 s)) s (to_z-of_z w128 z z_fits) (to_z-of_z w64 c.args.factor c.ranges.factor)
     (to_z-of_z w64 n n_fits) (sym (to_z-of_z w128 s s_fits)) c.in-Some-with_product.ensures.value)
 
