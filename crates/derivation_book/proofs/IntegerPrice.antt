@@ -17,11 +17,11 @@ use Rattle.derivation_book.specs.Sums.{with_product}
 use Rattle.derivation_book.specs.Rounded.{is_zero}
 use Rattle.derivation_book.specs.Price.{bound_for, with_bound}
 use Rattle.derivation_book.specs.Lemmas.OneDenominator.{add_over, mul_over, zero_over}
-use Rattle.derivation_book.specs.Sizes.{denominator_limit, largest_left, largest_taken, largest_addend}
+use Rattle.derivation_book.specs.Sizes.{denominator_limit, largest_left, largest_price_bound, largest_addend}
 use Rattle.problem.specs.Limits.{most_columns}
 
 -- ---- sizes
-pub bound_product_small : (z b : ℤ) → nat_abs z ≤ largest_left → nat_abs b ≤ largest_taken → nat_abs (z *ℤ b) ≤ largest_addend
+pub bound_product_small : (z b : ℤ) → nat_abs z ≤ largest_left → nat_abs b ≤ largest_price_bound → nat_abs (z *ℤ b) ≤ largest_addend
 bound_product_small z b h k = rw (unsigned_abs-mul z b) (omega (arith, mul-le-mul h k))
 
 pub bound_product_fits : (z : ℤ) → nat_abs z ≤ largest_addend → SFits w128 z

@@ -10,8 +10,8 @@ abbrev pub largest_left : ℕ
 largest_left = 2 ^ 84
 
 -- the largest bound that such a numerator is multiplied with
-abbrev pub largest_taken : ℕ
-largest_taken = 2 ^ 30
+abbrev pub largest_price_bound : ℕ
+largest_price_bound = 2 ^ 30
 
 -- the largest addend of a price: the product of the two, or the numerator of the right side
 abbrev pub largest_addend : ℕ

@@ -7,7 +7,7 @@ ghost use Rattle.problem.specs.Rising.{AreRising};
 ghost use Rattle.problem.specs.Limits.{most_columns};
 ghost use Rattle.derivation_book.specs.OverOne.{over};
 ghost use Rattle.derivation_book.specs.Price.{with_bound, with_reduced_cost, with_columns};
-ghost use Rattle.derivation_book.specs.Sizes.{denominator_limit, largest_left, largest_taken, largest_addend};
+ghost use Rattle.derivation_book.specs.Sizes.{denominator_limit, largest_left, largest_price_bound, largest_addend};
 
 use crate::integer_sums::IntegerSums;
 use crate::price::wanted_at;
@@ -15,14 +15,14 @@ use fraction::Frac;
 use problem::{MOST_COLUMNS, Term};
 use problem_box::{IntBox, Span};
 
-/// The greatest size of a numerator that is left of a column (docs/DECISIONS.md, entry 88).
-const MOST_LEFT: u128 = 1 << 84;
+/// The largest size of a numerator that is left of a column: 2^84 (docs/DECISIONS.md, entry 88).
+const LARGEST_LEFT: u128 = 1 << 84;
 
-/// The greatest size of a bound.
-const MOST_BOUND: u64 = 1 << 30;
+/// The largest size of a bound that such a numerator is multiplied with: 2^30.
+const LARGEST_PRICE_BOUND: u64 = 1 << 30;
 
-/// The greatest size of the right side's numerator.
-const MOST_SIDE: u128 = 1 << 114;
+/// The largest size of an addend of a price, as the right side's numerator is one: 2^114.
+const LARGEST_ADDEND: u128 = 1 << 114;
 
 /// The product of a number of 64 bits with a natural one of 62.
 #[inline(always)]
@@ -53,14 +53,14 @@ fn left_numerator(wanted: Frac, numerator: i128, denominator: u64) -> Option<i12
     ensures value { IfSome result (λ z. sub_checked wanted (frac numerator denominator) ≡ Some (frac z denominator)) }
     ensures small { IfSome result (λ z. nat_abs z ≤ largest_left) }
 {
-    if !wanted.is_whole() || numerator.unsigned_abs() > MOST_LEFT {
+    if !wanted.is_whole() || numerator.unsigned_abs() > LARGEST_LEFT {
         return None;
     }
     let Ok(number) = i64::try_from(wanted.numer()) else {
         return None;
     };
     let left = difference(number, denominator, numerator);
-    if left.unsigned_abs() <= MOST_LEFT {
+    if left.unsigned_abs() <= LARGEST_LEFT {
         Some(left)
     } else {
         None
@@ -71,7 +71,7 @@ fn left_numerator(wanted: Frac, numerator: i128, denominator: u64) -> Option<i12
 #[inline(always)]
 fn bound_product(left: i128, bound: i64) -> i128
     requires left { nat_abs left ≤ largest_left }
-    requires bound { nat_abs bound ≤ largest_taken }
+    requires bound { nat_abs bound ≤ largest_price_bound }
     ensures value { result ≡ left *ℤ bound }
     ensures small { nat_abs result ≤ largest_addend }
 {
@@ -83,7 +83,7 @@ fn bound_product(left: i128, bound: i64) -> i128
 fn with_product(total: i128, left: i128, bound: i64) -> i128
     requires total { nat_abs total ≤ (most_columns + 1) * largest_addend }
     requires left { nat_abs left ≤ largest_left }
-    requires bound { nat_abs bound ≤ largest_taken }
+    requires bound { nat_abs bound ≤ largest_price_bound }
     ensures value { result ≡ total +ℤ left *ℤ bound }
     ensures small { nat_abs result ≤ nat_abs total + largest_addend }
 {
@@ -110,7 +110,7 @@ fn with_left(total: i128, left: i128, span: Span) -> Option<i128>
         return Some(total);
     }
     let bound = bound_taken(left, span);
-    if bound.unsigned_abs() <= MOST_BOUND {
+    if bound.unsigned_abs() <= LARGEST_PRICE_BOUND {
         Some(with_product(total, left, bound))
     } else {
         None
@@ -181,7 +181,7 @@ impl IntegerSums {
         ensures { IfSome result (λ v. with_columns (over denominator self.now.side) target.now 0 (map (over denominator) self.now.coefficients) area.now ≡ Some v) }
     {
         let side = self.side;
-        if side.unsigned_abs() > MOST_SIDE {
+        if side.unsigned_abs() > LARGEST_ADDEND {
             return None;
         }
         let numerator = price_numerator(side, target, &self.coefficients, area, denominator)?;

@@ -10,8 +10,8 @@ use crate::scaled_point::product;
 use problem::{MOST_COLUMNS, Term};
 use std::alloc::{AllocError, Global};
 
-/// The greatest size of a coefficient.
-const MOST: i64 = 1 << 40;
+/// The largest size of a coefficient that a numerator is multiplied with: 2^40.
+const LARGEST_FACTOR: i64 = 1 << 40;
 
 /// The numerators in 64 bits; none where one of them doesn't fit. The one error is want of memory.
 pub(crate) fn narrow_numerators(
@@ -38,7 +38,7 @@ pub(crate) fn small_coefficient(term: &Term) -> Option<i128>
 {
     let number = term.integer()?;
     // Both sides are compared, since that takes less time than the size.
-    if -MOST <= number && number <= MOST {
+    if -LARGEST_FACTOR <= number && number <= LARGEST_FACTOR {
         Some(i128::from(number))
     } else {
         None

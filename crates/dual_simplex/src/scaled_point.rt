@@ -10,6 +10,7 @@ ghost use Rattle.dual_simplex.specs.Sizes.{IsIntegerTo, largest_integer};
 ghost use Rattle.dual_simplex.specs.Scaled.{point_over, numerator_at, IsDenominator, AreNumerators, IsSumOver, largest_numerator, largest_factor, largest_product};
 
 use crate::narrow_sums::{self, narrow_numerators, small_coefficient};
+use crate::sizes::LARGEST_INTEGER;
 use fraction::Frac;
 use node_events::RationalPoint;
 use problem::{MOST_COLUMNS, Term};
@@ -17,11 +18,8 @@ use std::alloc::{AllocError, Global};
 use std::cmp::Ordering;
 use std::marker::Model;
 
-/// The greatest size of a denominator and of a numerator.
-const MOST: u128 = 1 << 74;
-
-/// The greatest size of a right side.
-const MOST_SIDE: u128 = 1 << 50;
+/// The largest denominator, and the largest size of a numerator: 2^74.
+const LARGEST_NUMERATOR: u128 = 1 << 74;
 
 /// A point over one common denominator, seen as the point itself (docs/DECISIONS.md, entry 54).
 #[derive(Drop)]
@@ -64,7 +62,7 @@ fn with_denominator(common: u128, other: u128) -> Option<u128>
     }
     let factor = Frac::make(common as i128, other as i128).denom();
     let multiple = common.checked_mul(factor)?;
-    if multiple <= MOST {
+    if multiple <= LARGEST_NUMERATOR {
         Some(multiple)
     } else {
         None
@@ -100,7 +98,7 @@ fn small_multiple(number: i128, factor: u128) -> Option<i128>
     ensures small { IfSome result (λ z. nat_abs z ≤ largest_numerator) }
 {
     let multiple = number.checked_mul(factor as i128)?;
-    if multiple.unsigned_abs() <= MOST {
+    if multiple.unsigned_abs() <= LARGEST_NUMERATOR {
         Some(multiple)
     } else {
         None
@@ -288,7 +286,7 @@ impl ScaledPoint {
         requires { AreRising terms.now }
         ensures { IfSome result (λ o. option_map (λ v. compare v rhs) (checked_sum terms.now self.now) ≡ Some o) }
     {
-        let side = integer_to(rhs, MOST_SIDE)?;
+        let side = integer_to(rhs, LARGEST_INTEGER)?;
         let sum = narrow_or_wide_sum(&self.numerators, &self.narrow, terms)?;
         Some(sum.cmp(&numerator_of_side(side, self.denominator)))
     }

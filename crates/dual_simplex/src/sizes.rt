@@ -12,17 +12,17 @@ use fraction::Frac;
 use problem::{LARGEST_BOUND, Problem, Row, Term};
 use problem_box::{IntBox, Span};
 
-/// The greatest size of a coefficient or a right side.
-const MOST: u128 = 1 << 50;
+/// The largest size of a coefficient or a right side of a relaxation of small whole numbers: 2^50.
+pub(crate) const LARGEST_INTEGER: u128 = 1 << 50;
 
 /// The most cuts of a relaxation of small whole numbers, beside the problem's rows.
 const MOST_SMALL_CUTS: usize = 1_000;
 
-/// Whether this is a whole number of size at most 2^50.
+/// Whether this is a whole number of size at most `LARGEST_INTEGER`.
 fn is_small(number: Frac) -> bool
     ensures { IsTrue result → IsIntegerTo largest_integer number }
 {
-    number.is_whole() && number.numer().unsigned_abs() <= MOST
+    number.is_whole() && number.numer().unsigned_abs() <= LARGEST_INTEGER
 }
 
 /// Whether the coefficients of terms whose columns rise are such numbers.

@@ -22,7 +22,7 @@ use std::alloc::{AllocError, Global};
 use tableau::BasisStatus;
 
 /// How many cuts are separated at most.
-const MOST: usize = 4;
+const MOST_SEPARATED: usize = 4;
 
 /// The multipliers of the cut that a column's row, which is given, gives with a sign; none exactly where a step is cramped, or the point violates no
 /// such cut. The one error is want of memory.
@@ -127,7 +127,7 @@ fn add_cut(
     ensures value { OnOk result ((rest : List (Option Multipliers)) → take 4 (with_cuts found.new.items rest) ≡ take 4 (with_cuts found.old.items (cut_at problem.now book.now.cuts tableau.now point.now column sign ∷ rest))) }
     ensures four { OnOk result (length found.new.items ≤ 4) }
 {
-    if found.len() == MOST {
+    if found.len() == MOST_SEPARATED {
         return Ok(());
     }
     if let Some(mult) = cut_at(alloc, tableau, problem, book, point, column, row, sign)? {
@@ -202,7 +202,7 @@ fn add_cuts(
     ensures four { OnOk result (length found.new.items ≤ 4) }
 {
     // A row takes long to read, and where there is no place for its cuts it isn't.
-    if found.len() == MOST || !is_fractional(tableau, point, column) {
+    if found.len() == MOST_SEPARATED || !is_fractional(tableau, point, column) {
         return Ok(());
     }
     let row = tableau.coefficients(alloc, column)?;

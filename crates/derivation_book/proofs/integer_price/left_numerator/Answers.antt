@@ -8,8 +8,8 @@ use Rattle.derivation_book.proofs.IntegerPrice.{left_over}
 use Rattle.derivation_book.proofs.integer_price.left_numerator.Goals as goal
 use Rattle.derivation_book.specs.Sizes.{largest_left}
 
-pub returns-then-unsigned_abs-le-MOST_LEFT-clause-value : goal.returns-then-unsigned_abs-le-MOST_LEFT-clause-value
-returns-then-unsigned_abs-le-MOST_LEFT-clause-value c =
+pub returns-then-unsigned_abs-le-LARGEST_LEFT-clause-value : goal.returns-then-unsigned_abs-le-LARGEST_LEFT-clause-value
+returns-then-unsigned_abs-le-LARGEST_LEFT-clause-value c =
     let d = c.args.denominator in
     let n = c.args.numerator in
     let z = c.difference-left.result in
@@ -22,7 +22,7 @@ returns-then-unsigned_abs-le-MOST_LEFT-clause-value c =
     let left : to_z w128 (of_z w128 z) ≡ z = to_z-of_z w128 z left_fits in
     left_over d c.args.wanted n z c.requires.positive c.requires.small (c.is_whole.ensures.0 c.if-not-is_whole.false)
     (subst (λ y. nat_abs (y *ℤ pos d) < 2 ^ 126) wanted c.difference-left.ensures.small)
-    (subst (λ y. nat_abs y ≤ largest_left) numerator (omega (arith, c.unsigned_abs.ensures.value, c.if-unsigned_abs-gt-MOST_LEFT.false)))
+    (subst (λ y. nat_abs y ≤ largest_left) numerator (omega (arith, c.unsigned_abs.ensures.value, c.if-unsigned_abs-gt-LARGEST_LEFT.false)))
     (c.difference-left.ensures.value ∙ (λ i. wanted i *ℤ pos d -ℤ numerator i))
-    (subst (λ y. nat_abs y ≤ largest_left) left (omega (arith, c.unsigned_abs-2.ensures.value, c.if-unsigned_abs-le-MOST_LEFT.true)))
+    (subst (λ y. nat_abs y ≤ largest_left) left (omega (arith, c.unsigned_abs-2.ensures.value, c.if-unsigned_abs-le-LARGEST_LEFT.true)))
     ∙ ap (λ y. Some (frac y d)) (sym left)

@@ -4,13 +4,13 @@ use Rattle.gomory_cuts.specs.declared.sign.Sign.TheVariants.{Plus, Minus}
 use Rattle.gomory_cuts.specs.Separation.{cut_at, cuts_at, with_cuts}
 use Rattle.gomory_cuts.proofs.Steps.{full_stays}
 use Rattle.gomory_cuts.proofs.separation.add_cuts.Goals as goal
-use Rattle.gomory_cuts.proofs.separation.add_cuts.Goals.{then-len-eq-MOST-via-then-len-eq-MOST, then-len-eq-MOST-via-else-len-eq-MOST+then-not-is_fractional}
+use Rattle.gomory_cuts.proofs.separation.add_cuts.Goals.{then-len-eq-MOST_SEPARATED-via-then-len-eq-MOST_SEPARATED, then-len-eq-MOST_SEPARATED-via-else-len-eq-MOST_SEPARATED+then-not-is_fractional}
 
-pub returns-then-len-eq-MOST-clause-value : goal.returns-then-len-eq-MOST-clause-value
-returns-then-len-eq-MOST-clause-value c = elim c.then-len-eq-MOST.branch [
-  | then-len-eq-MOST-via-then-len-eq-MOST w ↦ λ rest.
-      full_stays c.args.found.now.items (cuts_at c.args.problem.now c.args.book.now.cuts c.args.tableau.now c.args.point.now c.args.column) rest (sym (omega (arith, w.if-len-eq-MOST.true, c.len.ensures)))
-  | then-len-eq-MOST-via-else-len-eq-MOST+then-not-is_fractional w ↦ λ rest.
+pub returns-then-len-eq-MOST_SEPARATED-clause-value : goal.returns-then-len-eq-MOST_SEPARATED-clause-value
+returns-then-len-eq-MOST_SEPARATED-clause-value c = elim c.then-len-eq-MOST_SEPARATED.branch [
+  | then-len-eq-MOST_SEPARATED-via-then-len-eq-MOST_SEPARATED w ↦ λ rest.
+      full_stays c.args.found.now.items (cuts_at c.args.problem.now c.args.book.now.cuts c.args.tableau.now c.args.point.now c.args.column) rest (sym (omega (arith, w.if-len-eq-MOST_SEPARATED.true, c.len.ensures)))
+  | then-len-eq-MOST_SEPARATED-via-else-len-eq-MOST_SEPARATED+then-not-is_fractional w ↦ λ rest.
       ap (λ b. take 4 (with_cuts c.args.found.now.items ((if b then cut_at c.args.problem.now c.args.book.now.cuts c.args.tableau.now c.args.point.now c.args.column Plus ∷ cut_at c.args.problem.now c.args.book.now.cuts c.args.tableau.now c.args.point.now c.args.column Minus ∷ [] else []) ++ rest)))
       (sym (sym w.is_fractional.ensures ∙ w.if-not-is_fractional.true))
 ]
