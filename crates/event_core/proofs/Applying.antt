@@ -72,7 +72,8 @@ cut_made s e mult m c p is q = step (rounded_row s.problem s.cuts mult) (sym (is
         cut_of_made g = ap cut_in g
 
 -- ---- room for the releases
-cut_holds : (s : State) (mult : List (ℕ × ℚ)) (o : Option Row) → (after_cut s mult o).holds ≡ s.holds
+-- a cut leaves the holds
+pub cut_holds : (s : State) (mult : List (ℕ × ℚ)) (o : Option Row) → (after_cut s mult o).holds ≡ s.holds
 cut_holds s mult None = refl
 cut_holds s mult (Some r) = refl
 

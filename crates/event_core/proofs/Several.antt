@@ -2,10 +2,8 @@
 use Rattle.std.specs.Prelude.{◌≡◌, ◌≤◌, ◌+◌, ◌*◌, ℕ, Bool, true, false, cond, List, [], ◌∷◌, ◌++◌, length, Option, Some, None, refl}
 use Rattle.std.proofs.Common.{sym, ap, ◌∙◌, arith}
 use Rattle.std.proofs.lemmas.List.{append-nil, append_assoc, length_push}
-use Rattle.fraction.specs.Rational.{ℚ}
 use Rattle.problem.specs.Linear.{Multipliers}
 use Rattle.problem.specs.Problem.{Problem}
-use Rattle.problem.specs.declared.row.Row.{Row}
 use Rattle.node_events.specs.declared.event.Event.{Event}
 use Rattle.node_events.specs.declared.event.Event.TheVariants.{Claim, Release, Cut, Offer, Split, Close}
 use Rattle.derivation_book.specs.declared.cut.Cut.{Cut as MadeCut}
@@ -14,7 +12,7 @@ use Rattle.event_core.specs.declared.entry.Entry.{Entry}
 use Rattle.event_core.specs.declared.entry.Holder.{Holder}
 use Rattle.event_core.specs.declared.made.Made.{Made}
 use Rattle.event_core.specs.States.{State}
-use Rattle.event_core.specs.After.{after, after_cut}
+use Rattle.event_core.specs.After.{after}
 use Rattle.event_core.specs.Frames.{is_split, nodes_made, cut_by, cuts_of}
 use Rattle.event_core.specs.Histories.{entries_by}
 use Rattle.event_core.specs.Rooms.{Recorded, HasNumbers, HasEntryRoom, HasRoom, HasRoomFor, IsReady, AreReady, LeavesRooms, split_count}
@@ -24,6 +22,7 @@ use Rattle.event_core.specs.Lemmas.Frames.{keeps_frame}
 use Rattle.event_core.specs.Lemmas.Counting.{splits_are}
 use Rattle.event_core.specs.Lemmas.Holds.{length-without_hold}
 use Rattle.event_core.specs.Lemmas.Running.{after-problem}
+use Rattle.event_core.proofs.Applying.{cut_holds}
 
 -- ---- room
 numbers_next : (s : State) (e : Event) (es : List Event) → length s.nodes + 2 * split_count (e ∷ es) ≤ most_nodes → HasNumbers s e
@@ -57,10 +56,6 @@ ready_next c e es ready = record {
   entries = entries_next c.state c.entries e es ready.entries;
   room = room_next c e es ready.room;
 }
-
-cut_holds : (s : State) (mult : List (ℕ × ℚ)) (o : Option Row) → (after_cut s mult o).holds ≡ s.holds
-cut_holds s mult None = refl
-cut_holds s mult (Some r) = refl
 
 one_hold : (s : State) (w : Option ℕ) (e : Event) → length (after s w e).holds ≤ length s.holds + 1
 one_hold s None (Claim i) = let n = ap (λ (hs : List Holder). length hs) (append-nil s.holds) in omega (arith, n)

@@ -37,12 +37,12 @@ kept new best o great l = by_test (nat_eq best.coefficient 0) refl
 
 module _ (j : ℕ) (w : Direction) (u : Bool) (b : Bounds) (d t : ℤ) (best : Candidate) where
   -- the best one is that with this variable more
-  abbrev pub Stays : Type 0
-  Stays = candidate_if_there best ≡ first_of (candidate_of j w (bound_status u) b d t) (candidate_if_there best)
+  abbrev pub IsStillBest : Type 0
+  IsStillBest = candidate_if_there best ≡ first_of (candidate_of j w (bound_status u) b d t) (candidate_if_there best)
 
-  pub stays_by_order : (cost size : ℕ) → cost ≡ nat_abs d → size ≡ nat_abs t → (best.coefficient ≡ 0 → 0 < best.reduced_cost)
-      → comes_first record { variable = j; reduced_cost = cost; coefficient = size } best ≡ false → Stays
-  stays_by_order cost size cost_is size_is great l = by_test (is_eligible_at w u t && bounds_differ b) refl
+  pub still_best_by_order : (cost size : ℕ) → cost ≡ nat_abs d → size ≡ nat_abs t → (best.coefficient ≡ 0 → 0 < best.reduced_cost)
+      → comes_first record { variable = j; reduced_cost = cost; coefficient = size } best ≡ false → IsStillBest
+  still_best_by_order cost size cost_is size_is great l = by_test (is_eligible_at w u t && bounds_differ b) refl
     where
       new : Candidate
       new = record { variable = j; reduced_cost = nat_abs d; coefficient = nat_abs t }
@@ -52,5 +52,5 @@ module _ (j : ℕ) (w : Direction) (u : Bool) (b : Bounds) (d t : ℤ) (best : C
           (sym (λ i. comes_first record { variable = j; reduced_cost = cost_is i; coefficient = size_is i } best) ∙ l)
       by_test false e = refl
 
-  pub stays_by_bound : (is_eligible_at w u t && bounds_differ b) ≡ false → Stays
-  stays_by_bound e = sym (ap (λ q. first_of (if q then Some record { variable = j; reduced_cost = nat_abs d; coefficient = nat_abs t } else None) (candidate_if_there best)) e)
+  pub still_best_by_bound : (is_eligible_at w u t && bounds_differ b) ≡ false → IsStillBest
+  still_best_by_bound e = sym (ap (λ q. first_of (if q then Some record { variable = j; reduced_cost = nat_abs d; coefficient = nat_abs t } else None) (candidate_if_there best)) e)

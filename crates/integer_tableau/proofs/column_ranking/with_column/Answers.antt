@@ -1,6 +1,6 @@
 use Rattle.std.proofs.Common.{◌≡◌, ◌∙◌, true, ap, sym, inr, nat_abs, w64, false, get_or, None}
 use Rattle.std.proofs.lemmas.Int.{to_z-of_z}
-use Rattle.integer_tableau.proofs.Candidates.{stays_by_order}
+use Rattle.integer_tableau.proofs.Candidates.{still_best_by_order}
 use Rattle.integer_tableau.specs.Entering.{comes_first}
 use Rattle.integer_tableau.specs.Exits.{is_behind}
 use Rattle.integer_tableau.specs.IntegerTableau.{fraction_bounds}
@@ -13,7 +13,7 @@ returns-then-not-comes_first-clause-value c =
     let a = c.args in
     let u = get_or a.at_upper.now a.variable false in
     let b = fraction_bounds (get_or a.bounds.now a.variable (record { lower = None; upper = None })) in
-    stays_by_order a.variable a.direction u b a.reduced_cost a.coefficient a.best _ _ (c.unsigned_abs.ensures.value ∙ ap nat_abs (to_z-of_z w64 a.reduced_cost c.ranges.reduced_cost))
+    still_best_by_order a.variable a.direction u b a.reduced_cost a.coefficient a.best _ _ (c.unsigned_abs.ensures.value ∙ ap nat_abs (to_z-of_z w64 a.reduced_cost c.ranges.reduced_cost))
     (c.unsigned_abs-2.ensures.value ∙ ap nat_abs (to_z-of_z w64 a.coefficient c.ranges.coefficient)) c.requires.great (sym c.comes_first.ensures ∙ c.if-not-comes_first.true)
 
 -- the column comes before the best so far, and behind the last candidate
