@@ -26,11 +26,20 @@ use std::marker::Model;
 
 /// The state of a search of one problem with its history, seen as both with the room that there is.
 ///
-/// The state is what the events of the history lead to, and each of these was legal in the state after those before it (docs/DECISIONS.md, entry 36).
-#[derive(Drop)]
+/// The state is what the events of the history lead to, and each of these was legal in the state after those before it.
 pub struct State {
     parts: Parts,
     history: Vec<Entry>,
+}
+
+/// By hand, so that a proof that drops a state sees one call and not the drop of each of its parts.
+impl Drop for State {
+    fn drop(self) {
+        let State {
+            parts: _,
+            history: _,
+        } = self;
+    }
 }
 
 impl Model for State {
