@@ -11,7 +11,6 @@ use pseudo_cost::Costs;
 use std::alloc::{AllocError, Global};
 
 /// What the worker keeps between nodes.
-#[derive(Drop)]
 pub struct Worker {
     /// The relaxation of the problem with all cuts.
     pub relaxation: Relaxation,
@@ -19,6 +18,17 @@ pub struct Worker {
     pub costs: Costs,
     /// How many cuts the book takes at most.
     pub limit: u32,
+}
+
+/// By hand, so that a proof that lets one go sees one call and not the drop of each of its parts.
+impl Drop for Worker {
+    fn drop(self) {
+        let Worker {
+            relaxation: _,
+            costs: _,
+            limit: _,
+        } = self;
+    }
 }
 
 /// The relaxation of the problem with all cuts. The one error is want of memory.

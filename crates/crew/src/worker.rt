@@ -20,7 +20,6 @@ use pseudo_cost::Costs;
 use std::alloc::{AllocError, Global};
 
 /// What a worker keeps between nodes. Nothing of it is shared.
-#[derive(Drop)]
 pub(crate) struct Worker {
     /// The cuts that the worker knows: the first of all.
     pub book: Book,
@@ -30,6 +29,18 @@ pub(crate) struct Worker {
     pub costs: Costs,
     /// The optimal values of the nodes that the worker split.
     pub splits: SplitValues,
+}
+
+/// By hand, so that a proof that lets one go sees one call and not the drop of each of its parts.
+impl Drop for Worker {
+    fn drop(self) {
+        let Worker {
+            book: _,
+            relaxation: _,
+            costs: _,
+            splits: _,
+        } = self;
+    }
 }
 
 /// The relaxation of the problem with all cuts of the book. The one error is want of memory.

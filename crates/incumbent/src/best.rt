@@ -18,9 +18,15 @@ pub struct Best {
 }
 
 /// The best point so far, if there is one, seen as the option of it with its aim.
-#[derive(Drop)]
 pub struct Incumbent {
     best: Option<Best>,
+}
+
+/// By hand, so that a proof that lets one go sees one call and not the drop of each of its parts.
+impl Drop for Incumbent {
+    fn drop(self) {
+        let Incumbent { best: _ } = self;
+    }
 }
 
 impl Model for Incumbent {

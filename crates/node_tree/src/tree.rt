@@ -20,12 +20,22 @@ use std::marker::Model;
 /// above, the two having the next two numbers in this order. There are at most `MOST_NODES` nodes.
 ///
 /// The box of one node is kept, since the boxes that are asked for next are mostly those of nodes near it (docs/DECISIONS.md, entry 62).
-#[derive(Drop)]
 pub struct Tree {
     nodes: Nodes,
     /// The node whose box is kept.
     place: u32,
     area: IntBox,
+}
+
+/// By hand, so that a proof that lets one go sees one call and not the drop of each of its parts.
+impl Drop for Tree {
+    fn drop(self) {
+        let Tree {
+            nodes: _,
+            place: _,
+            area: _,
+        } = self;
+    }
 }
 
 impl Model for Tree {
