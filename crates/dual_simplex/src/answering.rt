@@ -1,10 +1,12 @@
 //! The answer at the end of a run.
 
-ghost use Rattle.std.specs.Prelude.{◌≡◌, ◌<◌, ◌≤◌, ◌^◌, [], true, IsTrue, IsSome, IfOk, All, length, take};
+ghost use Rattle.std.specs.Prelude.{◌≡◌, ◌<◌, ◌≤◌, ◌^◌, [], true, IsTrue, IsSome, IfOk, All, Some, None, option_map, if◌then◌else◌, length, take};
 ghost use Rattle.problem.specs.Directions.{aim};
+ghost use Rattle.problem.specs.Rising.{AreRising, AreNonzero};
 ghost use Rattle.derivation_book.specs.Known.{known_lines};
 ghost use Rattle.derivation_book.specs.Price.{price};
 ghost use Rattle.tableau.specs.Multipliers.{point_of, mult_of_cost, mult_of_row};
+ghost use Rattle.dual_simplex.specs.declared.answer.Answer.TheVariants.{Infeasible, Optimal};
 ghost use Rattle.dual_simplex.specs.PointSums.{checked_sum, sums_fit};
 ghost use Rattle.dual_simplex.specs.Answers.{infeasible_answer, optimal_answer, answer_or_cramped, answer_at};
 ghost use Rattle.dual_simplex.specs.Meaning.{IsTableauAt};
@@ -21,6 +23,29 @@ use problem::Problem;
 use problem_box::IntBox;
 use std::alloc::{AllocError, Global};
 use tableau::Place;
+
+/// Whether the price of these multipliers isn't cramped, as an infeasible answer asks. `is_there` says so, and then it isn't computed.
+fn is_infeasible(
+    alloc: Global,
+    problem: &Problem,
+    book: &Book,
+    area: &IntBox,
+    mult: &Mult,
+    is_there: bool,
+) -> Result<bool, AllocError>
+    requires columns { length area.now ≡ length problem.now.spans }
+    requires known { All (λ m. m.0 < length (known_lines problem.now book.now.cuts)) mult.now }
+    requires there { IsTrue is_there → IsSome (price problem.now book.now.cuts area.now [] mult.now) }
+    ensures { IfOk result (λ b. (if b then Some (Infeasible mult.now) else None) ≡ infeasible_answer problem.now book.now.cuts area.now mult.now) }
+{
+    if is_there {
+        return Ok(true);
+    }
+    match book.price(alloc, problem, area, &[], mult)? {
+        Some(_) => Ok(true),
+        None => Ok(false),
+    }
+}
 
 /// Infeasible by the multipliers of a row that no column can help; none exactly where their price is cramped. Where `is_there` says that it isn't, it
 /// isn't computed. The one error is want of memory.
@@ -40,12 +65,11 @@ fn infeasible_answer(
     ensures { IfOk result (λ a. a ≡ infeasible_answer problem.now book.now.cuts area.now (mult_of_row tableau.now row)) }
 {
     let mult = Mult::make(tableau.mult_of_row(alloc, row)?);
-    if is_there {
-        return Ok(Some(Answer::Infeasible { mult }));
-    }
-    match book.price(alloc, problem, area, &[], &mult)? {
-        Some(_) => Ok(Some(Answer::Infeasible { mult })),
-        None => Ok(None),
+    let infeasible = is_infeasible(alloc, problem, book, area, &mult, is_there)?;
+    if infeasible {
+        Ok(Some(Answer::Infeasible { mult }))
+    } else {
+        Ok(None)
     }
 }
 
@@ -95,6 +119,52 @@ fn aim_price(
     }
 }
 
+/// The point of a tableau. The one error is want of memory.
+fn point_at(alloc: Global, tableau: &FinalTableau) -> Result<RationalPoint, AllocError>
+    ensures { IfOk result (λ x. x ≡ point_of tableau.now) }
+{
+    let numbers = tableau.point(alloc)?;
+    RationalPoint::make(alloc, numbers)
+}
+
+/// The multipliers of a tableau's costs, where the numbers of their rows rise and none is 0. The one error is want of memory.
+fn cost_multipliers(alloc: Global, tableau: &FinalTableau) -> Result<Mult, AllocError>
+    requires rising { AreRising (mult_of_cost tableau.now) }
+    requires nonzero { AreNonzero (mult_of_cost tableau.now) }
+    ensures { IfOk result (λ m. m ≡ mult_of_cost tableau.now) }
+{
+    Ok(Mult::make(tableau.mult_of_cost(alloc)?))
+}
+
+/// The multipliers of the costs of a tableau that is done, and the price of the aim by them; none where that or a sum at the point is cramped.
+fn priced_multipliers(
+    alloc: Global,
+    problem: &Problem,
+    book: &Book,
+    cuts: usize,
+    area: &IntBox,
+    tableau: &FinalTableau,
+    point: &RationalPoint,
+    is_there: bool,
+) -> Result<Option<(Mult, Frac)>, AllocError>
+    requires few { cuts ≤ length book.now.cuts }
+    requires columns { length area.now ≡ length problem.now.spans }
+    requires tableau { IsTableauAt problem.now (take cuts book.now.cuts) area.now tableau.now }
+    requires point { point.now ≡ point_of tableau.now }
+    requires there { IsTrue is_there → IsOptimumThere problem.now (take cuts book.now.cuts) area.now tableau.now }
+    ensures { IfOk result (λ o. option_map (λ m. Optimal point.now m.0 m.1) o ≡ optimal_answer problem.now (take cuts book.now.cuts) area.now (point_of tableau.now) (mult_of_cost tableau.now)) }
+{
+    let are_there = are_sums_there(alloc, problem, book, cuts, point, is_there)?;
+    if !are_there {
+        return Ok(None);
+    }
+    let mult = cost_multipliers(alloc, tableau)?;
+    match aim_price(alloc, problem, book, area, point, &mult, is_there)? {
+        Some(value) => Ok(Some((mult, value))),
+        None => Ok(None),
+    }
+}
+
 /// Optimal at the point of a tableau that is done; none exactly where the price of its multipliers or a sum at the point is cramped. `is_there` says
 /// that none is. The one error is want of memory.
 fn optimal_answer(
@@ -112,15 +182,9 @@ fn optimal_answer(
     requires there { IsTrue is_there → IsOptimumThere problem.now (take cuts book.now.cuts) area.now tableau.now }
     ensures { IfOk result (λ a. a ≡ optimal_answer problem.now (take cuts book.now.cuts) area.now (point_of tableau.now) (mult_of_cost tableau.now)) }
 {
-    let numbers = tableau.point(alloc)?;
-    let point = RationalPoint::make(alloc, numbers)?;
-    let are_there = are_sums_there(alloc, problem, book, cuts, &point, is_there)?;
-    if !are_there {
-        return Ok(None);
-    }
-    let mult = Mult::make(tableau.mult_of_cost(alloc)?);
-    match aim_price(alloc, problem, book, area, &point, &mult, is_there)? {
-        Some(value) => Ok(Some(Answer::Optimal { point, mult, value })),
+    let point = point_at(alloc, tableau)?;
+    match priced_multipliers(alloc, problem, book, cuts, area, tableau, &point, is_there)? {
+        Some((mult, value)) => Ok(Some(Answer::Optimal { point, mult, value })),
         None => Ok(None),
     }
 }

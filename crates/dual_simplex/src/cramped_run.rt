@@ -174,6 +174,29 @@ fn is_cramped_at_integers(
     )
 }
 
+/// The same of a run that goes on over exact fractions from a tableau on whole numbers, with so many further pivots at most; always there.
+fn is_cramped_on(
+    alloc: Global,
+    problem: &Problem,
+    book: &Book,
+    cuts: usize,
+    area: &IntBox,
+    last: &IntegerTableau,
+    cap: u64,
+    claim: u32,
+) -> Result<Option<bool>, AllocError>
+    requires few { cuts ≤ length book.now.cuts }
+    requires columns { length area.now ≡ length problem.now.spans }
+    requires few_variables { length last.now.statuses < 2 ^ 32 }
+    requires few_pivots { last.now.pivots + cap < 2 ^ 32 }
+    requires stops { IsStoppedRun problem.now (take cuts book.now.cuts) area.now claim (run_from cap last.now) }
+    ensures { IfOk result (λ o. IfSome o (λ b. IsTrue b ↔ (answer problem.now (take cuts book.now.cuts) area.now ≡ Answer.Cramped claim))) }
+{
+    let tableau = last.fractions(alloc)?;
+    let cramped = is_cramped_from(alloc, problem, book, cuts, area, tableau, cap, claim)?;
+    Ok(Some(cramped))
+}
+
 /// The same of a run whose first pivots, so many, are made on whole numbers, and the others over exact fractions; none where a pivot on whole numbers is
 /// given up.
 fn is_cramped_behind(
@@ -199,18 +222,8 @@ fn is_cramped_behind(
 {
     match start.after_pivots(pivots) {
         Some(last) => {
-            let tableau = last.fractions(alloc)?;
-            let cramped = is_cramped_from(
-                alloc,
-                problem,
-                book,
-                cuts,
-                area,
-                tableau,
-                cap - pivots,
-                claim,
-            )?;
-            Ok(Some(cramped))
+            let rest = cap - pivots;
+            is_cramped_on(alloc, problem, book, cuts, area, &last, rest, claim)
         }
         None => Ok(None),
     }

@@ -84,6 +84,16 @@ fn scaled_program(
     ScaledProgram::of(alloc, &program)
 }
 
+/// Whether the answer is that the run was stalled.
+fn is_stalled(answer: &Answer) -> bool
+    ensures { IsTrue result ↔ (answer.now ≡ Answer.Stalled) }
+{
+    match answer {
+        Answer::Stalled => true,
+        _ => false,
+    }
+}
+
 impl Relaxation {
     /// The relaxation of the problem's rows and the first cuts. The one error is want of memory.
     pub fn new(
@@ -249,10 +259,8 @@ impl Relaxation {
         ensures stalled { IfOk result (λ b. IsTrue b ↔ (answer problem.now (take self.old.cuts book.now.cuts) area.now ≡ Answer.Stalled)) }
         ensures same { self.new ≡ self.old }
     {
-        match self.solve(alloc, problem, book, area)?.answer {
-            Answer::Stalled => Ok(true),
-            _ => Ok(false),
-        }
+        let solution = self.solve(alloc, problem, book, area)?;
+        Ok(is_stalled(&solution.answer))
     }
 }
 
