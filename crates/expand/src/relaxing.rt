@@ -2,6 +2,7 @@
 ghost use Rattle.std.specs.Prelude.{◌≡◌, ◌<◌, ◌≤◌, IfOk, OnOk, OnErr, IfSome, Some, All, length};
 ghost use Rattle.problem.specs.Limited.{IsModestSpan};
 ghost use Rattle.problem.specs.Limits.{most_columns, most_cuts};
+ghost use Rattle.problem.specs.Linear.{Multipliers};
 ghost use Rattle.dual_simplex.specs.declared.answer.Answer.TheVariants.{Optimal};
 ghost use Rattle.dual_simplex.specs.Answers.{linear_program, run, answer};
 ghost use Rattle.row_activity.specs.Meaning.{IsOpen};
@@ -72,6 +73,28 @@ fn cuts_or_optimum(
     }
 }
 
+/// The columns where an optimum's point isn't whole, and the cuts that separate it. The one error is want of memory.
+fn columns_and_cuts(
+    alloc: Global,
+    subproblem: &Subproblem,
+    tableau: &Option<FinalTableau>,
+    point: &RationalPoint,
+    value: Frac,
+    room: usize,
+) -> Result<(Vec<usize>, Mults), AllocError>
+    requires few { length subproblem.now.book.now.cuts ≤ most_cuts }
+    requires area { length subproblem.now.area.now ≡ length subproblem.now.problem.now.spans }
+    requires tableau { IfSome (run (linear_program subproblem.now.problem.now subproblem.now.book.now.cuts subproblem.now.area.now)).tableau (λ t. tableau.now ≡ Some t) }
+    requires optimal { (mult : Multipliers) × (answer subproblem.now.problem.now subproblem.now.book.now.cuts subproblem.now.area.now ≡ Optimal point.now mult value) }
+    requires point { length point.now ≡ length subproblem.now.problem.now.spans }
+    ensures columns { IfOk result (λ r. r.0.items ≡ fractional_columns point.now) }
+    ensures cuts { IfOk result (λ r. r.1 ≡ cuts_found subproblem.now.problem.now subproblem.now.book.now.cuts subproblem.now.area.now subproblem.now.cutoff room point.now value) }
+{
+    let columns = fractional_columns(alloc, point)?;
+    let mults = cuts_found(alloc, subproblem, tableau, point, value, &columns, room)?;
+    Ok((columns, mults))
+}
+
 /// What an optimum says of the node. The one error is want of memory; nothing is noted then.
 fn at_optimum(
     alloc: Global,
@@ -99,11 +122,54 @@ fn at_optimum(
     ensures columns { length costs.new ≡ length costs.old }
 {
     subproblem.problem.limits_hold();
-    let columns = fractional_columns(alloc, &point)?;
-    let mults = cuts_found(alloc, subproblem, tableau, &point, value, &columns, room)?;
+    let (columns, mults) = columns_and_cuts(alloc, subproblem, tableau, &point, value, room)?;
     note(costs, origin, gain);
     let cuts = subproblem.book.len();
     Ok(cuts_or_optimum(cuts, costs, point, mult, value, &columns, mults))
+}
+
+/// What an answer of the linear program says of the node, where the node's box is open. The one error is want of memory; nothing is noted then.
+fn at_answer(
+    alloc: Global,
+    subproblem: &Subproblem,
+    costs: &mut Costs,
+    origin: &Option<Origin>,
+    room: usize,
+    tableau: &Option<FinalTableau>,
+    outcome: Answer,
+) -> Result<Finding, AllocError>
+    requires few { length subproblem.now.book.now.cuts ≤ most_cuts }
+    requires area { length subproblem.now.area.now ≡ length subproblem.now.problem.now.spans }
+    requires modest { All IsModestSpan subproblem.now.area.now }
+    requires free { IsOpen subproblem.now.area.now }
+    requires costs { length costs.old ≡ length subproblem.now.problem.now.spans }
+    requires origin { IfSome origin.now (λ o. o.column < length costs.old) }
+    requires tableau { IfSome (run (linear_program subproblem.now.problem.now subproblem.now.book.now.cuts subproblem.now.area.now)).tableau (λ t. tableau.now ≡ Some t) }
+    requires answered { outcome ≡ answer subproblem.now.problem.now subproblem.now.book.now.cuts subproblem.now.area.now }
+    ensures found { IfOk result (λ f. IsOfAnswer subproblem.now.problem.now subproblem.now.book.now.cuts subproblem.now.area.now subproblem.now.cutoff costs.new room (answer subproblem.now.problem.now subproblem.now.book.now.cuts subproblem.now.area.now) f) }
+    ensures noted { OnOk result (costs.new ≡ with_note origin.now (answer subproblem.now.problem.now subproblem.now.book.now.cuts subproblem.now.area.now) costs.old) }
+    ensures failed { OnErr result (costs.new ≡ costs.old) }
+    ensures columns { length costs.new ≡ length costs.old }
+{
+    subproblem.problem.limits_hold();
+    let gain = gain_of(origin, &outcome);
+    let cuts = subproblem.book.len() as u32;
+    match outcome {
+        Answer::Infeasible { mult } => {
+            note(costs, origin, gain);
+            Ok(Finding::Shut {
+                proof: Proof::Refute { mult },
+            })
+        }
+        Answer::Optimal { point, mult, value } => at_optimum(
+            alloc, subproblem, costs, origin, gain, room, tableau, point, mult, value,
+        ),
+        Answer::Cramped { pivots } => Ok(unanswered(
+            subproblem.area,
+            Reason::Cramped { cuts, pivots },
+        )),
+        Answer::Stalled => Ok(unanswered(subproblem.area, Reason::Stalled { cuts })),
+    }
 }
 
 /// What the linear program of a node says, where the node's box is open. The one error is want of memory; nothing is noted then.
@@ -125,29 +191,11 @@ pub(crate) fn relax(
     ensures columns { length costs.new ≡ length costs.old }
     ensures same { relaxation.new ≡ relaxation.old }
 {
-    subproblem.problem.limits_hold();
     let Solution { answer, tableau } = relaxation.solve(
         alloc,
         subproblem.problem,
         subproblem.book,
         subproblem.area,
     )?;
-    let gain = gain_of(origin, &answer);
-    let cuts = subproblem.book.len() as u32;
-    match answer {
-        Answer::Infeasible { mult } => {
-            note(costs, origin, gain);
-            Ok(Finding::Shut {
-                proof: Proof::Refute { mult },
-            })
-        }
-        Answer::Optimal { point, mult, value } => at_optimum(
-            alloc, subproblem, costs, origin, gain, room, &tableau, point, mult, value,
-        ),
-        Answer::Cramped { pivots } => Ok(unanswered(
-            subproblem.area,
-            Reason::Cramped { cuts, pivots },
-        )),
-        Answer::Stalled => Ok(unanswered(subproblem.area, Reason::Stalled { cuts })),
-    }
+    at_answer(alloc, subproblem, costs, origin, room, &tableau, answer)
 }
