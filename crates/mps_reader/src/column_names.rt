@@ -1,6 +1,6 @@
 //! The names of a problem's columns.
 
-ghost use Rattle.std.specs.Prelude.{◌≡◌, IfOk, All, map, string_bytes};
+ghost use Rattle.std.specs.Prelude.{◌≡◌, ◌++◌, ◌∷◌, [], IfOk, OnOk, All, map, string_bytes};
 ghost use Rattle.std.specs.Str.{IsAscii};
 ghost use Rattle.mps_reader.specs.Tables.{table};
 
@@ -18,6 +18,15 @@ fn ascii_text(alloc: Global, bytes: &[u8]) -> Result<String, AllocError>
     String::from_utf8_lossy(alloc, bytes)
 }
 
+/// Puts a name, which is ASCII, behind the others. The one error is want of memory.
+fn push_name(alloc: Global, names: &mut Vec<String>, name: &[u8]) -> Result<(), AllocError>
+    requires { IsAscii name.now }
+    ensures { OnOk result (map string_bytes names.new.items ≡ map string_bytes names.old.items ++ name.now ∷ []) }
+{
+    names.push(ascii_text(alloc, name)?)?;
+    Ok(())
+}
+
 /// The names in the table, in its order. The names are ASCII. The one error is want of memory.
 pub fn column_names<'a, B: BuildHasher + Drop>(
     alloc: Global,
@@ -28,7 +37,7 @@ pub fn column_names<'a, B: BuildHasher + Drop>(
 {
     let mut names = Vec::new(alloc);
     for (name, _column) in columns.iter() {
-        names.push(ascii_text(alloc, *name)?)?;
+        push_name(alloc, &mut names, *name)?;
     }
     Ok(Names::make(names))
 }

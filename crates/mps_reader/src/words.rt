@@ -1,12 +1,31 @@
 //! Words of sections and of bounds.
 
-ghost use Rattle.std.specs.Prelude.{◌≡◌, ℕ, IfSome, None, Some, List, [], ◌∷◌, true, false, is_some, length};
-ghost use Rattle.mps_reader.specs.Words.{bound_type_of, section_of, sense_of};
+ghost use Rattle.std.specs.Prelude.{◌≡◌, ℕ, IfSome, None, Some, List, [], ◌∷◌, true, false, is_some, length, codes};
+ghost use Rattle.mps_reader.specs.Words.{bound_type_of, section_of, sense_of, value_under};
 ghost use Rattle.mps_reader.specs.Sections.{first_field};
 ghost use Rattle.mps_reader.specs.Tables.{texts};
 
 use crate::kinds::{BoundType, Section};
 use problem::ObjectiveSense;
+
+/// The section from RHS on that a word names.
+fn later_section_of(word: &[u8]) -> Option<Section>
+    ensures { result ≡ value_under ((codes "RHS", Section.Rhs) ∷ (codes "RANGES", Section.Ranges) ∷ (codes "BOUNDS", Section.Bounds) ∷ (codes "ENDATA", Section.EndData) ∷ []) word.now }
+{
+    if word == b"RHS".as_slice() {
+        return Some(Section::Rhs);
+    }
+    if word == b"RANGES".as_slice() {
+        return Some(Section::Ranges);
+    }
+    if word == b"BOUNDS".as_slice() {
+        return Some(Section::Bounds);
+    }
+    if word == b"ENDATA".as_slice() {
+        return Some(Section::EndData);
+    }
+    None
+}
 
 /// The section that a word names.
 pub fn section_of(word: &[u8]) -> Option<Section>
@@ -24,19 +43,7 @@ pub fn section_of(word: &[u8]) -> Option<Section>
     if word == b"COLUMNS".as_slice() {
         return Some(Section::Columns);
     }
-    if word == b"RHS".as_slice() {
-        return Some(Section::Rhs);
-    }
-    if word == b"RANGES".as_slice() {
-        return Some(Section::Ranges);
-    }
-    if word == b"BOUNDS".as_slice() {
-        return Some(Section::Bounds);
-    }
-    if word == b"ENDATA".as_slice() {
-        return Some(Section::EndData);
-    }
-    None
+    later_section_of(word)
 }
 
 /// The sense of the objective that a word of OBJSENSE asks for.
@@ -68,6 +75,25 @@ pub fn first_field<'a>(fields: &[&'a [u8]]) -> &'a [u8]
     }
 }
 
+/// The type of a bound without a value that a word names.
+fn plain_type_of(word: &[u8]) -> Option<BoundType>
+    ensures { result ≡ value_under ((codes "FR", BoundType.Fr) ∷ (codes "MI", BoundType.Mi) ∷ (codes "PL", BoundType.Pl) ∷ (codes "BV", BoundType.Bv) ∷ []) word.now }
+{
+    if word == b"FR".as_slice() {
+        return Some(BoundType::Fr);
+    }
+    if word == b"MI".as_slice() {
+        return Some(BoundType::Mi);
+    }
+    if word == b"PL".as_slice() {
+        return Some(BoundType::Pl);
+    }
+    if word == b"BV".as_slice() {
+        return Some(BoundType::Bv);
+    }
+    None
+}
+
 /// The type of a bound that a word names.
 pub fn bound_type_of(word: &[u8]) -> Option<BoundType>
     ensures { result ≡ bound_type_of word.now }
@@ -87,17 +113,5 @@ pub fn bound_type_of(word: &[u8]) -> Option<BoundType>
     if word == b"UI".as_slice() {
         return Some(BoundType::Ui);
     }
-    if word == b"FR".as_slice() {
-        return Some(BoundType::Fr);
-    }
-    if word == b"MI".as_slice() {
-        return Some(BoundType::Mi);
-    }
-    if word == b"PL".as_slice() {
-        return Some(BoundType::Pl);
-    }
-    if word == b"BV".as_slice() {
-        return Some(BoundType::Bv);
-    }
-    None
+    plain_type_of(word)
 }
