@@ -1,7 +1,7 @@
 -- What contracts see of dictionaries that share lists.
 use Rattle.std.proofs.Common.{◌≡◌, ℕ, zero, suc, ◌+◌, ◌<◌, arith, refl, ap, sym, subst, ◌∙◌, List, [], ◌∷◌, ◌++◌, length, get_or, map, replicate}
 use Rattle.std.specs.Prelude.{ℤ}
-use Rattle.std.proofs.lemmas.List.{get_or-map, length-append, length-replicate}
+use Rattle.std.proofs.lemmas.List.{get_or-map, length-append, length-map, length-replicate}
 use Rattle.integer_tableau.proofs.Arenas.{positions_are, positions_many, rising_once, rows_many}
 use Rattle.integer_tableau.proofs.BasicColumns.{column_within, columns_rise}
 use Rattle.integer_tableau.proofs.StartFromCode.{start_nonbasic_are}
@@ -26,6 +26,12 @@ module _ (variables width : ℕ) (ns : List ℤ) (bs vs : List ℕ) where
   each_kept P each [] p l = absurd (omega (arith, l))
   each_kept P each (d ∷ ds) zero l = each d
   each_kept P each (d ∷ ds) (suc p) l = each_kept P each ds p (omega (arith, l))
+
+  -- and what holds of the one that a dictionary makes holds of that at its place
+  pub at_place : (ds : List Dictionary) (xs : List Exit) (es : List Edge) (k : KeptDictionaries) → record { variables = variables; width = width; all = map (kept_in variables width ns bs vs) ds; exits = xs; edges = es } ≡ k
+      → (P : ℕ → KeptDictionary → Type 0) (p : ℕ) (d : Dictionary) → p < length k.all → d ≡ get_or ds p d → P width (kept_in variables width ns bs vs d) → P k.width (kept_at k.all p)
+  at_place ds xs es k e P p d l at h = subst (λ (k : KeptDictionaries). p < length k.all → P k.width (kept_at k.all p)) e
+      (λ l. subst (P width) (sym (kept_is ds p d (omega (arith, l, length-map ds (kept_in variables width ns bs vs))) at)) h) l
 
 -- a dictionary has a position for each variable, by the variables of its columns, and a row for each column
 pub record IsViewed (variables width : ℕ) (d : KeptDictionary) : Type 0 where

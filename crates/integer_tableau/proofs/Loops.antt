@@ -68,6 +68,9 @@ substituted_from d d' e m q q' row source new p h r t k =
     turn : (a b : ℤ) → a -ℤ neg_ℤ b ≡ b +ℤ a
     turn a b = omega (arith, ints)
 
+pub difference_below : (x y : ℤ) → nat_abs x ≤ 2 ^ 125 → nat_abs y ≤ 2 ^ 126 → nat_abs (x -ℤ y) < 2 ^ 127
+difference_below x y h k = omega (arith, ints)
+
 pub difference_small : (x y : ℤ) → nat_abs x ≤ 2 ^ 125 → nat_abs y ≤ 2 ^ 125
     → nat_abs (to_z w128 (of_z w128 (to_z w128 (of_z w128 x) -ℤ to_z w128 (of_z w128 y)))) ≤ 2 ^ 126
 difference_small x y h k = omega (arith, ints)

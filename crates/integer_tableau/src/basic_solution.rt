@@ -143,23 +143,29 @@ impl BasicSolution {
         ensures { IfOk result (λ t. t ≡ view_of numbers.now program_rows.now.items.value.items (kept_at dictionaries.now.all place) self) }
     {
         let costs = Vec::from_slice(alloc, dictionaries.reduced_costs(place))?;
+        let numbers = Vec::from_slice(alloc, numbers)?;
+        let program_rows = program_rows.clone()?;
+        let positions = dictionaries.positions(alloc, place)?;
+        let nonbasic = Vec::from_slice(alloc, dictionaries.nonbasic(place))?;
+        let rows = dictionaries.rows_by_column(alloc, place)?;
+        let basic_columns = Vec::from_slice(alloc, dictionaries.basic_columns(place))?;
         Ok(IntegerTableau {
             fixed: Fixed {
-                numbers: Vec::from_slice(alloc, numbers)?,
+                numbers,
                 bounds: self.bounds,
-                rows: program_rows.clone()?,
+                rows: program_rows,
                 weight,
                 reach: self.reach,
             },
-            positions: dictionaries.positions(alloc, place)?,
-            nonbasic: Vec::from_slice(alloc, dictionaries.nonbasic(place))?,
+            positions,
+            nonbasic,
             at_upper: self.at_upper,
             nonbasic_values: self.nonbasic_values,
-            rows: dictionaries.rows_by_column(alloc, place)?,
+            rows,
             spare: IntegerRow::empty(alloc),
             reduced_costs: IntegerRow::make(costs),
             values: self.values,
-            basic_columns: Vec::from_slice(alloc, dictionaries.basic_columns(place))?,
+            basic_columns,
             denominator: dictionaries.divisor(place).number(),
             pivots: self.pivots,
         })

@@ -1,4 +1,4 @@
-use Rattle.std.proofs.Common.{◌-◌, ℤ, List, length, refl, subst, w64}
+use Rattle.std.proofs.Common.{◌-◌, ℤ, List, arith, length, refl, subst, w64}
 use Rattle.std.specs.Option.{IfSome}
 use Rattle.std.specs.Prelude.{◌≡◌, ◌++◌, ◌+◌, ◌*◌, slice_range}
 use Rattle.std.proofs.lemmas.Int.{to_z-of_z}
@@ -7,6 +7,18 @@ use Rattle.integer_tableau.specs.Range.{size_limit}
 use Rattle.integer_tableau.specs.Substitution.{IsSubstitutedRow}
 use Rattle.integer_tableau.proofs.PushedRows.{row_pushed, row_there, row_within}
 use Rattle.integer_tableau.proofs.made_dictionary.push_row.Goals as goal
+
+pub overflow_mul-from : goal.overflow_mul-from
+overflow_mul-from c =
+    let there = row_there (length c.args.solved.now) c.width.result c.args.own.numerators c.args.own.count c.place_of.result c.args.column c.args.numerators.now.items c.args.old_columns.now c.requires.count
+    c.place_of.ensures.value c.width.ensures c.requires.rise (c.requires.known c.if-column-turn.false) c.requires.there in
+    record { fits = omega (arith, there, c.args.numerators.now.ok.0) }
+
+pub overflow_add-from : goal.overflow_add-from
+overflow_add-from c =
+    let there = row_there (length c.args.solved.now) c.width.result c.args.own.numerators c.args.own.count c.place_of.result c.args.column c.args.numerators.now.items c.args.old_columns.now c.requires.count
+    c.place_of.ensures.value c.width.ensures c.requires.rise (c.requires.known c.if-column-turn.false) c.requires.there in
+    record { fits = omega (arith, there, c.args.numerators.now.ok.0) }
 
 pub push_substituted-requires-clause-there : goal.push_substituted-requires-clause-there
 push_substituted-requires-clause-there c =

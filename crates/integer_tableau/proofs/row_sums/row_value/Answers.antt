@@ -10,6 +10,33 @@ use Rattle.integer_tableau.specs.Numbers.{number_at}
 use Rattle.integer_tableau.specs.RowSums.{basic_products}
 use Rattle.integer_tableau.proofs.row_sums.row_value.Goals as goal
 
+pub overflow_mul-j : goal.overflow_mul-j
+overflow_mul-j c =
+    let a = c.args in
+    let are = c.requires.columns.1 in
+    let j = get_or a.basic_columns.now c.loop-column.column-index 0 in
+    let l : j < a.columns.now.width = omega (arith, c.requires.basic_there c.loop-column.column-index c.loop-column-test.true, c.requires.values_there) in
+    let within = place_within j a.columns.now.width a.row a.columns.now.rows l c.requires.there in
+    record { fits = omega (arith, are.count, within, a.columns.now.numbers.ok.0) }
+
+pub overflow_add-j : goal.overflow_add-j
+overflow_add-j c =
+    let a = c.args in
+    let are = c.requires.columns.1 in
+    let j = get_or a.basic_columns.now c.loop-column.column-index 0 in
+    let l : j < a.columns.now.width = omega (arith, c.requires.basic_there c.loop-column.column-index c.loop-column-test.true, c.requires.values_there) in
+    let within = place_within j a.columns.now.width a.row a.columns.now.rows l c.requires.there in
+    record { fits = omega (arith, are.count, within, a.columns.now.numbers.ok.0) }
+
+pub index-requires : goal.index-requires
+index-requires c =
+    let a = c.args in
+    let are = c.requires.columns.1 in
+    let j = get_or a.basic_columns.now c.loop-column.column-index 0 in
+    let l : j < a.columns.now.width = omega (arith, c.requires.basic_there c.loop-column.column-index c.loop-column-test.true, c.requires.values_there) in
+    let within = place_within j a.columns.now.width a.row a.columns.now.rows l c.requires.there in
+    omega (arith, are.count, within)
+
 pub loop-column-init : goal.loop-column-init
 loop-column-init c = λ ps are.
     let d = to_z w64 (of_z w64 c.args.denominator) in

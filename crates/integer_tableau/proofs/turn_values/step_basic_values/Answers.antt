@@ -2,11 +2,30 @@ use Rattle.std.proofs.Common.{◌≡◌, ◌<◌, ◌+◌, ◌*◌, ◌+ℤ◌, 
 use Rattle.std.specs.Int.{w128}
 use mir.Val.{SFits}
 use Rattle.std.proofs.lemmas.Int.{to_z-of_z}
+use Rattle.std.proofs.lemmas.Nat.{mul-add-lt}
 use Rattle.integer_tableau.proofs.ListedRows.{still_unlisted, unlisted_more}
 use Rattle.integer_tableau.proofs.Turns.{flat_number, placed_more}
 use Rattle.integer_tableau.specs.Arena.{flat_row}
 use Rattle.integer_tableau.specs.Numbers.{number_at}
 use Rattle.integer_tableau.proofs.turn_values.step_basic_values.Goals as goal
+
+pub overflow_mul-index : goal.overflow_mul-index
+overflow_mul-index c =
+    let l = mul-add-lt c.loop-index.index c.args.width c.args.column (length c.args.basic_columns.now) c.loop-index-test.true c.requires.column in
+    record { fits = omega (arith, l, c.requires.rows_there) }
+
+pub overflow_add-index : goal.overflow_add-index
+overflow_add-index c =
+    let l = mul-add-lt c.loop-index.index c.args.width c.args.column (length c.args.basic_columns.now) c.loop-index-test.true c.requires.column in
+    record { fits = omega (arith, l, c.requires.rows_there) }
+
+pub bounds-rows-index : goal.bounds-rows-index
+bounds-rows-index c =
+    let l = mul-add-lt c.loop-index.index c.args.width c.args.column (length c.args.basic_columns.now) c.loop-index-test.true c.requires.column in
+    omega (arith, l, c.requires.rows_there)
+
+pub bounds-values-v : goal.bounds-values-v
+bounds-values-v c = omega (arith, c.requires.there c.loop-index.index c.loop-index-test.true, c.loop-index.auto.values)
 
 pub loop-index-preserved : goal.loop-index-preserved
 loop-index-preserved c =

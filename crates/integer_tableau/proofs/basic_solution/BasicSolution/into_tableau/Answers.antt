@@ -21,5 +21,5 @@ returns c =
     let costs = c.make.ensures ∙ c.in_ok-costs.ensures.items ∙ c.reduced_costs.ensures.value in
     let small : nat_abs c.number.result < 2 ^ 63 = omega (arith, ap nat_abs c.number.ensures, c.divisor.result.small) in
     let denominator = back64 c.number.result small ∙ c.number.ensures ∙ c.divisor.ensures in
-    (λ i. tableau_of (length (c.in_ok-rows_by_column.ensures i)) (c.in_ok-from_slice.ensures.items i)
-    (expanded (c.in_ok-clone.ensures.cases i) (of_parts n.bounds.items (c.in_ok-positions.ensures i) n.at_upper.items n.nonbasic_values.items (c.in_ok-rows_by_column.ensures i) (costs i) n.values.items (denominator i) n.pivots)))
+    (λ i. tableau_of (length (c.in_ok-rows.ensures i)) (c.in_ok-numbers.ensures.items i)
+    (expanded (c.in_ok-program_rows.ensures.cases i) (of_parts n.bounds.items (c.in_ok-positions.ensures i) n.at_upper.items n.nonbasic_values.items (c.in_ok-rows.ensures i) (costs i) n.values.items (denominator i) n.pivots)))

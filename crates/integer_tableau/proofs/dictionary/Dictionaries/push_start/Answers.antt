@@ -86,6 +86,17 @@ all_of_none P xs e = subst (All P) (sym e) (All-nil P)
 all_of_one : {A : Type 0} (P : A → Type 0) (xs : List A) (x : A) → xs ≡ x ∷ [] → P x → All P xs
 all_of_one P xs x e p = subst (All P) (sym e) (All-push P [] x (All-nil P) p)
 
+pub invariant_of-self : goal.invariant_of-self
+invariant_of-self c =
+    let none = none_before _ _ _ (ap (λ (k : KeptDictionaries). k.all) c.self.view_is) c.requires.empty in
+    all_of_none (IsInLists c.width-self-inside.result c.extend_from_slice.new.self.items c.self.inside.basic_columns.items c.self.inside.nonbasic.items) c.self.inside.all.items none
+
+pub returns-in_err-extend_from_slice-clause-start : goal.returns-in_err-extend_from_slice-clause-start
+returns-in_err-extend_from_slice-clause-start c ps e =
+    let none = none_before _ _ _ (ap (λ (k : KeptDictionaries). k.all) c.self.view_is) c.requires.empty in
+    let view = kept_in (c.width.result + c.args.rows) c.width-self-inside.result c.extend_from_slice.new.self.items c.self.inside.basic_columns.items c.self.inside.nonbasic.items in
+    all_of_none (IsNewStart ps c.args.costs.now) (map view c.self.inside.all.items) (ap (map view) none)
+
 pub invariant_of-self-in_err-push_numbers : goal.invariant_of-self-in_err-push_numbers
 invariant_of-self-in_err-push_numbers c =
     let none = none_before _ _ _ (ap (λ (k : KeptDictionaries). k.all) c.self.view_is) c.requires.empty in
