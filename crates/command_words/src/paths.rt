@@ -8,7 +8,7 @@ use crate::words::Words;
 use std::alloc::Global;
 
 /// The paths of a command, each there as the command has it.
-#[derive(Debug, Drop)]
+#[derive(Debug)]
 pub struct Paths {
     /// Where the model is read.
     pub model: Option<String>,
@@ -16,6 +16,17 @@ pub struct Paths {
     pub journal: Option<String>,
     /// Where the certificate is written.
     pub cert: Option<String>,
+}
+
+/// By hand, so that a proof that lets one go sees one call and not the drop of each of its parts.
+impl Drop for Paths {
+    fn drop(self) {
+        let Paths {
+            model: _,
+            journal: _,
+            cert: _,
+        } = self;
+    }
 }
 
 /// The paths of the command that the words are.

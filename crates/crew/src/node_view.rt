@@ -5,7 +5,6 @@ use node_tree::Branch;
 use problem_box::IntBox;
 
 /// What a worker knows of a node that it looks at.
-#[derive(Drop)]
 pub(crate) struct NodeView {
     /// The node's box.
     pub area: IntBox,
@@ -13,4 +12,15 @@ pub(crate) struct NodeView {
     pub cutoff: Option<Frac>,
     /// The branch that leads to the node; none at node 0.
     pub branch: Option<Branch>,
+}
+
+/// By hand, so that a proof that lets one go sees one call and not the drop of each of its parts.
+impl Drop for NodeView {
+    fn drop(self) {
+        let NodeView {
+            area: _,
+            cutoff: _,
+            branch: _,
+        } = self;
+    }
 }

@@ -12,10 +12,19 @@ pub struct Holder {
 }
 
 /// An event that was applied.
-#[derive(Drop)]
 pub struct Entry {
     /// The worker whose event it is; none where it was read from a journal.
     pub worker: Option<u32>,
     /// The event.
     pub event: Event,
+}
+
+/// By hand, so that a proof that lets one go sees one call and not the drop of each of its parts.
+impl Drop for Entry {
+    fn drop(self) {
+        let Entry {
+            worker: _,
+            event: _,
+        } = self;
+    }
 }

@@ -10,9 +10,15 @@ use std::marker::Model;
 ///
 /// The history of a search keeps a point for nearly every split, and nearly all numbers fit into 64 bits: such a point takes 16 bytes a column, and
 /// stands behind a pointer, so that an event stays small (docs/DECISIONS.md, entry 41).
-#[derive(Drop)]
 pub struct RationalPoint {
     numbers: Box<Numbers>,
+}
+
+/// By hand, so that a proof that lets one go sees one call and not the drop of each of its parts.
+impl Drop for RationalPoint {
+    fn drop(self) {
+        let RationalPoint { numbers: _ } = self;
+    }
 }
 
 const _: () = prove!(size_of::<RationalPoint>() == 8);

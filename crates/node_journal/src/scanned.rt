@@ -11,7 +11,6 @@ use std::alloc::{AllocError, Global};
 pub(crate) const EMPTY: [u8; 9] = *b"BNCJRNL1\0";
 
 /// What a scan found on a disk: the payloads, the oldest first, each with the place of its gate, and the disk's size.
-#[derive(Drop)]
 pub struct Scanned {
     // The whole file of the payloads, with a closed gate at its end.
     pub(crate) file: Vec<u8>,
@@ -20,6 +19,17 @@ pub struct Scanned {
     ghost whole: { file.items ≡ file_of (payloads_at file.items places.items) },
     ghost placed: { places.items ≡ places_from 8 (payloads_at file.items places.items) },
     ghost small: { list_all has_small_length (payloads_at file.items places.items) ≡ true },
+}
+
+/// By hand, so that a proof that lets one go sees one call and not the drop of each of its parts.
+impl Drop for Scanned {
+    fn drop(self) {
+        let Scanned {
+            file: _,
+            places: _,
+            size: _,
+        } = self;
+    }
 }
 
 impl Scanned {

@@ -6,7 +6,6 @@ use std::alloc::{AllocError, Global};
 
 /// A sink in memory, which tells all. It takes at most `most` bytes at a write, and fails at the calls that are listed,
 /// counted from 0, and for want of memory. It keeps what it had taken at the last `finish` that succeeded.
-#[derive(Drop)]
 pub struct MemSink {
     bytes: Vec<u8>,
     /// How many of the bytes are kept.
@@ -17,6 +16,20 @@ pub struct MemSink {
     faults: u64,
     ghost some: { 0 < most },
     ghost within: { finished ≤ length bytes.items },
+}
+
+/// By hand, so that a proof that lets one go sees one call and not the drop of each of its parts.
+impl Drop for MemSink {
+    fn drop(self) {
+        let MemSink {
+            bytes: _,
+            finished: _,
+            most: _,
+            failing: _,
+            calls: _,
+            faults: _,
+        } = self;
+    }
 }
 
 impl MemSink {

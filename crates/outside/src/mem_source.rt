@@ -6,7 +6,6 @@ use std::alloc::{AllocError, Global};
 
 /// A source in memory, which tells all. It gives at most `most` bytes at a call, and fails at the calls that are
 /// listed, counted from 0.
-#[derive(Drop)]
 pub struct MemSource {
     bytes: Vec<u8>,
     at: usize,
@@ -16,6 +15,20 @@ pub struct MemSource {
     faults: u64,
     ghost within: { at ≤ length bytes.items },
     ghost some: { 0 < most },
+}
+
+/// By hand, so that a proof that lets one go sees one call and not the drop of each of its parts.
+impl Drop for MemSource {
+    fn drop(self) {
+        let MemSource {
+            bytes: _,
+            at: _,
+            most: _,
+            failing: _,
+            calls: _,
+            faults: _,
+        } = self;
+    }
 }
 
 impl MemSource {

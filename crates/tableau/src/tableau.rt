@@ -15,7 +15,6 @@ use std::marker::Model;
 ///
 /// Variables are numbered from 0: first the columns, then the values of the rows. A row keeps those coefficients alone that aren't 0
 /// (docs/DECISIONS.md, entry 91).
-#[derive(Drop)]
 pub struct Tableau {
     pub(crate) columns: usize,
     pub(crate) numbers: Vec<u32>,
@@ -27,6 +26,24 @@ pub struct Tableau {
     pub(crate) values: Vec<Frac>,
     pub(crate) pivots: u64,
     pub(crate) work: Workspace,
+}
+
+/// By hand, so that a proof that lets one go sees one call and not the drop of each of its parts.
+impl Drop for Tableau {
+    fn drop(self) {
+        let Tableau {
+            columns: _,
+            numbers: _,
+            bounds: _,
+            statuses: _,
+            nonbasic_values: _,
+            rows: _,
+            reduced_costs: _,
+            values: _,
+            pivots: _,
+            work: _,
+        } = self;
+    }
 }
 
 impl Model for Tableau {
