@@ -26,7 +26,7 @@ use std::marker::Model;
 
 /// The state of a search of one problem with its history, seen as both with the room that there is.
 ///
-/// The state is what the events of the history lead to, and each of these was legal in the state after those before it.
+/// The state is what the events of the history lead to, and each of these was legal in the state after those before it (docs/DECISIONS.md, entry 36).
 pub struct State {
     parts: Parts,
     history: Vec<Entry>,
