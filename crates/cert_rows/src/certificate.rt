@@ -55,7 +55,7 @@ pub struct Part {
     pub rows: CertRows,
 }
 
-/// By hand, so that a proof that lets one go sees one call and not the drop of each of its parts.
+/// By hand (docs/DECISIONS.md, entry 98).
 impl Drop for Part {
     fn drop(self) {
         let Part {
@@ -75,7 +75,7 @@ pub struct Cert {
     pub lines: Derived,
 }
 
-/// By hand, so that a proof that lets one go sees one call and not the drop of each of its parts.
+/// By hand (docs/DECISIONS.md, entry 98).
 impl Drop for Cert {
     fn drop(self) {
         let Cert {

@@ -20,7 +20,7 @@ pub struct Worker {
     pub limit: u32,
 }
 
-/// By hand, so that a proof that lets one go sees one call and not the drop of each of its parts.
+/// By hand (docs/DECISIONS.md, entry 98).
 impl Drop for Worker {
     fn drop(self) {
         let Worker {

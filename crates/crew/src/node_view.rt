@@ -14,7 +14,7 @@ pub(crate) struct NodeView {
     pub branch: Option<Branch>,
 }
 
-/// By hand, so that a proof that lets one go sees one call and not the drop of each of its parts.
+/// By hand (docs/DECISIONS.md, entry 98).
 impl Drop for NodeView {
     fn drop(self) {
         let NodeView {

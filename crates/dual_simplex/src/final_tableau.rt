@@ -16,7 +16,7 @@ pub struct FinalTableau {
     pub(crate) form: Form,
 }
 
-/// By hand, so that a proof that lets one go sees one call and not the drop of each of its parts.
+/// By hand (docs/DECISIONS.md, entry 98).
 impl Drop for FinalTableau {
     fn drop(self) {
         let FinalTableau { form } = self;

@@ -18,7 +18,7 @@ pub struct KeptRelaxation {
     last: Option<Relaxation>,
 }
 
-/// By hand, so that a proof that lets one go sees one call and not the drop of each of its parts.
+/// By hand (docs/DECISIONS.md, entry 98).
 impl Drop for KeptRelaxation {
     fn drop(self) {
         let KeptRelaxation { last: _ } = self;

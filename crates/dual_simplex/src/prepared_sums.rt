@@ -21,7 +21,7 @@ pub struct PointSums<'a> {
     scaled: Option<ScaledPoint>,
 }
 
-/// By hand, so that a proof that lets one go sees one call and not the drop of each of its parts.
+/// By hand (docs/DECISIONS.md, entry 98).
 impl<'a> Drop for PointSums<'a> {
     fn drop(self) {
         let PointSums {

@@ -31,7 +31,7 @@ pub struct Relaxation {
     scaled: Option<ScaledProgram>,
 }
 
-/// By hand, so that a proof that drops a relaxation sees one call and not the drop of each of its parts.
+/// By hand (docs/DECISIONS.md, entry 98).
 impl Drop for Relaxation {
     fn drop(self) {
         let Relaxation {

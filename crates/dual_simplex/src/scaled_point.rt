@@ -30,7 +30,7 @@ pub(crate) struct ScaledPoint {
     narrow: Option<Vec<i64>>,
 }
 
-/// By hand, so that a proof that lets one go sees one call and not the drop of each of its parts.
+/// By hand (docs/DECISIONS.md, entry 98).
 impl Drop for ScaledPoint {
     fn drop(self) {
         let ScaledPoint {

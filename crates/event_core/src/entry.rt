@@ -19,7 +19,7 @@ pub struct Entry {
     pub event: Event,
 }
 
-/// By hand, so that a proof that lets one go sees one call and not the drop of each of its parts.
+/// By hand (docs/DECISIONS.md, entry 98).
 impl Drop for Entry {
     fn drop(self) {
         let Entry {

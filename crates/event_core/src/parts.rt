@@ -23,7 +23,7 @@ pub struct Parts {
     pub(crate) holds: Vec<Holder>,
 }
 
-/// By hand, so that a proof that lets one go sees one call and not the drop of each of its parts.
+/// By hand (docs/DECISIONS.md, entry 98).
 impl Drop for Parts {
     fn drop(self) {
         let Parts {

@@ -32,7 +32,7 @@ pub struct State {
     history: Vec<Entry>,
 }
 
-/// By hand, so that a proof that drops a state sees one call and not the drop of each of its parts.
+/// By hand (docs/DECISIONS.md, entry 98).
 impl Drop for State {
     fn drop(self) {
         let State {

@@ -27,7 +27,7 @@ use Rattle.dual_simplex.specs.Answers.{linear_program, run, answer}
 use Rattle.dual_simplex.specs.Meaning.{IsOptimal, AnswerHolds}
 use Rattle.dual_simplex.specs.Laws.{IsBoxOf}
 use Rattle.dual_simplex.specs.Lemmas.TrueAnswers.{answers_hold}
-use Rattle.gomory_cuts.specs.Separation.{separation}
+use Rattle.gomory_cuts.specs.Separation.{most_separated, separation}
 use Rattle.gomory_cuts.specs.Laws.{IsSeparating, SeparationsSeparate}
 use Rattle.expand.specs.declared.finding.Finding.{Finding}
 use Rattle.expand.specs.Verdicts.{multiplier, corner, verdict_proof}
@@ -52,7 +52,7 @@ row_numbered p box c i s l t = let k = slice_get_within p.rows i t.row t.there i
 -- ---- cuts
 -- at most four, each with a rounded row
 record AreRows (p : Problem) (cs : List Cut) (mults : List Multipliers) : Type 0 where
-  few : length mults ≤ 4
+  few : length mults ≤ most_separated
   rows : All (HasRow p cs) mults
 
 module _ (p : Problem) (cs : List Cut) (separations : SeparationsSeparate) where

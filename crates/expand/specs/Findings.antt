@@ -20,16 +20,17 @@ use Rattle.dual_simplex.specs.Answers.{answer}
 use Rattle.dual_simplex.specs.Meaning.{IsOptimal}
 use Rattle.dual_simplex.specs.Relaxation.{RationalPoint, rational_at}
 use Rattle.event_core.specs.Splits.{IsMiddle}
+use Rattle.gomory_cuts.specs.Separation.{most_separated}
 use Rattle.expand.specs.Verdicts.{corner}
 
 -- the multipliers have a rounded row
 abbrev pub HasRow : Problem → List Cut → Multipliers → Type 0
 HasRow p cs mult = (r : Row) × (rounded_row p cs mult ≡ Some r)
 
--- some cuts, at most four
+-- some cuts, no more than are separated at a time
 pub record AreCutsFound (p : Problem) (cs : List Cut) (mults : List Multipliers) : Type 0 where
   pub some : 0 < length mults
-  pub few : length mults ≤ 4
+  pub few : length mults ≤ most_separated
   pub rows : All (HasRow p cs) mults
 
 -- the one point of a fixed box, which is feasible

@@ -8,6 +8,7 @@ use Rattle.event_core.specs.States.{State, box_of, is_open}
 use Rattle.event_core.specs.Holds.{holds_node}
 use Rattle.event_core.specs.Frames.{is_split}
 use Rattle.event_core.specs.Histories.{entries_by, is_journaled, AreLegalFrom}
+use Rattle.gomory_cuts.specs.Separation.{most_separated}
 use Rattle.expand.specs.declared.settlement.Settlement.{Settlement}
 use Rattle.expand.specs.Settlements.{events_of, IsSettlement}
 
@@ -20,9 +21,9 @@ abbrev pub SettlementsAreLegal : Type 0
 SettlementsAreLegal =
     (s : State) (w i : ℕ) (g : Settlement) → is_open s i ≡ true → holds_node s w i ≡ true → IsSettlement s (box_of s i) g → AreLegalFrom s (entries_of w (events_of i g))
 
--- events that one payload of a journal takes: four at most, each one that a journal has, and a split alone
+-- events that one payload of a journal takes: no more than cuts are separated at a time, each one that a journal has, and a split alone
 pub record FitOnePayload (es : List Event) : Type 0 where
-  pub few : length es ≤ 4
+  pub few : length es ≤ most_separated
   pub journaled : All (λ e. is_journaled e ≡ true) es
   pub alone : list_any is_split es ≡ true → length es ≡ 1
 

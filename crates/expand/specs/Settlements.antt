@@ -12,6 +12,7 @@ use Rattle.derivation_book.specs.Legal.{is_legal_proof}
 use Rattle.incumbent.specs.Offers.{IsBetter}
 use Rattle.event_core.specs.States.{State, cutoff}
 use Rattle.event_core.specs.Splits.{has_both, is_reason}
+use Rattle.gomory_cuts.specs.Separation.{most_separated}
 use Rattle.expand.specs.declared.settlement.Branching.{Branching}
 use Rattle.expand.specs.declared.settlement.Settlement.{Settlement}
 use Rattle.expand.specs.declared.settlement.Settlement.TheVariants.{Separated, Closed, Improved, Branched}
@@ -39,10 +40,10 @@ pub record IsBranching (s : State) (box : List Span) (b : Branching) : Type 0 wh
   pub both : has_both (slice_get box b.place.column) b.place.bound ≡ true
   pub holds : is_reason s.problem s.cuts box (cutoff s) b.place.column b.place.bound b.reason ≡ true
 
--- each has a rounded row, they are four at most, and all of them fit beside the cuts that are there
+-- each has a rounded row, they are no more than are separated at a time, and all of them fit beside the cuts that are there
 pub record AreNewCuts (s : State) (mults : List Multipliers) : Type 0 where
   pub rows : All (HasRow s.problem s.cuts) mults
-  pub few_together : length mults ≤ 4
+  pub few_together : length mults ≤ most_separated
   pub few : length s.cuts + length mults ≤ most_cuts
 
 -- the settlement is legal in this state for a node with this box

@@ -29,7 +29,7 @@ use Rattle.dual_simplex.specs.Lemmas.RationalValues.{sum_exact}
 use Rattle.gomory_cuts.specs.declared.sign.Sign.{Sign}
 use Rattle.gomory_cuts.specs.declared.sign.Sign.TheVariants.{Plus, Minus}
 use Rattle.gomory_cuts.specs.Multipliers.{gomory_multipliers}
-use Rattle.gomory_cuts.specs.Separation.{is_below, is_violated, if_violated, cut_at, is_fractional, cuts_at, cuts_from, is_same, is_found, with_cut, with_cuts, separation}
+use Rattle.gomory_cuts.specs.Separation.{is_below, is_violated, if_violated, cut_at, is_fractional, cuts_at, cuts_from, is_same, is_found, with_cut, with_cuts, most_separated, separation}
 use Rattle.gomory_cuts.specs.Laws.{IsSeparating, AreDifferent}
 use Rattle.gomory_cuts.proofs.Rising.{gomory_between}
 
@@ -103,7 +103,7 @@ with_cuts_all P found (c ∷ cs) h k = with_cuts_all P (with_cut found c) cs (wi
 -- each separates the point
 pub all_separate : (p : Problem) (cuts : List Cut) (t : Tableau) (x : List ℚ) → All (IsSeparating p cuts x) (separation p cuts t x)
 all_separate p cuts t x =
-    All-take (IsSeparating p cuts x) 4 (with_cuts [] (cuts_from p cuts t x 0 (length p.spans)))
+    All-take (IsSeparating p cuts x) most_separated (with_cuts [] (cuts_from p cuts t x 0 (length p.spans)))
     (with_cuts_all (IsSeparating p cuts x) [] (cuts_from p cuts t x 0 (length p.spans)) (All-nil (IsSeparating p cuts x)) (cuts_separate p cuts t x 0 (length p.spans)))
 
 -- ---- no two are the same
@@ -159,10 +159,10 @@ first_different ms k h i j l b f =
 
 pub separate_different : (p : Problem) (cuts : List Cut) (t : Tableau) (x : List ℚ) → AreDifferent (separation p cuts t x)
 separate_different p cuts t x =
-    first_different (with_cuts [] (cuts_from p cuts t x 0 (length p.spans))) 4 (with_cuts_different [] (cuts_from p cuts t x 0 (length p.spans)) (λ i j l b f. omega arith))
+    first_different (with_cuts [] (cuts_from p cuts t x 0 (length p.spans))) most_separated (with_cuts_different [] (cuts_from p cuts t x 0 (length p.spans)) (λ i j l b f. omega arith))
 
-pub at_most_four : (p : Problem) (cuts : List Cut) (t : Tableau) (x : List ℚ) → length (separation p cuts t x) ≤ 4
-at_most_four p cuts t x = at 4 (length ms) (length (take 4 ms)) (length-take 4 ms)
+pub at_most_four : (p : Problem) (cuts : List Cut) (t : Tableau) (x : List ℚ) → length (separation p cuts t x) ≤ most_separated
+at_most_four p cuts t x = at most_separated (length ms) (length (take most_separated ms)) (length-take most_separated ms)
   where
     ms : List (List (ℕ × ℚ))
     ms = with_cuts [] (cuts_from p cuts t x 0 (length p.spans))

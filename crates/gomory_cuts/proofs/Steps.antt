@@ -18,7 +18,7 @@ use Rattle.tableau.specs.Multipliers.{with_multiplier}
 use Rattle.tableau.specs.Tableau.{Tableau, status_of}
 use Rattle.gomory_cuts.specs.declared.sign.Sign.{Sign}
 use Rattle.gomory_cuts.specs.Multipliers.{multiplier, row_multipliers, filling, bound_number, fillings}
-use Rattle.gomory_cuts.specs.Separation.{is_below, cuts_at, cuts_from, is_same, is_found, with_cut, with_cuts}
+use Rattle.gomory_cuts.specs.Separation.{is_below, cuts_at, cuts_from, is_same, is_found, with_cut, with_cuts, most_separated}
 
 -- ---- one multiplier more, or none
 -- `all` with the multiplier u of row k behind it is `more`
@@ -82,7 +82,7 @@ no_filling k t j cs all c l e h =
     ap (option_map (λ fs. all ++ fs)) (fillings_step k t j cs c l e)
     ∙ none_more all (bound_number k j (status_of t j)) (filling (status_of t j) c) (fillings k t (j + 1) (drop (j + 1) cs)) h
 
--- ---- the first four
+-- ---- the first ones
 -- what is found stays in front
 kept : (found : List (List (ℕ × ℚ))) (cs : List (Option (List (ℕ × ℚ)))) → (rest : List (List (ℕ × ℚ))) × (with_cuts found cs ≡ found ++ rest)
 kept found [] = ([], sym (append-nil found))
@@ -99,13 +99,13 @@ kept found (c ∷ cs) =
         at true = ([], sym (append-nil found))
         at false = (m ∷ [], refl)
 
-first_full : (found : List (List (ℕ × ℚ))) (cs : List (Option (List (ℕ × ℚ)))) → 4 ≡ length found → take 4 (with_cuts found cs) ≡ found
+first_full : (found : List (List (ℕ × ℚ))) (cs : List (Option (List (ℕ × ℚ)))) → most_separated ≡ length found → take most_separated (with_cuts found cs) ≡ found
 first_full found cs l =
     let k = kept found cs in
-    ap (take 4) k.1 ∙ ap (λ n. take n (found ++ k.0)) l ∙ take-append_seam found k.0
+    ap (take most_separated) k.1 ∙ ap (λ n. take n (found ++ k.0)) l ∙ take-append_seam found k.0
 
--- where four are found, none of these is kept
-pub full_stays : (found : List (List (ℕ × ℚ))) (cs rest : List (Option (List (ℕ × ℚ)))) → 4 ≡ length found → take 4 (with_cuts found rest) ≡ take 4 (with_cuts found (cs ++ rest))
+-- where so many are found, none of these is kept
+pub full_stays : (found : List (List (ℕ × ℚ))) (cs rest : List (Option (List (ℕ × ℚ)))) → most_separated ≡ length found → take most_separated (with_cuts found rest) ≡ take most_separated (with_cuts found (cs ++ rest))
 full_stays found cs rest l = first_full found rest l ∙ sym (first_full found (cs ++ rest) l)
 
 -- ---- the same list

@@ -14,7 +14,7 @@ use Rattle.derivation_book.specs.Rounded.{rounded_row}
 use Rattle.derivation_book.specs.Cuts.{AreCutsOf}
 use Rattle.tableau.specs.Tableau.{Tableau}
 use Rattle.dual_simplex.specs.Relaxation.{RationalPoint, SatisfiesRow}
-use Rattle.gomory_cuts.specs.Separation.{separation}
+use Rattle.gomory_cuts.specs.Separation.{most_separated, separation}
 
 -- rising numbers of known rows with multipliers of the right signs, none of them 0; they have a rounded row, which the point violates
 pub record IsSeparating (p : Problem) (cuts : List Cut) (x : RationalPoint) (m : Multipliers) : Type 0 where
@@ -33,7 +33,7 @@ AreDifferent ms = (i j : ℕ) → i < j → j < length ms → slice_index_or ms 
 pub record IsSeparation (p : Problem) (cuts : List Cut) (x : RationalPoint) (ms : List Multipliers) : Type 0 where
   pub each : All (IsSeparating p cuts x) ms
   pub different : AreDifferent ms
-  pub few : length ms ≤ 4
+  pub few : length ms ≤ most_separated
 
 -- of each tableau and each point
 abbrev pub SeparationsSeparate : Type 0

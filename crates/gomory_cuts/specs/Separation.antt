@@ -80,6 +80,10 @@ with_cuts found [] = found
 with_cuts found (c ∷ cs) = with_cuts (with_cut found c) cs
 
 -- ---- all columns
--- the multipliers of the first four
+-- the most cuts that are separated from a point
+abbrev pub most_separated : ℕ
+most_separated = 4
+
+-- the multipliers of the first of them
 abbrev pub separation : Problem → List Cut → Tableau → RationalPoint → List Multipliers
-separation p cuts t x = take 4 (with_cuts [] (cuts_from p cuts t x 0 (length p.spans)))
+separation p cuts t x = take most_separated (with_cuts [] (cuts_from p cuts t x 0 (length p.spans)))

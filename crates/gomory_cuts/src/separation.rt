@@ -5,7 +5,7 @@ ghost use Rattle.std.specs.Ordering.{int_eq};
 ghost use Rattle.problem.specs.Linear.{Multipliers};
 ghost use Rattle.tableau.specs.Tableau.{row_of};
 ghost use Rattle.gomory_cuts.specs.declared.sign.Sign.TheVariants.{Plus, Minus};
-ghost use Rattle.gomory_cuts.specs.Separation.{cut_at, is_fractional, cuts_at, is_same, is_found, with_cuts, separation};
+ghost use Rattle.gomory_cuts.specs.Separation.{cut_at, is_fractional, cuts_at, is_same, is_found, with_cuts, most_separated, separation};
 ghost use Rattle.dual_simplex.specs.Sizes.{most_numbered_cuts};
 
 use crate::candidate::is_refused;
@@ -123,9 +123,9 @@ fn add_cut(
     requires few { length book.now.cuts < most_numbered_cuts }
     requires columns { length problem.now.spans ≤ length tableau.now.statuses }
     requires row { row.now ≡ row_of tableau.now column }
-    requires four { length found.old.items ≤ 4 }
-    ensures value { OnOk result ((rest : List (Option Multipliers)) → take 4 (with_cuts found.new.items rest) ≡ take 4 (with_cuts found.old.items (cut_at problem.now book.now.cuts tableau.now point.now column sign ∷ rest))) }
-    ensures four { OnOk result (length found.new.items ≤ 4) }
+    requires few_found { length found.old.items ≤ most_separated }
+    ensures value { OnOk result ((rest : List (Option Multipliers)) → take most_separated (with_cuts found.new.items rest) ≡ take most_separated (with_cuts found.old.items (cut_at problem.now book.now.cuts tableau.now point.now column sign ∷ rest))) }
+    ensures few_found { OnOk result (length found.new.items ≤ most_separated) }
 {
     if found.len() == MOST_SEPARATED {
         return Ok(());
@@ -152,9 +152,9 @@ fn add_cuts_of_row(
     requires few { length book.now.cuts < most_numbered_cuts }
     requires columns { length problem.now.spans ≤ length tableau.now.statuses }
     requires row { row.now ≡ row_of tableau.now column }
-    requires four { length found.old.items ≤ 4 }
-    ensures value { OnOk result ((rest : List (Option Multipliers)) → take 4 (with_cuts found.new.items rest) ≡ take 4 (with_cuts found.old.items (cut_at problem.now book.now.cuts tableau.now point.now column Plus ∷ cut_at problem.now book.now.cuts tableau.now point.now column Minus ∷ rest))) }
-    ensures four { OnOk result (length found.new.items ≤ 4) }
+    requires few_found { length found.old.items ≤ most_separated }
+    ensures value { OnOk result ((rest : List (Option Multipliers)) → take most_separated (with_cuts found.new.items rest) ≡ take most_separated (with_cuts found.old.items (cut_at problem.now book.now.cuts tableau.now point.now column Plus ∷ cut_at problem.now book.now.cuts tableau.now point.now column Minus ∷ rest))) }
+    ensures few_found { OnOk result (length found.new.items ≤ most_separated) }
 {
     add_cut(
         alloc,
@@ -197,9 +197,9 @@ fn add_cuts(
     requires column { column < length problem.now.spans }
     requires point { length point.now ≡ length problem.now.spans }
     requires same { sums.now ≡ point.now }
-    requires four { length found.old.items ≤ 4 }
-    ensures value { OnOk result ((rest : List (Option Multipliers)) → take 4 (with_cuts found.new.items rest) ≡ take 4 (with_cuts found.old.items (cuts_at problem.now book.now.cuts tableau.now point.now column ++ rest))) }
-    ensures four { OnOk result (length found.new.items ≤ 4) }
+    requires few_found { length found.old.items ≤ most_separated }
+    ensures value { OnOk result ((rest : List (Option Multipliers)) → take most_separated (with_cuts found.new.items rest) ≡ take most_separated (with_cuts found.old.items (cuts_at problem.now book.now.cuts tableau.now point.now column ++ rest))) }
+    ensures few_found { OnOk result (length found.new.items ≤ most_separated) }
 {
     // A row takes long to read, and where there is no place for its cuts it isn't.
     if found.len() == MOST_SEPARATED || !is_fractional(tableau, point, column) {

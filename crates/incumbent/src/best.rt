@@ -22,7 +22,7 @@ pub struct Incumbent {
     best: Option<Best>,
 }
 
-/// By hand, so that a proof that lets one go sees one call and not the drop of each of its parts.
+/// By hand (docs/DECISIONS.md, entry 98).
 impl Drop for Incumbent {
     fn drop(self) {
         let Incumbent { best: _ } = self;

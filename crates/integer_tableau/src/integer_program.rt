@@ -41,7 +41,7 @@ pub struct IntegerProgram {
     pub(crate) store: DictionaryStore,
 }
 
-/// By hand, so that a proof that drops a program sees one call and not the drop of each of its parts.
+/// By hand (docs/DECISIONS.md, entry 98).
 impl Drop for IntegerProgram {
     fn drop(self) {
         let IntegerProgram {

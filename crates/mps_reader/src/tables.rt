@@ -22,7 +22,7 @@ pub struct Tables<'a, B: BuildHasher + Drop> {
     pub bounds: Bounds<'a, B>,
 }
 
-/// By hand, so that a proof that lets one go sees one call and not the drop of each of its parts.
+/// By hand (docs/DECISIONS.md, entry 98).
 impl<'a, B: BuildHasher + Drop> Drop for Tables<'a, B> {
     fn drop(self) {
         let Tables {

@@ -1,7 +1,7 @@
 //! Words of sections and of bounds.
 
-ghost use Rattle.std.specs.Prelude.{◌≡◌, ℕ, IfSome, None, Some, List, [], ◌∷◌, true, false, is_some, length, codes};
-ghost use Rattle.mps_reader.specs.Words.{bound_type_of, section_of, sense_of, value_under};
+ghost use Rattle.std.specs.Prelude.{◌≡◌, ℕ, IfSome, None, Some, List, [], ◌∷◌, true, false, is_some, length};
+ghost use Rattle.mps_reader.specs.Words.{bound_type_of, later_sections, plain_bound_types, section_of, sense_of, value_under};
 ghost use Rattle.mps_reader.specs.Sections.{first_field};
 ghost use Rattle.mps_reader.specs.Tables.{texts};
 
@@ -10,7 +10,7 @@ use problem::ObjectiveSense;
 
 /// The section from RHS on that a word names.
 fn later_section_of(word: &[u8]) -> Option<Section>
-    ensures { result ≡ value_under ((codes "RHS", Section.Rhs) ∷ (codes "RANGES", Section.Ranges) ∷ (codes "BOUNDS", Section.Bounds) ∷ (codes "ENDATA", Section.EndData) ∷ []) word.now }
+    ensures { result ≡ value_under later_sections word.now }
 {
     if word == b"RHS".as_slice() {
         return Some(Section::Rhs);
@@ -77,7 +77,7 @@ pub fn first_field<'a>(fields: &[&'a [u8]]) -> &'a [u8]
 
 /// The type of a bound without a value that a word names.
 fn plain_type_of(word: &[u8]) -> Option<BoundType>
-    ensures { result ≡ value_under ((codes "FR", BoundType.Fr) ∷ (codes "MI", BoundType.Mi) ∷ (codes "PL", BoundType.Pl) ∷ (codes "BV", BoundType.Bv) ∷ []) word.now }
+    ensures { result ≡ value_under plain_bound_types word.now }
 {
     if word == b"FR".as_slice() {
         return Some(BoundType::Fr);

@@ -14,7 +14,7 @@ pub struct RationalPoint {
     numbers: Box<Numbers>,
 }
 
-/// By hand, so that a proof that lets one go sees one call and not the drop of each of its parts.
+/// By hand (docs/DECISIONS.md, entry 98).
 impl Drop for RationalPoint {
     fn drop(self) {
         let RationalPoint { numbers: _ } = self;

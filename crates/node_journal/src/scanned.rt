@@ -21,7 +21,7 @@ pub struct Scanned {
     ghost small: { list_all has_small_length (payloads_at file.items places.items) ≡ true },
 }
 
-/// By hand, so that a proof that lets one go sees one call and not the drop of each of its parts.
+/// By hand (docs/DECISIONS.md, entry 98).
 impl Drop for Scanned {
     fn drop(self) {
         let Scanned {

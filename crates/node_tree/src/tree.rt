@@ -27,7 +27,7 @@ pub struct Tree {
     area: IntBox,
 }
 
-/// By hand, so that a proof that lets one go sees one call and not the drop of each of its parts.
+/// By hand (docs/DECISIONS.md, entry 98).
 impl Drop for Tree {
     fn drop(self) {
         let Tree {

@@ -36,7 +36,7 @@ pub struct MemDisk {
     ghost replays: { bytes.items ≡ (replay (resting first.items) calls.items).seen },
 }
 
-/// By hand, so that a proof that lets one go sees one call and not the drop of each of its parts.
+/// By hand (docs/DECISIONS.md, entry 98).
 impl Drop for MemDisk {
     fn drop(self) {
         let MemDisk {

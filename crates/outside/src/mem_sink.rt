@@ -18,7 +18,7 @@ pub struct MemSink {
     ghost within: { finished ≤ length bytes.items },
 }
 
-/// By hand, so that a proof that lets one go sees one call and not the drop of each of its parts.
+/// By hand (docs/DECISIONS.md, entry 98).
 impl Drop for MemSink {
     fn drop(self) {
         let MemSink {

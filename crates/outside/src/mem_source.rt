@@ -17,7 +17,7 @@ pub struct MemSource {
     ghost some: { 0 < most },
 }
 
-/// By hand, so that a proof that lets one go sees one call and not the drop of each of its parts.
+/// By hand (docs/DECISIONS.md, entry 98).
 impl Drop for MemSource {
     fn drop(self) {
         let MemSource {

@@ -18,7 +18,7 @@ pub struct ScaledTableau {
     pub(crate) scales: Scales,
 }
 
-/// By hand, so that a proof that lets one go sees one call and not the drop of each of its parts.
+/// By hand (docs/DECISIONS.md, entry 98).
 impl Drop for ScaledTableau {
     fn drop(self) {
         let ScaledTableau {

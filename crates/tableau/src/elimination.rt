@@ -24,7 +24,7 @@ pub(crate) struct Workspace {
     spare: Entries,
 }
 
-/// By hand, so that a proof that lets one go sees one call and not the drop of each of its parts.
+/// By hand (docs/DECISIONS.md, entry 98).
 impl Drop for Workspace {
     fn drop(self) {
         let Workspace {

@@ -28,7 +28,7 @@ pub struct Tableau {
     pub(crate) work: Workspace,
 }
 
-/// By hand, so that a proof that lets one go sees one call and not the drop of each of its parts.
+/// By hand (docs/DECISIONS.md, entry 98).
 impl Drop for Tableau {
     fn drop(self) {
         let Tableau {

@@ -11,13 +11,13 @@ returns-then-len-eq-MOST_SEPARATED-clause-value c = elim c.then-len-eq-MOST_SEPA
   | then-len-eq-MOST_SEPARATED-via-then-len-eq-MOST_SEPARATED w ↦ λ rest.
       full_stays c.args.found.now.items (cuts_at c.args.problem.now c.args.book.now.cuts c.args.tableau.now c.args.point.now c.args.column) rest (sym (omega (arith, w.if-len-eq-MOST_SEPARATED.true, c.len.ensures)))
   | then-len-eq-MOST_SEPARATED-via-else-len-eq-MOST_SEPARATED+then-not-is_fractional w ↦ λ rest.
-      ap (λ b. take 4 (with_cuts c.args.found.now.items ((if b then cut_at c.args.problem.now c.args.book.now.cuts c.args.tableau.now c.args.point.now c.args.column Plus ∷ cut_at c.args.problem.now c.args.book.now.cuts c.args.tableau.now c.args.point.now c.args.column Minus ∷ [] else []) ++ rest)))
+      ap (λ b. take most_separated (with_cuts c.args.found.now.items ((if b then cut_at c.args.problem.now c.args.book.now.cuts c.args.tableau.now c.args.point.now c.args.column Plus ∷ cut_at c.args.problem.now c.args.book.now.cuts c.args.tableau.now c.args.point.now c.args.column Minus ∷ [] else []) ++ rest)))
       (sym (sym w.is_fractional.ensures ∙ w.if-not-is_fractional.true))
 ]
 
 pub returns-clause-value : goal.returns-clause-value
 returns-clause-value c =
     λ rest. c.in_ok-add_cuts_of_row.ensures.value rest
-    ∙ ap (λ x. take 4 (with_cuts c.args.found.now.items (cut_at c.args.problem.now c.args.book.now.cuts c.args.tableau.now x c.args.column Plus ∷ cut_at c.args.problem.now c.args.book.now.cuts c.args.tableau.now x c.args.column Minus ∷ rest))) c.requires.same
-    ∙ ap (λ b. take 4 (with_cuts c.args.found.now.items ((if b then cut_at c.args.problem.now c.args.book.now.cuts c.args.tableau.now c.args.point.now c.args.column Plus ∷ cut_at c.args.problem.now c.args.book.now.cuts c.args.tableau.now c.args.point.now c.args.column Minus ∷ [] else []) ++ rest)))
+    ∙ ap (λ x. take most_separated (with_cuts c.args.found.now.items (cut_at c.args.problem.now c.args.book.now.cuts c.args.tableau.now x c.args.column Plus ∷ cut_at c.args.problem.now c.args.book.now.cuts c.args.tableau.now x c.args.column Minus ∷ rest))) c.requires.same
+    ∙ ap (λ b. take most_separated (with_cuts c.args.found.now.items ((if b then cut_at c.args.problem.now c.args.book.now.cuts c.args.tableau.now c.args.point.now c.args.column Plus ∷ cut_at c.args.problem.now c.args.book.now.cuts c.args.tableau.now c.args.point.now c.args.column Minus ∷ [] else []) ++ rest)))
     (sym (sym c.is_fractional.ensures ∙ c.if-not-is_fractional.false))

@@ -4,6 +4,6 @@ use Rattle.gomory_cuts.proofs.separation.separate.Given as goal
 
 abbrev pub invariant-loop-column : goal.invariant-loop-column
 invariant-loop-column l = record {
-  rest : take 4 (with_cuts l.found.items (cuts_from l.problem l.book.cuts l.tableau l.point l.column (l.columns - l.column))) ≡ separation l.problem l.book.cuts l.tableau l.point;
-  four : length l.found.items ≤ 4;
+  rest : take most_separated (with_cuts l.found.items (cuts_from l.problem l.book.cuts l.tableau l.point l.column (l.columns - l.column))) ≡ separation l.problem l.book.cuts l.tableau l.point;
+  few_found : length l.found.items ≤ most_separated;
 }
