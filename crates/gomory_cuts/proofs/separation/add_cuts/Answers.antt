@@ -1,7 +1,7 @@
 use Rattle.std.proofs.Common.{arith, sym, ap, ◌∙◌, ◌∷◌, [], ◌++◌, take}
 use Rattle.std.specs.Prelude.{if◌then◌else◌}
 use Rattle.gomory_cuts.specs.declared.sign.Sign.TheVariants.{Plus, Minus}
-use Rattle.gomory_cuts.specs.Separation.{cut_at, cuts_at, with_cuts}
+use Rattle.gomory_cuts.specs.Separation.{cut_at, cuts_at, with_cuts, most_separated}
 use Rattle.gomory_cuts.proofs.Steps.{full_stays}
 use Rattle.gomory_cuts.proofs.separation.add_cuts.Goals as goal
 use Rattle.gomory_cuts.proofs.separation.add_cuts.Goals.{then-len-eq-MOST_SEPARATED-via-then-len-eq-MOST_SEPARATED, then-len-eq-MOST_SEPARATED-via-else-len-eq-MOST_SEPARATED+then-not-is_fractional}

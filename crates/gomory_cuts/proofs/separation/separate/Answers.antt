@@ -1,5 +1,5 @@
 use Rattle.std.proofs.Common.{sym, ap, ◌∙◌, ◌+◌, ◌-◌, take}
-use Rattle.gomory_cuts.specs.Separation.{cuts_from, with_cuts}
+use Rattle.gomory_cuts.specs.Separation.{cuts_from, with_cuts, most_separated}
 use Rattle.gomory_cuts.proofs.Steps.{one_column}
 use Rattle.gomory_cuts.proofs.separation.separate.Goals as goal
 

@@ -1,5 +1,5 @@
 use Rattle.std.proofs.Common.{◌≡◌, ◌≤◌, ◌-◌, length, take}
-use Rattle.gomory_cuts.specs.Separation.{cuts_from, with_cuts, separation}
+use Rattle.gomory_cuts.specs.Separation.{cuts_from, with_cuts, separation, most_separated}
 use Rattle.gomory_cuts.proofs.separation.separate.Given as goal
 
 abbrev pub invariant-loop-column : goal.invariant-loop-column
