@@ -1,7 +1,8 @@
-use Rattle.std.proofs.Common.{◌≡◌, ◌<◌, ◌*◌, ◌^◌, ◌-ℤ◌, ◌*ℤ◌, ℕ, ◌++◌, length, get_or, set, take, drop, map, arith, rules, refl, pos, nat_abs, ap, sym, subst, ◌∙◌, w64, to_z, of_z}
+use Rattle.std.proofs.Common.{◌≡◌, ◌<◌, ◌*◌, ◌^◌, ◌-ℤ◌, ◌*ℤ◌, ◌<ℤ◌, ℕ, ◌++◌, length, get_or, set, take, drop, map, arith, rules, refl, pos, nat_abs, ap, sym, subst, ◌∙◌, w64, to_z, of_z}
 use Rattle.std.specs.Int.{w128}
 use mir.Val.{SFits}
 use Rattle.std.proofs.lemmas.Int.{to_z-of_z}
+use Rattle.std.proofs.lemmas.Bool.{false≢true}
 use Rattle.std.proofs.lemmas.List.{get_or-map, get_or_default}
 use Rattle.fraction.specs.Rational.{whole}
 use Rattle.tableau.specs.Leaving.{unbounded, violated_bound}
@@ -20,9 +21,57 @@ use Rattle.integer_tableau.specs.IntegerTableau.{fraction_bounds}
 use Rattle.integer_tableau.specs.Kept.{KeptDictionaries, KeptDictionary, kept_at}
 use Rattle.integer_tableau.specs.Numbers.{number_at}
 use Rattle.integer_tableau.specs.Pivot.{AreSubstitutedValues}
+use Rattle.integer_tableau.specs.RowSums.{AreRowSums}
 use Rattle.integer_tableau.specs.Substitution.{quotient_numerator}
 use Rattle.integer_tableau.specs.declared.position.Position.TheVariants.{InBasis, InColumn}
 use Rattle.integer_tableau.proofs.basic_solution.BasicSolution.turn.Goals as goal
+
+pub returns-then-not-is_near-clause-turned : goal.returns-then-not-is_near-clause-turned
+returns-then-not-is_near-clause-turned c = λ e. absurd (false≢true e)
+
+pub returns-then-not-is_near-clause-near : goal.returns-then-not-is_near-clause-near
+returns-then-not-is_near-clause-near c = λ e. absurd (false≢true e)
+
+pub divisor-divisor-requires : goal.divisor-divisor-requires
+divisor-divisor-requires c = c.requires.there
+
+pub basic_columns-basic_columns-requires : goal.basic_columns-basic_columns-requires
+basic_columns-basic_columns-requires c = c.requires.there
+
+pub value_with_sums-value-requires-clause-columns : goal.value_with_sums-value-requires-clause-columns
+value_with_sums-value-requires-clause-columns c = c.requires.columns
+
+pub value_with_sums-value-requires-clause-sums : goal.value_with_sums-value-requires-clause-sums
+value_with_sums-value-requires-clause-sums c =
+    subst (λ (T : Type 0). T) (λ i. AreRowSums c.args.program_rows.now (sym c.deref-2.ensures.value i) (sym c.deref-3.ensures.value i) (sym c.deref.ensures.value i)) c.requires.solution.at.sums
+
+pub value_with_sums-value-requires-clause-bounded : goal.value_with_sums-value-requires-clause-bounded
+value_with_sums-value-requires-clause-bounded c = λ j l.
+    let compact = c.requires.solution.at.compact in
+    let many = ap length c.deref-4.ensures.value ∙ compact.values in
+    let value = ap (λ xs. nat_abs (number_at xs j)) c.deref-3.ensures.value in
+    omega (arith, value, compact.bounded j (omega (arith, l, many, compact.variables)), compact.reached j (omega (arith, l, many)))
+
+pub value_with_sums-value-requires-clause-positions_there : goal.value_with_sums-value-requires-clause-positions_there
+value_with_sums-value-requires-clause-positions_there c =
+    let at = c.requires.solution.at in
+    omega (arith, ap length c.deref-2.ensures.value, ap length c.deref-4.ensures.value, at.basis.count, at.compact.variables, at.compact.values)
+
+pub value_with_sums-value-requires-clause-nonbasic_values_there : goal.value_with_sums-value-requires-clause-nonbasic_values_there
+value_with_sums-value-requires-clause-nonbasic_values_there c =
+    let at = c.requires.solution.at in
+    ap length c.deref-3.ensures.value ∙ at.compact.consistent.nonbasic_values ∙ sym at.basis.count ∙ sym (ap length c.deref-2.ensures.value)
+
+pub value_with_sums-value-requires-clause-variable_there : goal.value_with_sums-value-requires-clause-variable_there
+value_with_sums-value-requires-clause-variable_there c = omega (arith, c.requires.turn.leaving, c.requires.solution.at.basis.count, ap length c.deref-2.ensures.value)
+
+pub value_with_sums-value-requires-clause-full : goal.value_with_sums-value-requires-clause-full
+value_with_sums-value-requires-clause-full c = λ i l.
+    let compact = c.requires.solution.at.compact in
+    compact.full i l ∙ sym (ap length c.deref-4.ensures.value ∙ compact.values)
+
+pub value_with_sums-value-requires-clause-light : goal.value_with_sums-value-requires-clause-light
+value_with_sums-value-requires-clause-light c = λ i l. omega (arith, c.requires.solution.at.compact.weights i l, c.requires.solution.at.compact.light)
 
 pub value_with_sums-value-requires-clause-near : goal.value_with_sums-value-requires-clause-near
 value_with_sums-value-requires-clause-near c =
@@ -38,6 +87,26 @@ value_with_sums-value-requires-clause-basic c =
     c.basic_columns-basic_columns.ensures ∙ c.requires.solution.kept.basic ∙ sym (same_basic 0 (length d.rows) n.positions.items d.positions c.requires.solution.at.basis)
     ∙ (λ i. basic_from 0 (sym many i) (sym c.deref-2.ensures.value i))
 
+pub value_with_sums-value-requires-clause-positive : goal.value_with_sums-value-requires-clause-positive
+value_with_sums-value-requires-clause-positive c =
+    let f : SFits w64 c.number.result = search rules in
+    subst (λ z. pos 0 <ℤ z) (sym (to_z-of_z w64 c.number.result f ∙ c.number.ensures ∙ c.divisor-divisor.ensures)) c.requires.solution.kept.positive
+
+pub index-requires : goal.index-requires
+index-requires c = omega (arith, c.requires.turn.leaving, c.requires.solution.at.compact.consistent.bounds, c.args.self.now.bounds.ok.0)
+
+pub index-left-requires : goal.index-left-requires
+index-left-requires c = omega (arith, c.requires.turn.entering, c.requires.solution.at.compact.consistent.nonbasic_values, c.args.self.now.nonbasic_values.ok.0)
+
+pub returns-in_default-clause-turned : goal.returns-in_default-clause-turned
+returns-in_default-clause-turned c = λ e. absurd (false≢true e)
+
+pub returns-in_default-clause-near : goal.returns-in_default-clause-near
+returns-in_default-clause-near c = λ e. absurd (false≢true e)
+
+pub rows-requires : goal.rows-requires
+rows-requires c = c.requires.there
+
 pub step_basic_values-requires-clause-rise : goal.step_basic_values-requires-clause-rise
 step_basic_values-requires-clause-rise c =
     let d : KeptDictionary = kept_at c.args.dictionaries.now.all c.args.place in
@@ -51,12 +120,47 @@ step_basic_values-requires-clause-there c =
     let many : length c.deref_mut.result.now ≡ length d.rows = ap length c.deref_mut.ensures.value ∙ c.requires.solution.at.compact.values in
     subst (λ js. (p : ℕ) → p < length js → get_or js p 0 < length c.deref_mut.result.now) (sym same) (λ p l. omega (arith, many, column_within 0 (length d.rows) d.positions p l))
 
+pub step_basic_values-requires-clause-rows_there : goal.step_basic_values-requires-clause-rows_there
+step_basic_values-requires-clause-rows_there c =
+    let width : c.dictionaries.inside.width ≡ c.args.dictionaries.now.width = ap (λ (k : KeptDictionaries). k.width) c.dictionaries.view_is in
+    c.rows.ensures.many ∙ (λ i. length (sym c.basic_columns-basic_columns.ensures i) * sym width i)
+
 pub step_basic_values-requires-clause-column : goal.step_basic_values-requires-clause-column
 step_basic_values-requires-clause-column c =
     let d : KeptDictionary = kept_at c.args.dictionaries.now.all c.args.place in
     let width : c.dictionaries.inside.width ≡ c.args.dictionaries.now.width = ap (λ (k : KeptDictionaries). k.width) c.dictionaries.view_is in
     let many : length d.rows ≡ c.args.dictionaries.now.width = ap length c.rows.ensures.rows ∙ rows_many _ _ _ in
     omega (arith, width, many, c.requires.solution.kept.columns, (c.requires.solution.kept.nonbasic.all c.args.turn.entering c.args.turn.column c.requires.turn.column).0)
+
+pub returns-then-not-step_basic_values-clause-turned : goal.returns-then-not-step_basic_values-clause-turned
+returns-then-not-step_basic_values-clause-turned c = λ e. absurd (false≢true e)
+
+pub returns-then-not-step_basic_values-clause-near : goal.returns-then-not-step_basic_values-clause-near
+returns-then-not-step_basic_values-clause-near c = λ e. absurd (false≢true e)
+
+pub turn_kept_sums-requires : goal.turn_kept_sums-requires
+turn_kept_sums-requires c = (c.args.program_rows.now, c.requires.columns)
+
+pub index_mut-requires : goal.index_mut-requires
+index_mut-requires c = omega (arith, c.requires.turn.leaving, c.requires.solution.at.compact.consistent.nonbasic_values, c.args.self.now.nonbasic_values.ok.0)
+
+pub index_mut-requires-2 : goal.index_mut-requires-2
+index_mut-requires-2 c = omega (arith, c.requires.turn.entering, c.requires.solution.at.compact.consistent.nonbasic_values, c.args.self.now.nonbasic_values.ok.0)
+
+pub index_mut-requires-3 : goal.index_mut-requires-3
+index_mut-requires-3 c = omega (arith, c.requires.turn.leaving, c.requires.solution.at.basis.count, c.args.self.now.positions.ok.0)
+
+pub index_mut-requires-4 : goal.index_mut-requires-4
+index_mut-requires-4 c = omega (arith, c.requires.turn.entering, c.requires.solution.at.basis.count, c.args.self.now.positions.ok.0)
+
+pub index_mut-requires-5 : goal.index_mut-requires-5
+index_mut-requires-5 c = omega (arith, c.requires.turn.leaving, c.requires.solution.at.compact.consistent.at_upper, c.args.self.now.at_upper.ok.0)
+
+pub index_mut-requires-6 : goal.index_mut-requires-6
+index_mut-requires-6 c = omega (arith, c.requires.turn.entering, c.requires.solution.at.compact.consistent.at_upper, c.args.self.now.at_upper.ok.0)
+
+pub overflow_add-self : goal.overflow_add-self
+overflow_add-self c = record { fits = c.requires.room }
 
 pub returns-clause-near : goal.returns-clause-near
 returns-clause-near c = λ _. subst (λ z. c.args.self.now.reach * nat_abs z < 2 ^ 63) (to_z-of_z w64 c.args.size c.ranges.size) (c.if-not-is_near.ensures refl)
