@@ -241,6 +241,9 @@ module _ (ps : List (List ℤ)) (weight : ℕ) (k k1 : KeptDictionaries) (same :
   pub code_full : (i : ℕ) → i < length ps → length (get_or ps i []) ≡ length (kept_at k2.all q).rows
   code_full i l = kept_here.stored.compact.full i l ∙ sym behind_here.count ∙ ap (λ (e : KeptDictionary). length e.rows) at
 
+  pub code_many : length (kept_at k2.all q).positions ≡ length (kept_at k2.all q).rows + length ps
+  code_many = subst (λ (e : KeptDictionary). length e.positions ≡ length e.rows + length ps) at (made_many ps weight k p n w size m t costs kept_here solved e solved_here behind_here)
+
   pub code_apart : (v j : ℕ) → get_or (kept_at k2.all q).positions v InBasis ≡ InColumn j → IsColumnOf (kept_at k2.all q).positions v j
   code_apart = subst (λ (e : KeptDictionary). (v j : ℕ) → get_or e.positions v InBasis ≡ InColumn j → IsColumnOf e.positions v j) at (made_apart ps weight k p n w size m t costs kept_here solved e solved_here behind_here)
 
