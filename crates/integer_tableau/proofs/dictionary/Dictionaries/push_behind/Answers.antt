@@ -1,4 +1,4 @@
-use Rattle.std.proofs.Common.{◌≡◌, ◌≢◌, ◌+◌, ◌-◌, ◌*◌, ◌++◌, ◌<◌, ◌≤◌, ◌∷◌, ◌∙◌, [], refl, sym, ap, subst, arith, rules, ℕ, Option, None, Some, List, length, get_or, set, map, w64, to_z, of_z}
+use Rattle.std.proofs.Common.{◌≡◌, ◌≢◌, ◌+◌, ◌-◌, ◌*◌, ◌++◌, ◌<◌, ◌<ℤ◌, ◌≤◌, ◌∷◌, ◌∙◌, [], refl, nat_abs, pos, sym, ap, subst, arith, rules, ℕ, Option, None, Some, List, length, get_or, set, map, w64, to_z, of_z}
 use Rattle.std.specs.Prelude.{ℤ, slice_range, All, IfNone}
 use Rattle.std.proofs.lemmas.Int.{to_z-of_z}
 use Rattle.std.proofs.lemmas.List.{append-nil, length-set}
@@ -312,3 +312,96 @@ returns-clause-pushed c =
       subst (λ (k : KeptDictionary). IsDictionaryBehind k a.turn a.solved.now a.pivot_size (new c)) (sym (own_is d.variables d.width d.numerators.items d.basic_columns.items d.nonbasic.items d.all.items a.self.now.all (view_is c) a.place c.requires.there (own c) c.index-own.ensures))
           (behind d.variables d.width d.numerators.items d.basic_columns.items d.nonbasic.items (own c) a.turn a.solved.now (turned c).before (turned c).there (js c) a.pivot_size (made c) (costs c) (exchanged c) (rows c) (costs_made c)),
     )
+
+pub returns-then-not-put_columns-clause-exits : goal.returns-then-not-put_columns-clause-exits
+returns-then-not-put_columns-clause-exits c = refl
+
+pub returns-then-not-put_columns-clause-edges : goal.returns-then-not-put_columns-clause-edges
+returns-then-not-put_columns-clause-edges c = refl
+
+pub returns-then-not-put_columns-clause-variables : goal.returns-then-not-put_columns-clause-variables
+returns-then-not-put_columns-clause-variables c = refl
+
+pub returns-then-not-put_columns-clause-width : goal.returns-then-not-put_columns-clause-width
+returns-then-not-put_columns-clause-width c = refl
+
+pub returns-in_err-size-clause-exits : goal.returns-in_err-size-clause-exits
+returns-in_err-size-clause-exits c = ap (λ (k : KeptDictionaries). k.exits) c.self.view_is
+
+pub returns-in_err-size-clause-edges : goal.returns-in_err-size-clause-edges
+returns-in_err-size-clause-edges c = ap (λ (k : KeptDictionaries). k.edges) c.self.view_is
+
+pub returns-in_err-size-clause-variables : goal.returns-in_err-size-clause-variables
+returns-in_err-size-clause-variables c = ap (λ (k : KeptDictionaries). k.variables) c.self.view_is
+
+pub returns-in_err-size-clause-width : goal.returns-in_err-size-clause-width
+returns-in_err-size-clause-width c = ap (λ (k : KeptDictionaries). k.width) c.self.view_is
+
+pub returns-in_err-push_nonbasic-clause-exits : goal.returns-in_err-push_nonbasic-clause-exits
+returns-in_err-push_nonbasic-clause-exits c = ap (λ (k : KeptDictionaries). k.exits) c.self.view_is
+
+pub returns-in_err-push_nonbasic-clause-edges : goal.returns-in_err-push_nonbasic-clause-edges
+returns-in_err-push_nonbasic-clause-edges c = ap (λ (k : KeptDictionaries). k.edges) c.self.view_is
+
+pub returns-in_err-push_nonbasic-clause-variables : goal.returns-in_err-push_nonbasic-clause-variables
+returns-in_err-push_nonbasic-clause-variables c = ap (λ (k : KeptDictionaries). k.variables) c.self.view_is
+
+pub returns-in_err-push_nonbasic-clause-width : goal.returns-in_err-push_nonbasic-clause-width
+returns-in_err-push_nonbasic-clause-width c = ap (λ (k : KeptDictionaries). k.width) c.self.view_is
+
+pub returns-in_err-ok-clause-exits : goal.returns-in_err-ok-clause-exits
+returns-in_err-ok-clause-exits c = ap (λ (k : KeptDictionaries). k.exits) c.self.view_is
+
+pub returns-in_err-ok-clause-edges : goal.returns-in_err-ok-clause-edges
+returns-in_err-ok-clause-edges c = ap (λ (k : KeptDictionaries). k.edges) c.self.view_is
+
+pub returns-in_err-ok-clause-variables : goal.returns-in_err-ok-clause-variables
+returns-in_err-ok-clause-variables c = ap (λ (k : KeptDictionaries). k.variables) c.self.view_is
+
+pub returns-in_err-ok-clause-width : goal.returns-in_err-ok-clause-width
+returns-in_err-ok-clause-width c = ap (λ (k : KeptDictionaries). k.width) c.self.view_is
+
+pub returns-in_err-ok-2-clause-exits : goal.returns-in_err-ok-2-clause-exits
+returns-in_err-ok-2-clause-exits c = ap (λ (k : KeptDictionaries). k.exits) c.self.view_is
+
+pub returns-in_err-ok-2-clause-edges : goal.returns-in_err-ok-2-clause-edges
+returns-in_err-ok-2-clause-edges c = ap (λ (k : KeptDictionaries). k.edges) c.self.view_is
+
+pub returns-in_err-ok-2-clause-variables : goal.returns-in_err-ok-2-clause-variables
+returns-in_err-ok-2-clause-variables c = ap (λ (k : KeptDictionaries). k.variables) c.self.view_is
+
+pub returns-in_err-ok-2-clause-width : goal.returns-in_err-ok-2-clause-width
+returns-in_err-ok-2-clause-width c = ap (λ (k : KeptDictionaries). k.width) c.self.view_is
+
+pub returns-clause-exits : goal.returns-clause-exits
+returns-clause-exits c = ap (λ (k : KeptDictionaries). k.exits) c.self.view_is
+
+pub returns-clause-edges : goal.returns-clause-edges
+returns-clause-edges c = ap (λ (k : KeptDictionaries). k.edges) c.self.view_is
+
+pub returns-clause-variables : goal.returns-clause-variables
+returns-clause-variables c = ap (λ (k : KeptDictionaries). k.variables) c.self.view_is
+
+pub returns-clause-width : goal.returns-clause-width
+returns-clause-width c = ap (λ (k : KeptDictionaries). k.width) c.self.view_is
+
+pub returns-then-not-put_columns-clause-failed : goal.returns-then-not-put_columns-clause-failed
+returns-then-not-put_columns-clause-failed c = refl
+
+pub returns-then-not-put_columns-clause-pushed : goal.returns-then-not-put_columns-clause-pushed
+returns-then-not-put_columns-clause-pushed c = tt
+
+pub push_numerators-requires-clause-source_small : goal.push_numerators-requires-clause-source_small
+push_numerators-requires-clause-source_small c = c.requires.source_small
+
+pub push_numerators-requires-clause-pivot_size_small : goal.push_numerators-requires-clause-pivot_size_small
+push_numerators-requires-clause-pivot_size_small c = subst (λ z. nat_abs z < size_limit) (sym (to_z-of_z w64 c.args.pivot_size c.ranges.pivot_size)) c.requires.pivot_size_small
+
+pub make-requires-clause-positive : goal.make-requires-clause-positive
+make-requires-clause-positive c = subst (λ z. pos 0 <ℤ z) (sym (to_z-of_z w64 c.args.pivot_size c.ranges.pivot_size)) c.requires.positive
+
+pub make-requires-clause-small : goal.make-requires-clause-small
+make-requires-clause-small c = subst (λ z. nat_abs z < size_limit) (sym (to_z-of_z w64 c.args.pivot_size c.ranges.pivot_size)) c.requires.pivot_size_small
+
+pub slice_bounds-old_columns-start : goal.slice_bounds-old_columns-start
+slice_bounds-old_columns-start c = omega arith
