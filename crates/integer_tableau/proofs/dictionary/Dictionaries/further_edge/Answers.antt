@@ -1,10 +1,10 @@
-use Rattle.std.proofs.Common.{◌≡◌, ◌<◌, ◌-◌, ◌∙◌, ◌++◌, ℕ, ℤ, List, Some, None, length, map, set, arith, ap, refl, sym, subst, All}
+use Rattle.std.proofs.Common.{◌≡◌, ◌<◌, ◌≤◌, ◌+◌, ◌-◌, ◌∙◌, ◌++◌, ℕ, ℤ, List, Some, None, length, map, set, arith, ap, refl, sym, subst, All}
 use Rattle.integer_tableau.proofs.ExitViews.{exit_is, view_inside}
 use Rattle.integer_tableau.proofs.ExitsFurther.{further_exit, further_taken}
 use Rattle.integer_tableau.proofs.ExitsKept.{IsNoted, edges_grown, exit_changed, noted_one}
 use Rattle.integer_tableau.specs.Entering.{entering_by_numerators}
 use Rattle.integer_tableau.specs.Exits.{AreEdgesTo, IsEdge, edge_at}
-use Rattle.integer_tableau.specs.Kept.{AreKept, IsExitOf, IsTaken, KeptDictionaries, KeptDictionary, Leads, edges_of, exit_at, kept_at, row_in}
+use Rattle.integer_tableau.specs.Kept.{AreKept, IsExitOf, IsTaken, KeptDictionaries, KeptDictionary, Leads, dictionary_in, edges_of, exit_at, kept_at, row_in}
 use Rattle.integer_tableau.specs.RankedColumns.{edge_of}
 use Rattle.integer_tableau.specs.declared.entering.Candidate.{Candidate}
 use Rattle.integer_tableau.specs.declared.exits.Edge.{Edge}
@@ -121,3 +121,77 @@ returns-clause-taken c = λ ps row_is.
     subst (λ e. IsTaken ps es c.args.place d c.args.solution.now (exit_at c.args.self.now.exits c.args.exit).variable c.args.direction (Some e)) many
     (subst (λ v. IsTaken ps es c.args.place d c.args.solution.now v c.args.direction (Some (length es - 1))) named
     (by_others k.0 ps es c.args.place d c.args.solution.now (x c).variable c.args.direction (length es - 1) (sym (row c k.0 k.1 k.2 k.4 k.3) ∙ here) (taken c k.0 k.1 k.2 k.4 k.3)))
+
+pub rank_further-requires-clause-kept : goal.rank_further-requires-clause-kept
+rank_further-requires-clause-kept c = c.requires.kept
+
+pub rank_further-requires-clause-place_there : goal.rank_further-requires-clause-place_there
+rank_further-requires-clause-place_there c = c.requires.place_there
+
+pub rank_further-requires-clause-there : goal.rank_further-requires-clause-there
+rank_further-requires-clause-there c = c.requires.there
+
+pub rank_further-requires-clause-from : goal.rank_further-requires-clause-from
+rank_further-requires-clause-from c = c.requires.from
+
+pub rank_further-requires-clause-at_upper_there : goal.rank_further-requires-clause-at_upper_there
+rank_further-requires-clause-at_upper_there c = c.requires.at_upper_there
+
+pub rank_further-requires-clause-bounds_there : goal.rank_further-requires-clause-bounds_there
+rank_further-requires-clause-bounds_there c = c.requires.bounds_there
+
+pub rank_further-requires-clause-none : goal.rank_further-requires-clause-none
+rank_further-requires-clause-none c = c.requires.none
+
+pub returns-in_err-rank_further-clause-kept : goal.returns-in_err-rank_further-clause-kept
+returns-in_err-rank_further-clause-kept c = λ ps weight costs row_is h. h
+
+pub returns-then-not-branch-clause-kept : goal.returns-then-not-branch-clause-kept
+returns-then-not-branch-clause-kept c = λ ps weight costs row_is h. h
+
+pub returns-in_err-rank_further-clause-same : goal.returns-in_err-rank_further-clause-same
+returns-in_err-rank_further-clause-same c = refl
+
+pub returns-then-not-branch-clause-same : goal.returns-then-not-branch-clause-same
+returns-then-not-branch-clause-same c = refl
+
+pub returns-then-not-branch-clause-taken : goal.returns-then-not-branch-clause-taken
+returns-then-not-branch-clause-taken c = λ ps row_is.
+    let d : KeptDictionary = kept_at c.args.self.now.all c.args.place in
+    let n = c.args.solution.now in
+    record {
+      enters = ap (entering_by_numerators 0 c.args.direction None d.positions n.at_upper.items n.bounds.items d.reduced_costs) (sym row_is) ∙ c.in_ok-rank_further.ensures.none c.if-not-branch.true;
+      within = tt;
+      own = tt;
+    }
+
+pub index-requires : goal.index-requires
+index-requires c = omega (arith, c.requires.there, ap (λ (k : KeptDictionaries). length k.exits) c.self.view_is, c.self.inside.exits.ok.0)
+
+pub lengthen-requires : goal.lengthen-requires
+lengthen-requires c = 
+    let k = c.requires.kept in
+    let old : KeptDictionaries = view_inside c.self.inside in
+    let there : c.args.exit < length old.exits = subst (λ (k : KeptDictionaries). c.args.exit < length k.exits) (sym c.self.view_is) c.requires.there in
+    let within = (noted_one k.0 k.1 k.2 old (subst (AreKept k.0 k.1 k.2) (sym c.self.view_is) k.3) c.args.exit there).1.within in
+    subst (λ (x : Exit). x.first + x.count ≤ length old.edges) (sym (exit_is c.self.inside old c.args.exit c.index.result.now refl there c.index.ensures)) within
+
+pub invariant_of-self : goal.invariant_of-self
+invariant_of-self c = c.self.invariant
+
+pub returns-in_err-self-inside-clause-same : goal.returns-in_err-self-inside-clause-same
+returns-in_err-self-inside-clause-same c = ap (λ (k : KeptDictionaries). map dictionary_in k.all) c.self.view_is
+
+pub index_mut-requires : goal.index_mut-requires
+index_mut-requires c = omega (arith, c.requires.there, ap (λ (k : KeptDictionaries). length k.exits) c.self.view_is, c.self.inside.exits.ok.0)
+
+pub invariant_of-self-2 : goal.invariant_of-self-2
+invariant_of-self-2 c = c.self.invariant
+
+pub returns-clause-same : goal.returns-clause-same
+returns-clause-same c = ap (λ (k : KeptDictionaries). map dictionary_in k.all) c.self.view_is
+
+pub overflow_sub-result : goal.overflow_sub-result
+overflow_sub-result c =
+    let k = c.requires.kept in
+    omega (arith, (taken c k.0 k.1 k.2 k.4 k.3).within, c.len.ensures, c.lengthen.new.edges.ok.0)
