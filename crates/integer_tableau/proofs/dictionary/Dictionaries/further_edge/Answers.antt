@@ -169,7 +169,7 @@ pub index-requires : goal.index-requires
 index-requires c = omega (arith, c.requires.there, ap (λ (k : KeptDictionaries). length k.exits) c.self.view_is, c.self.inside.exits.ok.0)
 
 pub lengthen-requires : goal.lengthen-requires
-lengthen-requires c = 
+lengthen-requires c =
     let k = c.requires.kept in
     let old : KeptDictionaries = view_inside c.self.inside in
     let there : c.args.exit < length old.exits = subst (λ (k : KeptDictionaries). c.args.exit < length k.exits) (sym c.self.view_is) c.requires.there in

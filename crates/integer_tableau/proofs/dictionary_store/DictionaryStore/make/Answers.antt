@@ -34,12 +34,12 @@ pub divisor-requires : goal.divisor-requires
 divisor-requires c = subst (λ k. c.args.place < length k.all) (sym c.put_turn_row.ensures.kept) c.requires.there
 
 pub solve-requires-clause-column : goal.solve-requires-clause-column
-solve-requires-clause-column c = 
+solve-requires-clause-column c =
     turn_column_there c.args.program_rows.now c.args.weight c.args.self.now.kept c.args.place c.requires.turning.0 c.args.turn c.args.pivot_size c.args.solution.now c.requires.turning.1
     _ c.in_ok-put_turn_row.ensures.row
 
 pub solve-requires-clause-denominator_positive : goal.solve-requires-clause-denominator_positive
-solve-requires-clause-denominator_positive c = 
+solve-requires-clause-denominator_positive c =
     let a = c.args in
     let f : SFits w64 c.number-denominator.result = search rules in
     let y = to_z-of_z w64 c.number-denominator.result f ∙ c.number-denominator.ensures ∙ c.divisor.ensures ∙ ap (λ k. (kept_at k.all a.place).denominator) c.put_turn_row.ensures.kept in
@@ -47,7 +47,7 @@ solve-requires-clause-denominator_positive c =
     subst (λ z. pos 0 <ℤ z) (sym y) kept.positive
 
 pub solve-requires-clause-denominator_small : goal.solve-requires-clause-denominator_small
-solve-requires-clause-denominator_small c = 
+solve-requires-clause-denominator_small c =
     let a = c.args in
     let f : SFits w64 c.number-denominator.result = search rules in
     let y = to_z-of_z w64 c.number-denominator.result f ∙ c.number-denominator.ensures ∙ c.divisor.ensures ∙ ap (λ k. (kept_at k.all a.place).denominator) c.put_turn_row.ensures.kept in
@@ -105,12 +105,12 @@ pub push_behind-requires-clause-source_small : goal.push_behind-requires-clause-
 push_behind-requires-clause-source_small c = (c.if-not-solve.ensures refl).after
 
 pub push_behind-requires-clause-positive : goal.push_behind-requires-clause-positive
-push_behind-requires-clause-positive c = 
+push_behind-requires-clause-positive c =
     subst (λ z. pos 0 <ℤ z) (sym (to_z-of_z w64 c.args.pivot_size c.ranges.pivot_size))
     (turn_size_positive c.args.program_rows.now c.args.weight c.args.self.now.kept c.args.place c.requires.turning.0 c.args.turn c.args.pivot_size c.args.solution.now c.requires.turning.1)
 
 pub push_behind-requires-clause-pivot_size_small : goal.push_behind-requires-clause-pivot_size_small
-push_behind-requires-clause-pivot_size_small c = 
+push_behind-requires-clause-pivot_size_small c =
     subst (λ z. nat_abs z < size_limit) (sym (to_z-of_z w64 c.args.pivot_size c.ranges.pivot_size))
     (turn_size_small c.args.program_rows.now c.args.weight c.args.self.now.kept c.args.place c.requires.turning.0 c.args.turn c.args.pivot_size c.args.solution.now c.requires.turning.1)
 
