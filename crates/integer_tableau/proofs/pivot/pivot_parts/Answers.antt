@@ -1,5 +1,6 @@
-use Rattle.std.proofs.Common.{◌≡◌, ◌<◌, ◌<ℤ◌, ℤ, arith, ◌+◌, ◌-ℤ◌, ◌*ℤ◌, [], refl, rules, false, length, get_or, set, nat_abs, pos, ap, sym, subst, ◌∙◌, w64, to_z, of_z}
+use Rattle.std.proofs.Common.{◌≡◌, ◌<◌, ◌<ℤ◌, ℤ, Option, None, arith, ◌+◌, ◌-ℤ◌, ◌*ℤ◌, [], refl, rules, false, length, get_or, set, nat_abs, pos, ap, sym, subst, ◌∙◌, w64, to_z, of_z}
 use Rattle.std.specs.Int.{w128}
+use Rattle.std.specs.Option.{IfSome}
 use mir.Val.{SFits}
 use Rattle.std.proofs.lemmas.Int.{to_z-of_z}
 use Rattle.integer_tableau.specs.Combined.{expanded_rows, expanded_values}
@@ -14,6 +15,90 @@ use Rattle.integer_tableau.proofs.ListedRows.{after_has_rows, basic_rows, list_a
 use Rattle.integer_tableau.specs.BasicColumns.{basic_from, count_below}
 use Rattle.integer_tableau.proofs.FromCode.{near_from_code, pivoted_from, positive_from, small_from_code}
 use Rattle.integer_tableau.proofs.pivot.pivot_parts.Goals as goal
+
+none_then : {A : Type 0} (o : Option A) (P : A → Type 0) → o ≡ None → IfSome o P
+none_then o P e = subst (λ o. IfSome o P) (sym e) tt
+
+pub returns-in_default-clause-nonbasic : goal.returns-in_default-clause-nonbasic
+returns-in_default-clause-nonbasic c = tt
+
+pub returns-in_default-clause-basic : goal.returns-in_default-clause-basic
+returns-in_default-clause-basic c = tt
+
+pub returns-in_default-clause-pivoted : goal.returns-in_default-clause-pivoted
+returns-in_default-clause-pivoted c = tt
+
+pub leave-requires-clause-leaving_there : goal.leave-requires-clause-leaving_there
+leave-requires-clause-leaving_there c = c.requires.leaving_there
+
+pub leave-requires-clause-entering_there : goal.leave-requires-clause-entering_there
+leave-requires-clause-entering_there c = c.requires.entering_there
+
+pub leave-requires-clause-bounds_there : goal.leave-requires-clause-bounds_there
+leave-requires-clause-bounds_there c = c.requires.bounds_there
+
+pub leave-requires-clause-nonbasic_values_there : goal.leave-requires-clause-nonbasic_values_there
+leave-requires-clause-nonbasic_values_there c = c.requires.nonbasic_values_there
+
+pub leave-requires-clause-positions_there : goal.leave-requires-clause-positions_there
+leave-requires-clause-positions_there c = c.requires.positions_there
+
+pub leave-requires-clause-values_there : goal.leave-requires-clause-values_there
+leave-requires-clause-values_there c = c.requires.values_there
+
+pub returns-in_err-value-clause-nonbasic : goal.returns-in_err-value-clause-nonbasic
+returns-in_err-value-clause-nonbasic c = none_then c.from_residual.result _ c.from_residual.ensures
+
+pub returns-in_err-value-clause-basic : goal.returns-in_err-value-clause-basic
+returns-in_err-value-clause-basic c = none_then c.from_residual.result _ c.from_residual.ensures
+
+pub returns-in_err-value-clause-pivoted : goal.returns-in_err-value-clause-pivoted
+returns-in_err-value-clause-pivoted c = none_then c.from_residual.result _ c.from_residual.ensures
+
+pub exchange_numbers-requires-clause-positive : goal.exchange_numbers-requires-clause-positive
+exchange_numbers-requires-clause-positive c = subst (λ (z : ℤ). pos 0 <ℤ z) (sym (to_z-of_z w64 c.args.denominator c.ranges.denominator)) c.requires.positive
+
+pub exchange_numbers-requires-clause-values_there : goal.exchange_numbers-requires-clause-values_there
+exchange_numbers-requires-clause-values_there c = omega (arith, c.requires.values_there, c.leave.auto.rows)
+
+pub exchange_numbers-requires-clause-coefficient : goal.exchange_numbers-requires-clause-coefficient
+exchange_numbers-requires-clause-coefficient c = c.in_ok-value.ensures.there.coefficient
+
+pub returns-then-not-exchange_numbers-clause-nonbasic : goal.returns-then-not-exchange_numbers-clause-nonbasic
+returns-then-not-exchange_numbers-clause-nonbasic c = tt
+
+pub returns-then-not-exchange_numbers-clause-basic : goal.returns-then-not-exchange_numbers-clause-basic
+returns-then-not-exchange_numbers-clause-basic c = tt
+
+pub returns-then-not-exchange_numbers-clause-pivoted : goal.returns-then-not-exchange_numbers-clause-pivoted
+returns-then-not-exchange_numbers-clause-pivoted c = tt
+
+pub returns-then-not-exchange_columns-clause-nonbasic : goal.returns-then-not-exchange_columns-clause-nonbasic
+returns-then-not-exchange_columns-clause-nonbasic c = tt
+
+pub returns-then-not-exchange_columns-clause-basic : goal.returns-then-not-exchange_columns-clause-basic
+returns-then-not-exchange_columns-clause-basic c = tt
+
+pub returns-then-not-exchange_columns-clause-pivoted : goal.returns-then-not-exchange_columns-clause-pivoted
+returns-then-not-exchange_columns-clause-pivoted c = tt
+
+pub returns-then-not-is_near-clause-nonbasic : goal.returns-then-not-is_near-clause-nonbasic
+returns-then-not-is_near-clause-nonbasic c = tt
+
+pub returns-then-not-is_near-clause-basic : goal.returns-then-not-is_near-clause-basic
+returns-then-not-is_near-clause-basic c = tt
+
+pub returns-then-not-is_near-clause-pivoted : goal.returns-then-not-is_near-clause-pivoted
+returns-then-not-is_near-clause-pivoted c = tt
+
+pub are_combinations_small-requires-clause-full : goal.are_combinations_small-requires-clause-full
+are_combinations_small-requires-clause-full c = λ i l. c.requires.compact.full i l ∙ sym (c.exchange_numbers.auto.rows ∙ c.leave.auto.rows)
+
+pub are_combinations_small-requires-clause-weights : goal.are_combinations_small-requires-clause-weights
+are_combinations_small-requires-clause-weights c = c.requires.compact.weights
+
+pub are_combinations_small-requires-clause-light : goal.are_combinations_small-requires-clause-light
+are_combinations_small-requires-clause-light c = c.requires.compact.light
 
 pub leave-requires-clause-near : goal.leave-requires-clause-near
 leave-requires-clause-near c = near_from_code _ _ _ _ c.requires.compact c.args.nonbasic_values.now c.args.values.now _ refl refl (ap nat_abs (to_z-of_z w64 c.args.denominator c.ranges.denominator))
