@@ -1,4 +1,4 @@
-use Rattle.std.proofs.Common.{◌≡◌, ◌<◌, ◌+◌, ◌∙◌, ◌⊎◌, ◌++◌, ◌∷◌, [], length, map, get_or, set, ap, refl, sym, subst}
+use Rattle.std.proofs.Common.{◌≡◌, ◌<◌, ◌+◌, ◌∙◌, ◌⊎◌, ◌++◌, ◌∷◌, [], arith, length, map, get_or, set, ap, refl, sym, subst}
 use Rattle.std.specs.Prelude.{slice_range}
 use Rattle.integer_tableau.proofs.ExitViews.{changed_in_lists, changed_is, kept_inside, own_is, own_there, view_inside}
 use Rattle.integer_tableau.proofs.ExitsKept.{changed, exit_begun, exit_pushed, exits_stay, same_dictionaries}
@@ -24,6 +24,27 @@ module _ (c : After-branch-first) where
 
   put : (c.move_to_end.new.list.items ≡ old.exits) ⊎ (c.move_to_end.new.list.items ≡ old.exits ++ exits_of old.exits (kept_at old.all c.args.place))
   put = subst (λ d. (c.move_to_end.new.list.items ≡ old.exits) ⊎ (c.move_to_end.new.list.items ≡ old.exits ++ exits_of old.exits d)) (sym own) c.move_to_end.ensures.pushed
+
+pub index-own-requires : goal.index-own-requires
+index-own-requires c = omega (arith, own_there c.self.inside c.args.self.now c.self.view_is c.args.place c.requires.there, c.self.inside.all.ok.0)
+
+pub move_to_end-requires-clause-clones : goal.move_to_end-requires-clause-clones
+move_to_end-requires-clause-clones c = λ x y e. e
+
+pub invariant_of-self : goal.invariant_of-self
+invariant_of-self c = c.self.invariant
+
+pub returns-in_err-first-clause-same : goal.returns-in_err-first-clause-same
+returns-in_err-first-clause-same c = ap (λ (k : KeptDictionaries). map dictionary_in k.all) c.self.view_is
+
+pub invariant_of-self-in_err-push : goal.invariant_of-self-in_err-push
+invariant_of-self-in_err-push c = c.self.invariant
+
+pub returns-in_err-push-clause-same : goal.returns-in_err-push-clause-same
+returns-in_err-push-clause-same c = ap (λ (k : KeptDictionaries). map dictionary_in k.all) c.self.view_is
+
+pub index_mut-requires : goal.index_mut-requires
+index_mut-requires c = omega (arith, own_there c.self.inside c.args.self.now c.self.view_is c.args.place c.requires.there, c.self.inside.all.ok.0)
 
 pub returns-in_err-first-clause-kept : goal.returns-in_err-first-clause-kept
 returns-in_err-first-clause-kept c = λ ps weight costs h.
