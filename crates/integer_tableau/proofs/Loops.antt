@@ -1,5 +1,5 @@
 -- The steps of the inner loop.
-use Rattle.std.proofs.Common.{◌≡◌, ◌≢◌, ℕ, ◌+◌, ◌-◌, ◌*◌, ◌%◌, ◌^◌, ◌<◌, ◌≤◌, ℤ, pos, to_z, of_z, List, length, set, arith, ap, ◌∙◌, get_or-set_other, get_or-set_same, below_more, sym, inl, inr}
+use Rattle.std.proofs.Common.{◌≡◌, ◌≢◌, ℕ, ◌+◌, ◌-◌, ◌*◌, ◌%◌, ◌^◌, ◌<◌, ◌≤◌, ℤ, pos, to_z, of_z, List, length, set, arith, ap, ◌∙◌, get_or-set_other, get_or-set_same, below_more, sym, subst, inl, inr}
 use Rattle.std.specs.Prelude.{nat_abs, neg_ℤ, ◌+ℤ◌, ◌-ℤ◌, ◌*ℤ◌}
 use Rattle.std.specs.Int.{w64, w128}
 use Rattle.std.proofs.lemmas.Int.{ints, to_z-of_z, fits_signed_from_abs}
@@ -82,15 +82,29 @@ back_neg e h = omega (arith, ints)
 abbrev IsSumAt : ℤ → ℤ → ℤ → List ℤ → List ℤ → List ℤ → ℕ → Type 0
 IsSumAt d e q row source new k = number_at new k *ℤ d ≡ number_at row k *ℤ e +ℤ number_at source k *ℤ q
 
-pub summed_more : (new row source : List ℤ) (i : ℕ) (t d e q : ℤ) (high far limit zeros : ℕ) → i < length new
-    → (high < limit → high % 2 ^ zeros ≡ 0 → (k : ℕ) → k < i → IsSumAt d e q row source new k)
-    → (far < limit → far % 2 ^ zeros ≡ 0 → t *ℤ d ≡ number_at row i *ℤ e +ℤ number_at source i *ℤ q)
-    → bit_or high far < limit → bit_or high far % 2 ^ zeros ≡ 0 → (k : ℕ) → k < i + 1 → IsSumAt d e q row source (set new i t) k
-summed_more new row source i t d e q high far limit zeros l h o a b =
-    let z = or_zero (high % 2 ^ zeros) (far % 2 ^ zeros) (sym (or_mod high far zeros) ∙ b) in
-    below_more (IsSumAt d e q row source (set new i t)) i
-    (λ k n. let ne : k ≢ i = omega arith in ap (λ z. z *ℤ d) (get_or-set_other new i k t (pos 0) ne) ∙ h (omega (arith, a, le_or_l high far)) z.0 k n)
-    (ap (λ z. z *ℤ d) (get_or-set_same new i t (pos 0) l) ∙ o (omega (arith, a, le_or_r high far)) z.1)
+-- the numbers below i are substituted, where the raised sums say so; those from i on are still the row's
+pub record AreSubstitutedTo (i high limit zeros : ℕ) (d e q : ℤ) (row source new : List ℤ) : Type 0 where
+  pub done : high < limit → high % 2 ^ zeros ≡ 0 → (k : ℕ) → k < i → IsSumAt d e q row source new k
+  pub left : (k : ℕ) → i ≤ k → number_at new k ≡ number_at row k
+
+pub one_more : (i j high far limit zeros : ℕ) (d e q : ℤ) (row source new after : List ℤ) → j ≡ i + 1 → after ≡ set new i (number_at after i)
+    → AreSubstitutedTo i high limit zeros d e q row source new
+    → (nat_abs (number_at new i) * nat_abs e + nat_abs (number_at source i) * nat_abs q < 2 ^ 63 → far < limit → far % 2 ^ zeros ≡ 0 → number_at after i *ℤ d ≡ number_at new i *ℤ e +ℤ number_at source i *ℤ q)
+    → nat_abs (number_at row i) * nat_abs e + nat_abs (number_at source i) * nat_abs q < 2 ^ 63
+    → AreSubstitutedTo j (bit_or high far) limit zeros d e q row source after
+one_more i j high far limit zeros d e q row source new after n same before exact fits =
+    let still = before.left i (omega arith) in
+    let other = λ (k : ℕ) (ne : k ≢ i). ap (λ xs. number_at xs k) same ∙ get_or-set_other new i k (number_at after i) (pos 0) ne in
+    record {
+      done = λ a b k m.
+          let z = or_zero (high % 2 ^ zeros) (far % 2 ^ zeros) (sym (or_mod high far zeros) ∙ b) in
+          below_more (IsSumAt d e q row source after) i
+          (λ k m. let ne : k ≢ i = omega arith in ap (λ y. y *ℤ d) (other k ne) ∙ before.done (omega (arith, a, le_or_l high far)) z.0 k m)
+          (exact (subst (λ y. nat_abs y * nat_abs e + nat_abs (number_at source i) * nat_abs q < 2 ^ 63) (sym still) fits) (omega (arith, a, le_or_r high far)) z.1
+          ∙ ap (λ y. y *ℤ e +ℤ number_at source i *ℤ q) still)
+          k (omega (arith, m));
+      left = λ k m. let ne : k ≢ i = omega arith in other k ne ∙ before.left k (omega arith);
+    }
 
 pub all_summed : (new row source : List ℤ) (d e q : ℤ) → length new ≡ length row → length row ≡ length source
     → ((k : ℕ) → k < length row → IsSumAt d e q row source new k) → (k : ℕ) → IsSumAt d e q row source new k
