@@ -87,6 +87,7 @@ pub record AreSubstitutedTo (i high limit zeros : ℕ) (d e q : ℤ) (row source
   pub done : high < limit → high % 2 ^ zeros ≡ 0 → (k : ℕ) → k < i → IsSumAt d e q row source new k
   pub left : (k : ℕ) → i ≤ k → number_at new k ≡ number_at row k
 
+-- the number at i is substituted too
 pub one_more : (i j high far limit zeros : ℕ) (d e q : ℤ) (row source new after : List ℤ) → j ≡ i + 1 → after ≡ set new i (number_at after i)
     → AreSubstitutedTo i high limit zeros d e q row source new
     → (nat_abs (number_at new i) * nat_abs e + nat_abs (number_at source i) * nat_abs q < 2 ^ 63 → far < limit → far % 2 ^ zeros ≡ 0 → number_at after i *ℤ d ≡ number_at new i *ℤ e +ℤ number_at source i *ℤ q)
