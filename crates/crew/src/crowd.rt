@@ -1,7 +1,7 @@
 //! Whether a worker is in the way of others.
 //!
 //! Where a node takes about as long as the turns that it needs, more workers gain nothing: they wait for one another, and the pool moves from core to
-//! core. Then a worker but the first rests between two nodes, and longer each time that it finds no room. The others go on at full speed, and the one
+//! core. Then a worker but the first rests between two nodes, until its looks at the lock tell of room. The others go on at full speed, and the one
 //! that rests comes back where nodes get dear again. All this is counted in turns, since no clock is at hand: the turns of others for which the worker
 //! waited, and those that ended while it worked on its own (docs/DECISIONS.md, entry 71).
 
@@ -20,13 +20,13 @@ const PATIENCE_OF_TRIAL: u64 = 2;
 /// For how many nodes such a worker tries.
 const TRIAL: u32 = 4;
 
-/// How long a worker rests, in microseconds: so long at first, and so many times as long where it finds no room, but no longer than this. A longer
-/// rest leaves workers out where nodes get dear, and by shorter ones those that come to look cost the others some percent of their speed.
-const NAP: u64 = 4_000;
+/// How long a worker that rests sleeps between two looks at the lock, in microseconds: so long at first, and so many times as long each time that it
+/// was in the way of others right after a rest, but no longer than this.
+const NAP: u64 = 1_000;
 
 const GROWTH: u64 = 4;
 
-const LONGEST: u64 = 256_000;
+const LONGEST: u64 = 16_000;
 
 /// What a worker is to do before it claims the next node.
 #[derive(Clone, Copy, Debug, PartialEq, Eq)]
@@ -35,7 +35,7 @@ pub(crate) enum Advice {
     GoOn,
     /// Tell the others that it is at work again: there is room for it.
     Stay,
-    /// Rest for so many microseconds, since it is in the way of others.
+    /// Rest, since it is in the way of others, with sleeps of so many microseconds between its looks at the lock.
     Rest { nap: u64 },
 }
 
@@ -64,10 +64,10 @@ pub(crate) struct Crowd {
 }
 
 impl Crowd {
-    /// Nothing seen yet. The rank is the number of workers that are less patient, and this one.
+    /// Nothing seen yet, and no node claimed. The rank is the number of workers that are less patient, and this one.
     pub(crate) fn new(rank: u32) -> Crowd {
         Crowd {
-            stance: Stance::Stays,
+            stance: Stance::Rests,
             since: Traffic::none(),
             excess: 0,
             patience: u64::from(rank).saturating_mul(PATIENCE * SHARE),

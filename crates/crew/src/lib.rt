@@ -3,6 +3,7 @@
 
 mod crowd;
 mod cuts;
+mod looks;
 mod node_view;
 mod node_work;
 mod pause;

@@ -53,10 +53,15 @@ impl Roster {
         self.resting.fetch_and(!bit_of(rank), Ordering::SeqCst);
     }
 
-    /// Whether a worker of this rank that rests may look for work: those that came before it are all at work, or the search is over.
-    pub(crate) fn has_room(&self, rank: u32) -> bool {
+    /// Whether the workers that came before this one are all at work.
+    pub(crate) fn are_at_work_before(&self, rank: u32) -> bool {
         let before = bit_of(rank).wrapping_sub(1);
-        self.resting.load(Ordering::SeqCst) & before == 0 || self.over.load(Ordering::SeqCst) != 0
+        self.resting.load(Ordering::SeqCst) & before == 0
+    }
+
+    /// Whether the search is over.
+    pub(crate) fn is_over(&self) -> bool {
+        self.over.load(Ordering::SeqCst) != 0
     }
 
     /// Sleeps for so many microseconds, or until the search is over.

@@ -116,10 +116,11 @@ fn go_on<R: Wait, G: PoolGate, H: Hold>(
     ensures over { IsOver (G.seen gate.new) }
 {
     let mut pauses = Pauses::new(roster, settings.workers);
+    pauses.begin(rt, &*gate);
     for _ in rt.forever() {
         hold.asks(number);
         match round(rt, alloc, gate, problem, worker, settings.cuts, &mut pauses) {
-            Progress::Settled => pauses.settled(rt, gate.traffic()),
+            Progress::Settled => pauses.settled(rt, &*gate),
             Progress::Idle => pauses.idle(rt, gate.traffic()),
             Progress::Over => return,
         }

@@ -8,7 +8,7 @@ use node_pool::{Claim, CommitFault, Receipt};
 use outside::Disk;
 use std::alloc::{AllocError, Global};
 use std::sync::Wait;
-use turn_lock::Traffic;
+use turn_lock::{Tickets, Traffic};
 
 /// A gate to a pool that nobody else asks.
 pub struct FakeGate<D: Disk> {
@@ -47,6 +47,10 @@ impl<D: Disk> PoolGate for FakeGate<D> {
 
     fn traffic(&self) -> Traffic {
         Traffic::none()
+    }
+
+    fn tickets(&self) -> Tickets {
+        Tickets::none()
     }
 
     fn claim<R: Wait>(&mut self, _rt: &R, alloc: Global) -> Result<Claim, AllocError> {

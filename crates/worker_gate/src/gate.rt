@@ -5,7 +5,7 @@ use expand::Finding;
 use node_pool::{Claim, CommitFault, Receipt};
 use std::alloc::{AllocError, Global};
 use std::sync::Wait;
-use turn_lock::Traffic;
+use turn_lock::{Tickets, Traffic};
 
 /// What a worker may ask of a pool.
 ///
@@ -32,6 +32,9 @@ pub trait PoolGate {
 
     /// How often the gate's calls met those of others. It is a hint: no contract says what it is.
     fn traffic(&self) -> Traffic;
+
+    /// How many turns were asked for and have ended, of this gate and of others. It takes no turn. It is a hint: no contract says what it is.
+    fn tickets(&self) -> Tickets;
 
     /// Asks for a node, as `Pool::claim` gives it. The one error is want of memory.
     fn claim<R: Wait>(&mut self, rt: &R, alloc: Global) -> Result<Claim, AllocError>

@@ -11,7 +11,7 @@ use outside::Disk;
 use std::alloc::{AllocError, Global};
 use std::mem;
 use std::sync::Wait;
-use turn_lock::{Pass, Traffic, TurnLock};
+use turn_lock::{Pass, Tickets, Traffic, TurnLock};
 
 /// A gate to the pool under a lock (docs/DECISIONS.md, entry 56). Between two calls it has a pass and no turn. It has to be ended by `into_pass`.
 pub struct LockGate<'a, D: Disk> {
@@ -70,6 +70,10 @@ impl<'a, D: Disk> PoolGate for LockGate<'a, D> {
             Some(pass) => pass.traffic(),
             None => Traffic::none(),
         }
+    }
+
+    fn tickets(&self) -> Tickets {
+        self.lock.tickets()
     }
 
     fn claim<R: Wait>(&mut self, rt: &R, alloc: Global) -> Result<Claim, AllocError> {
