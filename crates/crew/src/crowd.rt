@@ -77,8 +77,8 @@ impl Crowd {
 
     // Notes the turns of others since the last node.
     fn note(&mut self, traffic: Traffic) {
-        let waited = traffic.waited().wrapping_sub(self.since.waited());
-        let passed = traffic.passed().wrapping_sub(self.since.passed());
+        let waited = traffic.waited.wrapping_sub(self.since.waited);
+        let passed = traffic.passed.wrapping_sub(self.since.passed);
         self.since = traffic;
         self.excess = self
             .excess
@@ -97,7 +97,7 @@ impl Crowd {
         if self.stance != Stance::Rests {
             return;
         }
-        let waited = traffic.waited().wrapping_sub(self.since.waited());
+        let waited = traffic.waited.wrapping_sub(self.since.waited);
         self.since = traffic;
         self.excess = waited.saturating_mul(SHARE);
         self.stance = Stance::Tries { nodes: TRIAL };

@@ -9,8 +9,10 @@ use turn_lock::Tickets;
 /// How many looks tell enough.
 const ENOUGH: u32 = 16;
 
-/// The lock may be in use for so many of five parts of the time.
+/// The lock may be in use for so many parts of the time, where so many are all of it.
 const MOST_IN_USE: u32 = 4;
+
+const PARTS: u32 = 5;
 
 /// Where turns are long, the lock has to be free at so many of the looks at least.
 const LEAST_FREE: u32 = 2;
@@ -40,7 +42,7 @@ impl Looks {
         self.count = self.count.saturating_add(1);
         if first.are_served() {
             self.free = self.free.saturating_add(1);
-        } else if first.served() == second.served() {
+        } else if first.served == second.served {
             self.long = self.long.saturating_add(1);
         }
     }
@@ -63,7 +65,10 @@ impl Looks {
 
     /// Whether the lock would have room for so many workers, where these looks saw so many at work.
     pub(crate) fn leave_room(&self, workers: u32, at_work: u32) -> bool {
-        let needed = self.in_use().saturating_mul(workers).saturating_mul(5);
+        let needed = self
+            .in_use()
+            .saturating_mul(workers)
+            .saturating_mul(PARTS);
         let there = self
             .count
             .saturating_mul(at_work)

@@ -11,8 +11,6 @@ mod recovery;
 mod repair;
 mod scanned;
 mod scanning;
-#[cfg(test)]
-mod tests;
 mod write_frame;
 mod write_payload;
 

@@ -1,31 +1,28 @@
+ghost use Rattle.std.specs.Prelude.{◌≡◌};
+
 /// How often the turns of a pass met those of others. It is a hint by which a thread can tell whether it is in the way of
-/// others: no contract says what it is.
+/// others: no contract says what a pass tells.
 #[derive(Clone, Copy, Debug, PartialEq, Eq)]
 pub struct Traffic {
+    /// How many turns of others the pass has waited for, modulo 2^64.
+    pub waited: u64,
+    /// How many turns of others ended between two turns of the pass, while it did not ask for one, modulo 2^64.
+    pub passed: u64,
     // The ticket behind the last one of the pass.
     next: u64,
-    waited: u64,
-    passed: u64,
 }
 
 impl Traffic {
     /// No turn yet.
-    pub const fn none() -> Traffic {
+    pub const fn none() -> Traffic
+        ensures waited { result.waited ≡ 0 }
+        ensures passed { result.passed ≡ 0 }
+    {
         Traffic {
-            next: 0,
             waited: 0,
             passed: 0,
+            next: 0,
         }
-    }
-
-    /// How many turns of others the pass has waited for, modulo 2^64.
-    pub fn waited(&self) -> u64 {
-        self.waited
-    }
-
-    /// How many turns of others ended between two turns of the pass, while it did not ask for one, modulo 2^64.
-    pub fn passed(&self) -> u64 {
-        self.passed
     }
 
     // The pass drew a ticket when so many were served.
