@@ -65,10 +65,7 @@ impl Looks {
 
     /// Whether the lock would have room for so many workers, where these looks saw so many at work.
     pub(crate) fn leave_room(&self, workers: u32, at_work: u32) -> bool {
-        let needed = self
-            .in_use()
-            .saturating_mul(workers)
-            .saturating_mul(PARTS);
+        let needed = self.in_use().saturating_mul(workers).saturating_mul(PARTS);
         let there = self
             .count
             .saturating_mul(at_work)
