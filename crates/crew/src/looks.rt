@@ -9,10 +9,11 @@ use turn_lock::Tickets;
 /// How many looks tell enough.
 const ENOUGH: u32 = 16;
 
-/// The lock may be in use for so many parts of the time, where so many are all of it.
-const MOST_IN_USE: u32 = 4;
-
+/// The whole time, in parts.
 const PARTS: u32 = 5;
+
+/// The lock may be in use for so many of these parts.
+const MOST_IN_USE: u32 = 4;
 
 /// Where turns are long, the lock has to be free at so many of the looks at least.
 const LEAST_FREE: u32 = 2;

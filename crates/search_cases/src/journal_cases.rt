@@ -15,6 +15,9 @@ const FILE: [u8; 27] = *b"BNCJRNL1\x01\x03\0\0\0one\x01\x05\0\0\0three\0";
 /// A front of that file has one of so many lengths, from 0 to 27.
 const LENGTHS: usize = 28;
 
+/// A run that writes that file may stop at each of its 13 calls, or not at all.
+const STOPS: usize = 14;
+
 /// That file cut and changed, each with words for what was done.
 const ALTERED: [(&str, &[u8]); 12] = [
     ("whole", b"BNCJRNL1\x01\x03\0\0\0one\x01\x05\0\0\0three\0"),
@@ -207,10 +210,10 @@ fn count_stopped(alloc: Global, stop: usize) -> Option<usize> {
     }
 }
 
-/// The same for each of the 13 calls, and for the run that doesn't stop.
-fn counts_stopped(alloc: Global) -> [Option<usize>; 14] {
-    let mut counts = [None; 14];
-    for stop in 0..14 {
+/// The same for each of the calls, and for the run that doesn't stop.
+fn counts_stopped(alloc: Global) -> [Option<usize>; STOPS] {
+    let mut counts = [None; STOPS];
+    for stop in 0..STOPS {
         counts[stop] = count_stopped(alloc, stop);
     }
     counts
@@ -218,7 +221,7 @@ fn counts_stopped(alloc: Global) -> [Option<usize>; 14] {
 
 /// Whether the run that doesn't stop leaves the file.
 fn leaves_file(alloc: Global) -> bool {
-    match run(alloc, 99) {
+    match run(alloc, STOPS) {
         Ok((_, disk)) => disk.bytes() == FILE.as_slice(),
         Err(_) => false,
     }
