@@ -1,10 +1,13 @@
 // Runs over boxes of one linear program, which go by dictionaries that earlier ones have left.
 
+use crate::ends::End;
+use crate::worked::show_some;
 use anyhow::{Result, bail};
 use case_tools::problem_of;
-use integer_tableau::IntegerProgram;
+use integer_tableau::{FinalNumbers, IntegerProgram};
 use problem_box::{IntBox, Span};
 use std::alloc::{AllocError, Global};
+use std::io;
 use tableau::LinearProgram;
 
 /// Minimise -3x - 4y where 2x + y <= 4 and x + 2y <= 6, x and y from 0 to 3: the program by hand of the page on linear programs.
@@ -45,15 +48,58 @@ fn show_run<R: Print + Alloc<A = Global>>(
     Ok(())
 }
 
+/// Prints the numbers at the end of a run.
+fn show_final<R: Print>(rt: &R, numbers: FinalNumbers) -> io::Result<()> {
+    let end = End {
+        place: numbers.place,
+        pivots: numbers.pivots,
+        point: numbers.point,
+        multipliers: numbers.multipliers,
+    };
+    show_some(rt, "that isn't made", &end)
+}
+
+/// Prints the same of a run over a box, whose tableau isn't made.
+fn show_numbers<R: Print + Alloc<A = Global>>(
+    rt: &R,
+    program: &mut IntegerProgram,
+    low: i64,
+    high: i64,
+) -> Result<()> {
+    let area = area_of(rt.alloc(), low, high)?;
+    if program.columns() != area.len() {
+        bail!("another number of columns");
+    }
+    let Some(Ok(numbers)) = program.numbers_over(rt.alloc(), &area, 180)? else {
+        bail!("a run that is given up");
+    };
+    Ok(show_final(rt, numbers)?)
+}
+
+/// The program by hand on whole numbers.
+fn program_by_hand(alloc: Global) -> Result<IntegerProgram> {
+    let problem = problem_of(alloc, BY_HAND)?;
+    let whole = LinearProgram::of(alloc, &problem, problem.root())?;
+    match IntegerProgram::of(alloc, &whole)? {
+        Some(program) => Ok(program),
+        None => bail!("a program of other numbers"),
+    }
+}
+
 /// Prints runs over these bounds of x, which share dictionaries.
 fn show_runs<R: Print + Alloc<A = Global>>(rt: &R, bounds: &[(i64, i64)]) -> Result<()> {
-    let problem = problem_of(rt.alloc(), BY_HAND)?;
-    let whole = LinearProgram::of(rt.alloc(), &problem, problem.root())?;
-    let Some(mut program) = IntegerProgram::of(rt.alloc(), &whole)? else {
-        bail!("a program of other numbers");
-    };
+    let mut program = program_by_hand(rt.alloc())?;
     for (low, high) in bounds {
         show_run(rt, &mut program, *low, *high)?;
+    }
+    Ok(())
+}
+
+/// Prints the numbers at the ends of such runs.
+fn show_all_numbers<R: Print + Alloc<A = Global>>(rt: &R, bounds: &[(i64, i64)]) -> Result<()> {
+    let mut program = program_by_hand(rt.alloc())?;
+    for (low, high) in bounds {
+        show_numbers(rt, &mut program, *low, *high)?;
     }
     Ok(())
 }
@@ -62,5 +108,6 @@ fn show_runs<R: Print + Alloc<A = Global>>(rt: &R, bounds: &[(i64, i64)]) -> Res
 pub(crate) fn show<R: Print + Alloc<A = Global>>(rt: &R) -> Result<()> {
     show_runs(rt, &CHILDREN)?;
     println!(rt; "a program of its own, of the same rows")?;
-    show_runs(rt, &SAME_BASIS)
+    show_runs(rt, &SAME_BASIS)?;
+    show_all_numbers(rt, &CHILDREN)
 }

@@ -77,7 +77,7 @@ fn show_point<R: Print>(rt: &R, point: &[Frac]) -> io::Result<()> {
 }
 
 /// Prints what the tableau asks for at an end, the values of the columns, and the multipliers of the rows.
-fn show_some<R: Print>(rt: &R, run: &str, end: &End) -> io::Result<()> {
+pub(crate) fn show_some<R: Print>(rt: &R, run: &str, end: &End) -> io::Result<()> {
     let (place, pivots) = (end.place, end.pivots);
     print!(rt; "tableau {run}: {place:?} after {pivots} pivots, at")?;
     show_point(rt, &end.point)?;
