@@ -14,10 +14,8 @@ use Rattle.integer_tableau.proofs.BasicColumns.{column_there}
 use Rattle.integer_tableau.proofs.ListedRows.{after_has_rows, basic_rows, list_after, taken_has_rows}
 use Rattle.integer_tableau.specs.BasicColumns.{basic_from, count_below}
 use Rattle.integer_tableau.proofs.FromCode.{near_from_code, pivoted_from, positive_from, small_from_code}
+use Rattle.integer_tableau.proofs.WaysOut.{none_then}
 use Rattle.integer_tableau.proofs.pivot.pivot_parts.Goals as goal
-
-none_then : {A : Type 0} (o : Option A) (P : A → Type 0) → o ≡ None → IfSome o P
-none_then o P e = subst (λ o. IfSome o P) (sym e) tt
 
 pub returns-in_default-clause-nonbasic : goal.returns-in_default-clause-nonbasic
 returns-in_default-clause-nonbasic c = tt
@@ -212,3 +210,12 @@ returns-clause-pivoted c =
           (ap (λ b. set (set a.nonbasic_values.now a.leaving b) a.entering (pos 0)) b) c.is_upper.ensures (c.if-not-is_near.ensures refl) (c.if-not-are_combinations_small.ensures.small refl)),
       positive_from _ _ e_is p.coefficient,
     )
+
+pub exchange_numbers-requires-clause-pivot : goal.exchange_numbers-requires-clause-pivot
+exchange_numbers-requires-clause-pivot c = c.in_ok-value.ensures.pivot
+
+pub exchange_numbers-requires-clause-size : goal.exchange_numbers-requires-clause-size
+exchange_numbers-requires-clause-size c = c.in_ok-value.ensures.size
+
+pub bounds-nonbasic_values-leaving : goal.bounds-nonbasic_values-leaving
+bounds-nonbasic_values-leaving c = omega (arith, c.requires.leaving_there, c.requires.nonbasic_values_there)
