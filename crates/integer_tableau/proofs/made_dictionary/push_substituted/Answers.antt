@@ -1,6 +1,5 @@
-use Rattle.std.proofs.Common.{◌≡◌, ◌+◌, ◌++◌, ◌-◌, ◌<◌, ◌≤◌, ◌∙◌, [], ℤ, Bool, true, false, List, Option, None, append-nil, ap, arith, length, nat_abs, rules, subst, sym, w64}
-use Rattle.std.specs.Option.{IfSome}
-use Rattle.std.specs.Prelude.{if◌then◌else◌, slice_range}
+use Rattle.std.proofs.Common.{◌≡◌, ◌+◌, ◌++◌, ◌-◌, ◌<◌, ◌≤◌, ◌∙◌, ℤ, List, ap, arith, length, nat_abs, rules, subst, sym, w64}
+use Rattle.std.specs.Prelude.{slice_range}
 use Rattle.std.proofs.lemmas.Int.{to_z-of_z}
 use Rattle.integer_tableau.proofs.Arenas.{piece_many}
 use Rattle.integer_tableau.proofs.Sizes.{written}

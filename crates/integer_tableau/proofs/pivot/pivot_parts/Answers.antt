@@ -1,6 +1,5 @@
-use Rattle.std.proofs.Common.{◌≡◌, ◌<◌, ◌<ℤ◌, ℤ, Option, None, arith, ◌+◌, ◌-ℤ◌, ◌*ℤ◌, [], refl, rules, false, length, get_or, set, nat_abs, pos, ap, sym, subst, ◌∙◌, w64, to_z, of_z}
+use Rattle.std.proofs.Common.{◌≡◌, ◌<◌, ◌<ℤ◌, ℤ, arith, ◌+◌, ◌-ℤ◌, ◌*ℤ◌, [], refl, rules, false, length, get_or, set, nat_abs, pos, ap, sym, subst, ◌∙◌, w64, to_z, of_z}
 use Rattle.std.specs.Int.{w128}
-use Rattle.std.specs.Option.{IfSome}
 use mir.Val.{SFits}
 use Rattle.std.proofs.lemmas.Int.{to_z-of_z}
 use Rattle.integer_tableau.specs.Combined.{expanded_rows, expanded_values}
@@ -210,12 +209,3 @@ returns-clause-pivoted c =
           (ap (λ b. set (set a.nonbasic_values.now a.leaving b) a.entering (pos 0)) b) c.is_upper.ensures (c.if-not-is_near.ensures refl) (c.if-not-are_combinations_small.ensures.small refl)),
       positive_from _ _ e_is p.coefficient,
     )
-
-pub exchange_numbers-requires-clause-pivot : goal.exchange_numbers-requires-clause-pivot
-exchange_numbers-requires-clause-pivot c = c.in_ok-value.ensures.pivot
-
-pub exchange_numbers-requires-clause-size : goal.exchange_numbers-requires-clause-size
-exchange_numbers-requires-clause-size c = c.in_ok-value.ensures.size
-
-pub bounds-nonbasic_values-leaving : goal.bounds-nonbasic_values-leaving
-bounds-nonbasic_values-leaving c = omega (arith, c.requires.leaving_there, c.requires.nonbasic_values_there)

@@ -1,4 +1,4 @@
-use Rattle.std.proofs.Common.{◌≡◌, ◌<◌, ◌+◌, ◌++◌, ◌∷◌, ℕ, List, [], get_or, length, map, arith, ap, sym, subst, ◌∙◌}
+use Rattle.std.proofs.Common.{◌≡◌, ◌<◌, ◌+◌, ◌++◌, ◌∷◌, [], get_or, length, map, arith, ap, subst, ◌∙◌}
 use Rattle.std.proofs.lemmas.List.{get_or_default, length_push}
 use Rattle.fraction.specs.Rational.{whole}
 use Rattle.integer_tableau.specs.Scales.{scaled_by}

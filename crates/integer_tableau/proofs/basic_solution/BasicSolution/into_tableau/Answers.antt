@@ -19,7 +19,7 @@ invariant_of-result c =
     let denominator = back64 c.number.result small ∙ c.number.ensures ∙ c.divisor.ensures in
     carried_back _ _
     (λ i. IsCompact (own.1 i) c.args.weight n.reach (of_parts n.bounds.items (own.2 i) n.at_upper.items n.nonbasic_values.items (own.4 i) (own.5 i) n.values.items (denominator i) n.pivots)
-      × (pos 0 <ℤ denominator i) × AreNonbasic (own.2 i) (own.3 i) × (length (own.3 i) ≡ length (own.4 i)) × (own.6 i ≡ basic_from 0 (length (own.4 i)) (own.2 i)))
+    × (pos 0 <ℤ denominator i) × AreNonbasic (own.2 i) (own.3 i) × (length (own.3 i) ≡ length (own.4 i)) × (own.6 i ≡ basic_from 0 (length (own.4 i)) (own.2 i)))
     (c.requires.at.compact, kept.positive, kept.nonbasic, kept.columns, kept.basic)
 
 pub returns : goal.returns
