@@ -55,6 +55,7 @@ mod LowProducts
 mod Loops
 mod Sizes
 mod Lists
+mod WaysOut
 mod FromCode
 mod StartFromCode
 mod Answering
