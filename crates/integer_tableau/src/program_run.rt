@@ -3,9 +3,11 @@
 ghost use Rattle.std.specs.Prelude.{◌≡◌, ◌≢◌, ◌≤◌, ◌<◌, ◌^◌, length, IfOk, IfErr, IfSome};
 ghost use Rattle.tableau.specs.LinearProgram.{over};
 ghost use Rattle.tableau.specs.Place.{PlaceIsWithin};
+ghost use Rattle.integer_tableau.specs.FinalNumbers.{AreNumbersOver};
 ghost use Rattle.integer_tableau.specs.Run.{IsRunOver};
 
 use crate::basic_solution::BasicSolution;
+use crate::final_numbers::FinalNumbers;
 use crate::integer_program::{IntegerProgram, bounds_over};
 use crate::integer_tableau::IntegerTableau;
 use crate::run::IntegerRunEnd;
@@ -79,5 +81,33 @@ impl IntegerProgram {
             solution,
             cap,
         )))
+    }
+
+    /// The same run, of whose tableau nothing is told but these numbers: where it ends by what is kept, no tableau is made. None where there is no
+    /// start on such numbers.
+    ///
+    /// The error inside says that the run is given up, and how many pivots it made before. The one error outside is want of memory. What the
+    /// program keeps from one run to the next may change, and contracts don't see it.
+    pub fn numbers_over(
+        &mut self,
+        alloc: Global,
+        area: &IntBox,
+        cap: u64,
+    ) -> Result<Option<Result<FinalNumbers, u64>>, AllocError>
+        requires { length area.now ≡ length self.old.costs }
+        ensures value { IfOk result (λ o. IfSome o (λ r. IfOk r (AreNumbersOver (over self.old area.now) cap))) }
+        ensures exact { IfOk result (λ o. IfSome o (λ r. IfOk r (λ n. n.place ≢ Place.Cramped))) }
+        ensures capped { IfOk result (λ o. IfSome o (λ r. IfOk r (λ n. n.pivots ≤ cap))) }
+        ensures given_up { IfOk result (λ o. IfSome o (λ r. IfErr r (λ made. made ≤ cap))) }
+        ensures same { self.new ≡ self.old }
+    {
+        match self.run_over(alloc, area, cap)? {
+            Some(Ok(end)) => {
+                let numbers = end.tableau.final_numbers(alloc, end.place)?;
+                Ok(Some(Ok(numbers)))
+            }
+            Some(Err(made)) => Ok(Some(Err(made))),
+            None => Ok(None),
+        }
     }
 }
