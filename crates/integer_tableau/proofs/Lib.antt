@@ -80,3 +80,4 @@ mod ValueSteps
 mod ColumnSteps
 mod ColumnSums
 mod DroppedColumns
+mod FinalEnds
