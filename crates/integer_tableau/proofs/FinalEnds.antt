@@ -1,10 +1,17 @@
 -- What is asked of the tableau that a run left.
-use Rattle.std.proofs.Common.{◌≡◌, ◌≢◌, ℕ, zero, suc, refl, sym, subst, ◌∙◌, Option, Some, None, ◌⊎◌, inl, inr}
-use Rattle.std.specs.Prelude.{IfSome, IsSomeAnd}
-use Rattle.integer_tableau.specs.FinalNumbers.{AreNumbersAt, AreNumbersOf, AreNumbersOver}
+use Rattle.std.proofs.Common.{◌≡◌, ◌≢◌, ◌≤◌, ℕ, zero, suc, arith, ap, refl, sym, subst, ◌∙◌, drop, length, List, Option, Some, None}
+use Rattle.std.specs.Prelude.{ℤ, nat_abs, IfSome, IsSomeAnd}
+use Rattle.integer_tableau.proofs.Answering.{costs_are, point_is}
+use Rattle.integer_tableau.specs.Denominator.{HasDenominator}
+use Rattle.integer_tableau.specs.FinalNumbers.{AreNumbersAt, AreNumbersOf, AreNumbersOver, AreNumbersWithin}
+use Rattle.integer_tableau.specs.IntegerTableau.{values_of}
+use Rattle.integer_tableau.specs.Kept.{IsAt, KeptDictionary, tableau_at, view_of}
+use Rattle.integer_tableau.specs.Positions.{coefficients}
 use Rattle.integer_tableau.specs.Run.{IsRunOver}
+use Rattle.integer_tableau.specs.declared.basic_solution.BasicSolution.{BasicSolution}
 use Rattle.integer_tableau.specs.declared.final_numbers.FinalNumbers.{FinalNumbers}
 use Rattle.tableau.specs.LinearProgram.{LinearProgram}
+use Rattle.tableau.specs.Multipliers.{numbered}
 use Rattle.tableau.specs.Pivot.{pivoted}
 use Rattle.tableau.specs.Place.{place}
 use Rattle.tableau.specs.Run.{EndsAs, RunEnd, after_pivot, continued, run_from, step_at}
@@ -50,4 +57,32 @@ numbers_over p cap l t n run exact at_place at_pivots numbers = record {
   start = run.start;
   starts = run.starts;
   ends = numbers_at cap run.start l t n run.ends exact at_place at_pivots numbers;
+}
+
+-- ---- of a solution at a dictionary
+abbrev IsDone : Place → Type 0
+IsDone Done = Unit {0}
+IsDone (NoColumn r) = ⊥
+IsDone (Pivot r c) = ⊥
+IsDone Cramped = ⊥
+
+pub numbers_where_done : (numbers : List ℕ) (ps : List (List ℤ)) (weight : ℕ) (d : KeptDictionary) (n : BasicSolution) (m : FinalNumbers) → IsAt ps weight d n → m.place ≡ Done
+    → IfSome m.denominator (λ k. HasDenominator k (view_of numbers ps d n))
+    → m.point.items ≡ values_of (nat_abs d.denominator) d.positions n.nonbasic_values.items n.values.items
+    → m.multipliers ≡ numbered numbers (coefficients (nat_abs d.denominator) (drop (length d.reduced_costs) d.positions) d.reduced_costs)
+    → AreNumbersOf (view_of numbers ps d n) m
+numbers_where_done numbers ps weight d n m at done denominator point multipliers = record {
+  denominator = denominator;
+  point = λ e. point ∙ point_is (length d.rows) numbers ps weight n.reach (tableau_at d n) (view_of numbers ps d n) at.compact refl refl;
+  of_costs = λ e. multipliers ∙ ap (λ k. numbered numbers (coefficients (nat_abs d.denominator) (drop k d.positions) d.reduced_costs)) at.compact.costs
+      ∙ ap (numbered numbers) (costs_are (length d.rows) numbers ps weight n.reach (tableau_at d n) (view_of numbers ps d n) at.compact refl refl);
+  of_row = λ r e. absurd (subst IsDone (sym done ∙ e) tt);
+}
+
+pub numbers_within : (most : ℕ) (start : Tableau) (p : Place) (t : Tableau) (n : FinalNumbers) → EndsAs (run_from most start) p t → p ≢ Cramped → t.pivots ≤ most → n.place ≡ p → n.pivots ≡ t.pivots → AreNumbersOf t n
+    → AreNumbersWithin most start n
+numbers_within most start p t n ends exact few at_place at_pivots numbers = record {
+  ends = numbers_at most start p t n ends exact at_place at_pivots numbers;
+  exact = subst (λ q. q ≢ Cramped) (sym at_place) exact;
+  capped = omega (arith, few, at_pivots);
 }

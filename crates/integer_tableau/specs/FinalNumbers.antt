@@ -1,11 +1,11 @@
 -- What is asked of the tableau that a run left.
-use Rattle.std.specs.Prelude.{◌≡◌, ℕ, IfSome, IsSomeAnd, Some}
+use Rattle.std.specs.Prelude.{◌≡◌, ◌≢◌, ◌≤◌, ℕ, IfSome, IsSomeAnd, Some}
 use Rattle.tableau.specs.LinearProgram.{LinearProgram}
 use Rattle.tableau.specs.Multipliers.{mult_of_cost, mult_of_row, point_of}
 use Rattle.tableau.specs.Run.{RunEnd, run_from}
 use Rattle.tableau.specs.Start.{started}
 use Rattle.tableau.specs.Tableau.{Tableau}
-use Rattle.tableau.specs.declared.place.Place.TheVariants.{Done, NoColumn}
+use Rattle.tableau.specs.declared.place.Place.TheVariants.{Cramped, Done, NoColumn}
 use Rattle.integer_tableau.specs.Denominator.{HasDenominator}
 use Rattle.integer_tableau.specs.declared.final_numbers.FinalNumbers.{FinalNumbers}
 
@@ -27,3 +27,9 @@ pub record AreNumbersOver (p : LinearProgram) (cap : ℕ) (n : FinalNumbers) : T
   pub start : Tableau
   pub starts : started p ≡ Some start
   pub ends : AreNumbersAt (run_from cap start) n
+
+-- they are those of a run from this tableau with at most so many pivots, as a function tells them
+pub record AreNumbersWithin (cap : ℕ) (start : Tableau) (n : FinalNumbers) : Type 0 where
+  pub ends : AreNumbersAt (run_from cap start) n
+  pub exact : n.place ≢ Cramped
+  pub capped : n.pivots ≤ cap

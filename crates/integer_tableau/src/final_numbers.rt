@@ -1,15 +1,29 @@
 // What is asked of the tableau that a run left.
 
-ghost use Rattle.std.specs.Prelude.{◌≡◌, ℕ, length, IfOk};
-ghost use Rattle.tableau.specs.Multipliers.{mult_of_cost, mult_of_row, point_of};
+ghost use Rattle.std.specs.Prelude.{◌≡◌, ◌<◌, ◌≤◌, ◌<ℤ◌, ℕ, ℤ, List, drop, length, nat_abs, pos, IfErr, IfOk, IfSome};
+ghost use Rattle.tableau.specs.Multipliers.{mult_of_cost, mult_of_row, numbered, point_of};
 ghost use Rattle.tableau.specs.Place.{PlaceIsWithin};
-ghost use Rattle.integer_tableau.specs.FinalNumbers.{AreNumbersOf};
+ghost use Rattle.tableau.specs.Run.{RunEnd, run_from};
+ghost use Rattle.tableau.specs.Tableau.{Tableau};
+ghost use Rattle.integer_tableau.specs.FinalNumbers.{AreNumbersOf, AreNumbersWithin};
+ghost use Rattle.integer_tableau.specs.Kept.{IsAt, IsKept, kept_at, view_of};
+ghost use Rattle.integer_tableau.specs.Positions.{coefficients};
+ghost use Rattle.integer_tableau.specs.StoreCalls.{AreKeptOf};
+ghost use Rattle.integer_tableau.specs.StoredRun.{IsStoredEnd};
 
+use crate::answers::{coefficients, column_values};
+use crate::basic_solution::BasicSolution;
+use crate::denominator::common_denominator;
+use crate::dictionary::Dictionaries;
 use crate::integer_tableau::IntegerTableau;
+use crate::position::Position;
+use crate::program_row::ProgramRow;
+use crate::stored_run::StoredEnd;
 use fraction::Frac;
 use problem::Terms;
 use std::alloc::{AllocError, Global};
-use tableau::Place;
+use std::rc::RcSlice;
+use tableau::{Place, named_multipliers};
 
 /// What is asked of the tableau that a run left, without the tableau.
 #[derive(Drop)]
@@ -70,5 +84,132 @@ impl IntegerTableau {
             point,
             multipliers,
         })
+    }
+}
+
+/// For each row, by its number, the reduced cost of its variable, but those that are 0, of a dictionary of these parts. The one error is want of memory.
+fn mult_of_cost(
+    alloc: Global,
+    numbers: &[u32],
+    positions: &[Position],
+    reduced_costs: &[i64],
+    denominator: i64,
+) -> Result<Terms, AllocError>
+    requires positive { pos 0 <ℤ denominator }
+    requires columns_there { length reduced_costs.now ≤ length positions.now }
+    ensures { IfOk result (λ m. m ≡ numbered numbers.now (coefficients (nat_abs denominator) (drop (length reduced_costs.now) positions.now) reduced_costs.now)) }
+{
+    let columns = reduced_costs.len();
+    let multipliers = coefficients(alloc, &positions[columns..], reduced_costs, denominator)?;
+    named_multipliers(alloc, numbers, 0, &multipliers)
+}
+
+/// What is asked of the tableau of a solution at the dictionary of this place, where it is done. The one error is want of memory.
+fn numbers_where_done(
+    alloc: Global,
+    numbers: &[u32],
+    program_rows: &RcSlice<ProgramRow>,
+    weight: u64,
+    dictionaries: &Dictionaries,
+    at: usize,
+    solution: &BasicSolution,
+) -> Result<FinalNumbers, AllocError>
+    requires there { at < length dictionaries.now.all }
+    requires kept { (costs : List ℤ) × IsKept program_rows.now.items.value.items weight costs (kept_at dictionaries.now.all at) }
+    requires at_dictionary { IsAt program_rows.now.items.value.items weight (kept_at dictionaries.now.all at) solution.now }
+    ensures place { IfOk result (λ n. n.place ≡ Place.Done) }
+    ensures pivots { IfOk result (λ n. n.pivots ≡ solution.now.pivots) }
+    ensures numbers { IfOk result (AreNumbersOf (view_of numbers.now program_rows.now.items.value.items (kept_at dictionaries.now.all at) solution.now)) }
+{
+    let number = dictionaries.divisor(at).number();
+    let positions = dictionaries.positions(alloc, at)?;
+    let denominator = common_denominator(
+        program_rows,
+        weight,
+        &positions,
+        &solution.nonbasic_values,
+        &solution.values,
+        number,
+    );
+    let point = column_values(
+        alloc,
+        &positions,
+        &solution.nonbasic_values,
+        &solution.values,
+        number,
+    )?;
+    let multipliers = mult_of_cost(
+        alloc,
+        numbers,
+        &positions,
+        dictionaries.reduced_costs(at),
+        number,
+    )?;
+    Ok(FinalNumbers {
+        place: Place::Done,
+        pivots: solution.pivots,
+        denominator,
+        point,
+        multipliers,
+    })
+}
+
+impl StoredEnd {
+    /// What is asked of the tableau there, where it is done at a dictionary that is kept; none where it isn't. The one error is want of memory.
+    fn kept_numbers(
+        &self,
+        alloc: Global,
+        numbers: &[u32],
+        program_rows: &RcSlice<ProgramRow>,
+        weight: u64,
+        dictionaries: &Dictionaries,
+    ) -> Result<Option<FinalNumbers>, AllocError>
+        requires kept { AreKeptOf program_rows.now.items.value.items weight dictionaries.now }
+        requires ended { (cap : ℕ) × (e : RunEnd) × IsStoredEnd numbers.now program_rows.now.items.value.items weight dictionaries.now cap e self.now }
+        ensures { (cap : ℕ) (start : Tableau) → IsStoredEnd numbers.now program_rows.now.items.value.items weight dictionaries.now cap (run_from cap start) self.now → IfOk result (λ o. IfSome o (AreNumbersWithin cap start)) }
+    {
+        match self {
+            StoredEnd::Kept {
+                place,
+                at,
+                solution,
+            } => match *place {
+                Place::Done => Ok(Some(numbers_where_done(
+                    alloc,
+                    numbers,
+                    program_rows,
+                    weight,
+                    dictionaries,
+                    *at,
+                    solution,
+                )?)),
+                _ => Ok(None),
+            },
+            StoredEnd::Alone(_) => Ok(None),
+        }
+    }
+
+    /// What is asked of the tableau there. The error inside says that the run is given up, and how many pivots were made before. The one error outside
+    /// is want of memory.
+    pub(crate) fn final_numbers(
+        self,
+        alloc: Global,
+        numbers: &[u32],
+        program_rows: &RcSlice<ProgramRow>,
+        weight: u64,
+        dictionaries: &Dictionaries,
+    ) -> Result<Result<FinalNumbers, u64>, AllocError>
+        requires kept { AreKeptOf program_rows.now.items.value.items weight dictionaries.now }
+        requires ended { (cap : ℕ) × (e : RunEnd) × IsStoredEnd numbers.now program_rows.now.items.value.items weight dictionaries.now cap e self }
+        ensures numbers { (cap : ℕ) (start : Tableau) → IsStoredEnd numbers.now program_rows.now.items.value.items weight dictionaries.now cap (run_from cap start) self → IfOk result (λ r. IfOk r (AreNumbersWithin cap start)) }
+        ensures given_up { (cap : ℕ) (e : RunEnd) → IsStoredEnd numbers.now program_rows.now.items.value.items weight dictionaries.now cap e self → IfOk result (λ r. IfErr r (λ made. made ≤ cap)) }
+    {
+        if let Some(own) = self.kept_numbers(alloc, numbers, program_rows, weight, dictionaries)? {
+            return Ok(Ok(own));
+        }
+        match self.into_run_end(alloc, numbers, program_rows, weight, dictionaries) {
+            Ok(end) => Ok(Ok(end.tableau.final_numbers(alloc, end.place)?)),
+            Err(made) => Ok(Err(made)),
+        }
     }
 }
