@@ -1,9 +1,8 @@
 -- Runs by kept dictionaries, step by step.
 use Rattle.std.proofs.Common.{◌≡◌, ◌≢◌, ℕ, suc, ◌+◌, ◌-◌, ◌<◌, arith, refl, ap, sym, ◌∙◌, subst, List, [], length}
-use Rattle.std.specs.Prelude.{ℤ, pos, nat_abs, ◌*◌, ◌^◌, Result, Ok, Err, IfOk}
+use Rattle.std.specs.Prelude.{ℤ, pos, nat_abs, ◌*◌, ◌^◌, Result, IfOk}
 use mathlib.Core.Logic.{inr}
 use Rattle.integer_tableau.proofs.Requests.{as_many, at_same, same_places}
-use Rattle.integer_tableau.specs.IntegerDictionary.{IntegerDictionary}
 use Rattle.integer_tableau.specs.Kept.{HaveSameDictionaries, IsAt, KeptDictionaries, kept_at}
 use Rattle.integer_tableau.specs.StoredRun.{IsKeptEnd, IsLastPlace, IsMove, IsStoredEnd, IsTurnAt, IsTurned, IsTurning, IsUnmoved, dictionary_at, view_with}
 use Rattle.integer_tableau.specs.declared.basic_solution.BasicSolution.{BasicSolution}
@@ -50,10 +49,6 @@ unmoved_at ps weight old new p n m u l h = subst (IsAt ps weight (kept_at new.al
 pub unmoved_view : (numbers : List ℕ) (ps : List (List ℤ)) (old new : KeptDictionaries) (p : ℕ) (n m : BasicSolution) → IsUnmoved old new n m → p < length old.all
     → view_with numbers ps (dictionary_at new p) m ≡ view_with numbers ps (dictionary_at old p) n
 unmoved_view numbers ps old new p n m u l = λ i. view_with numbers ps (same_places new old p u.dictionaries l i) (u.solution i)
-
--- the last place doesn't depend on the numbers of the rows
-pub last_numbered : (numbers : List ℕ) (ps : List (List ℤ)) (m : IntegerDictionary) (n : BasicSolution) (l : Place) → IsLastPlace (view_with [] ps m n) l → IsLastPlace (view_with numbers ps m n) l
-last_numbered numbers ps m n l h = record { place = h.place; within = h.within; exact = h.exact; other = h.other }
 
 -- ---- runs
 -- it ends where no pivot is asked for

@@ -107,7 +107,10 @@ fn coefficient(position: Position, row: &[i64], denominator: i64) -> Frac
     match position {
         Position::InBasis => Frac::of(0),
         Position::InColumn(column) => {
-            Frac::make(i128::from(numerator_in(row, column)), i128::from(denominator))
+            Frac::make(
+                i128::from(numerator_in(row, column)),
+                i128::from(denominator),
+            )
         }
     }
 }

@@ -5,7 +5,7 @@ ghost use Rattle.integer_tableau.specs.Numbers.{number_at, total_size};
 ghost use Rattle.integer_tableau.specs.Range.{size_limit};
 ghost use Rattle.integer_tableau.specs.Combined.{IsCompact, expanded, value_numerator, combined_value};
 ghost use Rattle.integer_tableau.specs.Denominator.{ArePartsOf, HasDenominator};
-ghost use Rattle.integer_tableau.specs.IntegerTableau.{IntegerTableau as Described, tableau_of};
+ghost use Rattle.integer_tableau.specs.IntegerTableau.{IntegerTableau as WholeTableau, tableau_of};
 
 use crate::combination::{column_value, combined_value};
 use crate::integer_row::IntegerRow;
@@ -197,8 +197,8 @@ pub(crate) fn common_denominator(
     denominator: i64,
 ) -> Option<u64>
     requires positive { pos 0 <ℤ denominator }
-    requires parts { (reach : ℕ) × (t : Described) × IsCompact program_rows.now weight reach t × ArePartsOf t positions.now nonbasic_values.now values.now denominator }
-    ensures { (reach columns : ℕ) (numbers : List ℕ) (t : Described) → IsCompact program_rows.now weight reach t → ArePartsOf t positions.now nonbasic_values.now values.now denominator
+    requires parts { (reach : ℕ) × (t : WholeTableau) × IsCompact program_rows.now weight reach t × ArePartsOf t positions.now nonbasic_values.now values.now denominator }
+    ensures { (reach columns : ℕ) (numbers : List ℕ) (t : WholeTableau) → IsCompact program_rows.now weight reach t → ArePartsOf t positions.now nonbasic_values.now values.now denominator
         → IfSome result (λ d. HasDenominator d (tableau_of columns numbers (expanded program_rows.now t))) }
 {
     if !are_columns_small(positions, nonbasic_values, values, denominator)

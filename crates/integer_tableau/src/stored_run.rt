@@ -217,14 +217,5 @@ pub(crate) fn run_stored(
             Step::GivenUp => return Err(made),
         }
     }
-    run_alone(
-        alloc,
-        numbers,
-        program_rows,
-        weight,
-        store,
-        at,
-        solution,
-        0,
-    )
+    run_alone(alloc, numbers, program_rows, weight, store, at, solution, 0)
 }

@@ -1,9 +1,8 @@
-use Rattle.std.proofs.Common.{◌≡◌, ◌<◌, ◌≤◌, ◌+◌, ◌<ℤ◌, ℕ, ℤ, List, [], length, get_or, nat_abs, pos, refl, arith, ap, sym, subst, ◌∙◌, w64, to_z, of_z}
+use Rattle.std.proofs.Common.{◌≤◌, ◌+◌, ◌<ℤ◌, [], length, get_or, nat_abs, pos, refl, arith, ap, sym, subst, ◌∙◌, w64, to_z, of_z}
 use Rattle.std.proofs.lemmas.Int.{to_z-of_z}
-use Rattle.std.specs.Prelude.{IfSome}
-use Rattle.integer_tableau.specs.Combined.{IsCompact, combined_value, expanded, value_numerator}
-use Rattle.integer_tableau.specs.Denominator.{ArePartsOf, HasDenominator}
-use Rattle.integer_tableau.specs.IntegerTableau.{IntegerTableau, tableau_of}
+use Rattle.integer_tableau.specs.Combined.{combined_value, expanded, value_numerator}
+use Rattle.integer_tableau.specs.Denominator.{HasDenominator}
+use Rattle.integer_tableau.specs.IntegerTableau.{tableau_of}
 use Rattle.integer_tableau.specs.Numbers.{number_at}
 use Rattle.integer_tableau.specs.Range.{size_limit}
 use Rattle.integer_tableau.specs.declared.position.Position.TheVariants.{InBasis}
