@@ -9,7 +9,7 @@ ghost use Rattle.integer_tableau.specs.FinalNumbers.{AreNumbersOf, AreNumbersWit
 ghost use Rattle.integer_tableau.specs.Kept.{IsAt, IsKept, kept_at, view_of};
 ghost use Rattle.integer_tableau.specs.Positions.{coefficients};
 ghost use Rattle.integer_tableau.specs.StoreCalls.{AreKeptOf};
-ghost use Rattle.integer_tableau.specs.StoredRun.{IsStoredEnd};
+ghost use Rattle.integer_tableau.specs.StoredRun.{IsKeptEnd, IsStoredEnd};
 
 use crate::answers::{coefficients, column_values};
 use crate::basic_solution::BasicSolution;
@@ -154,41 +154,42 @@ fn numbers_where_done(
     })
 }
 
-impl StoredEnd {
-    /// What is asked of the tableau there, where it is done at a dictionary that is kept; none where it isn't. The one error is want of memory.
-    fn kept_numbers(
-        &self,
-        alloc: Global,
-        numbers: &[u32],
-        program_rows: &RcSlice<ProgramRow>,
-        weight: u64,
-        dictionaries: &Dictionaries,
-    ) -> Result<Option<FinalNumbers>, AllocError>
-        requires kept { AreKeptOf program_rows.now.items.value.items weight dictionaries.now }
-        requires ended { (cap : ℕ) × (e : RunEnd) × IsStoredEnd numbers.now program_rows.now.items.value.items weight dictionaries.now cap e self.now }
-        ensures { (cap : ℕ) (start : Tableau) → IsStoredEnd numbers.now program_rows.now.items.value.items weight dictionaries.now cap (run_from cap start) self.now → IfOk result (λ o. IfSome o (AreNumbersWithin cap start)) }
-    {
-        match self {
-            StoredEnd::Kept {
-                place,
-                at,
-                solution,
-            } => match *place {
-                Place::Done => Ok(Some(numbers_where_done(
-                    alloc,
-                    numbers,
-                    program_rows,
-                    weight,
-                    dictionaries,
-                    *at,
-                    solution,
-                )?)),
-                _ => Ok(None),
-            },
-            StoredEnd::Alone(_) => Ok(None),
-        }
+/// What is asked of the tableau of a solution at the dictionary of this place, where a run ended at it. The error inside says that the run is given
+/// up, and how many pivots were made before. The one error outside is want of memory.
+fn numbers_at_end(
+    alloc: Global,
+    numbers: &[u32],
+    program_rows: &RcSlice<ProgramRow>,
+    weight: u64,
+    dictionaries: &Dictionaries,
+    place: Place,
+    at: usize,
+    solution: BasicSolution,
+) -> Result<Result<FinalNumbers, u64>, AllocError>
+    requires kept { AreKeptOf program_rows.now.items.value.items weight dictionaries.now }
+    requires ended { (cap : ℕ) × (e : RunEnd) × IsKeptEnd numbers.now program_rows.now.items.value.items weight dictionaries.now cap e place at solution }
+    ensures numbers { (cap : ℕ) (start : Tableau) → IsKeptEnd numbers.now program_rows.now.items.value.items weight dictionaries.now cap (run_from cap start) place at solution → IfOk result (λ r. IfOk r (AreNumbersWithin cap start)) }
+    ensures given_up { IfOk result (λ r. IfErr r (λ made. made ≡ solution.pivots)) }
+{
+    if let Place::Done = place {
+        return Ok(Ok(numbers_where_done(
+            alloc,
+            numbers,
+            program_rows,
+            weight,
+            dictionaries,
+            at,
+            &solution,
+        )?));
     }
+    let made = solution.pivots;
+    match solution.into_tableau(alloc, numbers, program_rows, weight, dictionaries, at) {
+        Ok(tableau) => Ok(Ok(tableau.final_numbers(alloc, place)?)),
+        Err(_) => Ok(Err(made)),
+    }
+}
 
+impl StoredEnd {
     /// What is asked of the tableau there. The error inside says that the run is given up, and how many pivots were made before. The one error outside
     /// is want of memory.
     pub(crate) fn final_numbers(
@@ -204,12 +205,22 @@ impl StoredEnd {
         ensures numbers { (cap : ℕ) (start : Tableau) → IsStoredEnd numbers.now program_rows.now.items.value.items weight dictionaries.now cap (run_from cap start) self → IfOk result (λ r. IfOk r (AreNumbersWithin cap start)) }
         ensures given_up { (cap : ℕ) (e : RunEnd) → IsStoredEnd numbers.now program_rows.now.items.value.items weight dictionaries.now cap e self → IfOk result (λ r. IfErr r (λ made. made ≤ cap)) }
     {
-        if let Some(own) = self.kept_numbers(alloc, numbers, program_rows, weight, dictionaries)? {
-            return Ok(Ok(own));
-        }
-        match self.into_run_end(alloc, numbers, program_rows, weight, dictionaries) {
-            Ok(end) => Ok(Ok(end.tableau.final_numbers(alloc, end.place)?)),
-            Err(made) => Ok(Err(made)),
+        match self {
+            StoredEnd::Kept {
+                place,
+                at,
+                solution,
+            } => numbers_at_end(
+                alloc,
+                numbers,
+                program_rows,
+                weight,
+                dictionaries,
+                place,
+                at,
+                solution,
+            ),
+            StoredEnd::Alone(end) => Ok(Ok(end.tableau.final_numbers(alloc, end.place)?)),
         }
     }
 }
