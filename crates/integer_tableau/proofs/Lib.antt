@@ -81,3 +81,4 @@ mod ValueSteps
 mod ColumnSteps
 mod ColumnSums
 mod DroppedColumns
+mod FinalEnds

@@ -1,10 +1,11 @@
 // The denominator of all numbers.
 
-ghost use Rattle.std.specs.Prelude.{◌≡◌, ℕ, ◌+◌, ◌*◌, ◌<◌, ◌≤◌, ◌^◌, [], pos, nat_abs, ◌*ℤ◌, ◌<ℤ◌, length, IsTrue, IfSome, slice_index_or};
+ghost use Rattle.std.specs.Prelude.{◌≡◌, ℕ, ◌+◌, ◌*◌, ◌<◌, ◌≤◌, ◌^◌, [], pos, nat_abs, ◌*ℤ◌, ◌<ℤ◌, length, IsTrue, IfSome, List, slice_index_or};
 ghost use Rattle.integer_tableau.specs.Numbers.{number_at, total_size};
 ghost use Rattle.integer_tableau.specs.Range.{size_limit};
-ghost use Rattle.integer_tableau.specs.Combined.{value_numerator, combined_value};
-ghost use Rattle.integer_tableau.specs.Denominator.{HasDenominator};
+ghost use Rattle.integer_tableau.specs.Combined.{IsCompact, expanded, value_numerator, combined_value};
+ghost use Rattle.integer_tableau.specs.Denominator.{ArePartsOf, HasDenominator};
+ghost use Rattle.integer_tableau.specs.IntegerTableau.{IntegerTableau as WholeTableau, tableau_of};
 
 use crate::combination::{column_value, combined_value};
 use crate::integer_row::IntegerRow;
@@ -186,26 +187,47 @@ fn are_rows_small(
     )
 }
 
+/// A denominator of all numbers of a tableau of these parts, where none is greater in size than `SIZE_LIMIT` over it; none where one is.
+pub(crate) fn common_denominator(
+    program_rows: &[ProgramRow],
+    weight: u64,
+    positions: &[Position],
+    nonbasic_values: &[i64],
+    values: &[i64],
+    denominator: i64,
+) -> Option<u64>
+    requires positive { pos 0 <ℤ denominator }
+    requires parts { (reach : ℕ) × (t : WholeTableau) × IsCompact program_rows.now weight reach t × ArePartsOf t positions.now nonbasic_values.now values.now denominator }
+    ensures { (reach columns : ℕ) (numbers : List ℕ) (t : WholeTableau) → IsCompact program_rows.now weight reach t → ArePartsOf t positions.now nonbasic_values.now values.now denominator
+        → IfSome result (λ d. HasDenominator d (tableau_of columns numbers (expanded program_rows.now t))) }
+{
+    if !are_columns_small(positions, nonbasic_values, values, denominator)
+        || !are_rows_small(
+            program_rows,
+            weight,
+            positions,
+            nonbasic_values,
+            values,
+            denominator,
+        )
+    {
+        return None;
+    }
+    Some(denominator.unsigned_abs())
+}
+
 impl IntegerTableau {
     /// A denominator of all numbers, where none is greater in size than `SIZE_LIMIT` over it; none where one is.
     pub fn common_denominator(&self) -> Option<u64>
         ensures { IfSome result (λ d. HasDenominator d self.now) }
     {
-        if !are_columns_small(
-            &self.positions,
-            &self.nonbasic_values,
-            &self.values,
-            self.denominator,
-        ) || !are_rows_small(
+        common_denominator(
             &self.fixed.rows,
             self.fixed.weight,
             &self.positions,
             &self.nonbasic_values,
             &self.values,
             self.denominator,
-        ) {
-            return None;
-        }
-        Some(self.denominator.unsigned_abs())
+        )
     }
 }

@@ -17,6 +17,7 @@ mod divisor;
 mod elimination;
 mod entering;
 mod exits;
+mod final_numbers;
 mod integer_bounds;
 mod integer_program;
 mod integer_row;
@@ -51,6 +52,7 @@ mod values;
 mod wide;
 mod wide_numbers;
 
+pub use final_numbers::FinalNumbers;
 pub use integer_program::IntegerProgram;
 pub use integer_tableau::IntegerTableau;
 pub use run::IntegerRunEnd;
