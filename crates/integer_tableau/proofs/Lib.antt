@@ -81,3 +81,4 @@ mod ColumnSteps
 mod ColumnSums
 mod DroppedColumns
 mod FinalEnds
+mod NamedCoefficients
