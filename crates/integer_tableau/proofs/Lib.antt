@@ -82,3 +82,4 @@ mod ColumnSteps
 mod ColumnSums
 mod DroppedColumns
 mod FinalEnds
+mod NamedCoefficients

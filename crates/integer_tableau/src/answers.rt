@@ -14,6 +14,7 @@ ghost use Rattle.integer_tableau.specs.Combined.{combined_row, expanded_rows};
 use crate::integer_bounds::{IntegerBounds, is_below};
 use crate::integer_row::IntegerRow;
 use crate::integer_tableau::IntegerTableau;
+use crate::named_coefficients::named_coefficients;
 use crate::pivot::value_of;
 use crate::position::Position;
 use crate::program_row::ProgramRow;
@@ -93,7 +94,7 @@ fn direction_of(
 // ---- coefficients
 
 /// The numerator in a column, 0 past the end.
-fn numerator_in(row: &[i64], column: usize) -> i64
+pub(crate) fn numerator_in(row: &[i64], column: usize) -> i64
     ensures { result ≡ number_at row.now column }
 {
     if column < row.len() { row[column] } else { 0 }
@@ -200,8 +201,13 @@ impl IntegerTableau {
     pub fn mult_of_cost(&self, alloc: Global) -> Result<Terms, AllocError>
         ensures { IfOk result (λ m. m ≡ mult_of_cost self.now) }
     {
-        let multipliers = self.cost_multipliers(alloc)?;
-        named_multipliers(alloc, self.numbers(), 0, &multipliers)
+        named_coefficients(
+            alloc,
+            self.numbers(),
+            &self.positions[self.rows.len()..],
+            self.reduced_costs.numerators(),
+            self.denominator,
+        )
     }
 
     /// The direction back to its bounds of a variable that is outside of them.

@@ -28,6 +28,7 @@ mod leaving;
 mod limits;
 mod low_sums;
 mod made_dictionary;
+mod named_coefficients;
 mod narrow;
 mod pivot;
 mod place;

@@ -10,8 +10,8 @@ use Rattle.integer_tableau.proofs.Denominators.{has_denominator}
 use Rattle.integer_tableau.proofs.FromCode.{near_from_code}
 use Rattle.integer_tableau.proofs.denominator.common_denominator.Goals as goal
 
-pub are_columns_small-requires : goal.are_columns_small-requires
-are_columns_small-requires c =
+pub greatest_numerator-greatest-requires : goal.greatest_numerator-greatest-requires
+greatest_numerator-greatest-requires c =
     let a = c.args in
     let w = c.requires.parts.1 in
     let k = c.requires.parts.2 in
@@ -35,6 +35,7 @@ are_rows_small-requires c =
       light = λ i l. omega (arith, k.weights i l, k.light);
       weights = λ i l. k.weights i l;
       near = near_from_code a.program_rows.now a.weight c.requires.parts.0 w k a.nonbasic_values.now a.values.now _ s.nonbasic_values_are s.values_are (ap nat_abs (to_z-of_z w64 a.denominator c.ranges.denominator) ∙ s.denominator_is);
+      greatest = c.greatest_numerator-greatest.ensures;
     }
 
 pub returns : goal.returns
@@ -47,7 +48,7 @@ returns c = λ reach columns numbers w k s.
     (has_denominator columns numbers ps a.weight reach w dd k (subst (λ z. pos 0 <ℤ z) (sym is) c.requires.positive) (ap nat_abs is ∙ s.denominator_is)
     (λ j l. subst (λ m. m ≤ size_limit)
     (λ i. nat_abs (value_numerator dd (get_or (s.positions_are i) j InBasis) (number_at (s.nonbasic_values_are i) j) (number_at (s.values_are i) j)))
-    (c.if-not-are_columns_small.ensures refl j (omega (arith, l, ap length s.values_are))))
+    (omega (arith, c.greatest_numerator-greatest.ensures j (omega (arith, l, ap length s.values_are)), c.if-greatest-gt-SIZE_LIMIT.false)))
     (λ j l. subst (λ m. m ≤ size_limit)
     (λ i. nat_abs (value_numerator dd (get_or (s.positions_are i) (length (s.values_are i) + j) InBasis) (number_at (s.nonbasic_values_are i) (length (s.values_are i) + j))
     (combined_value dd (get_or ps j []) (s.positions_are i) (s.nonbasic_values_are i) (s.values_are i))))
