@@ -11,11 +11,12 @@ ghost use Rattle.integer_tableau.specs.Positions.{coefficients};
 ghost use Rattle.integer_tableau.specs.StoreCalls.{AreKeptOf};
 ghost use Rattle.integer_tableau.specs.StoredRun.{IsKeptEnd, IsStoredEnd};
 
-use crate::answers::{coefficients, column_values};
+use crate::answers::column_values;
 use crate::basic_solution::BasicSolution;
 use crate::denominator::common_denominator;
 use crate::dictionary::Dictionaries;
 use crate::integer_tableau::IntegerTableau;
+use crate::named_coefficients::named_coefficients;
 use crate::position::Position;
 use crate::program_row::ProgramRow;
 use crate::stored_run::StoredEnd;
@@ -23,7 +24,7 @@ use fraction::Frac;
 use problem::Terms;
 use std::alloc::{AllocError, Global};
 use std::rc::RcSlice;
-use tableau::{Place, named_multipliers};
+use tableau::Place;
 
 /// What is asked of the tableau that a run left, without the tableau.
 #[derive(Drop)]
@@ -99,9 +100,8 @@ fn mult_of_cost(
     requires columns_there { length reduced_costs.now ≤ length positions.now }
     ensures { IfOk result (λ m. m ≡ numbered numbers.now (coefficients (nat_abs denominator) (drop (length reduced_costs.now) positions.now) reduced_costs.now)) }
 {
-    let columns = reduced_costs.len();
-    let multipliers = coefficients(alloc, &positions[columns..], reduced_costs, denominator)?;
-    named_multipliers(alloc, numbers, 0, &multipliers)
+    let rows = &positions[reduced_costs.len()..];
+    named_coefficients(alloc, numbers, rows, reduced_costs, denominator)
 }
 
 /// What is asked of the tableau of a solution at the dictionary of this place, where it is done. The one error is want of memory.
