@@ -1,9 +1,8 @@
 -- The answer at the end of a run, as the code makes it.
-use Rattle.std.specs.Prelude.{All, IfOk, IfSome, IsSomeAnd, cond}
-use Rattle.std.proofs.Common.{◌≡◌, ℕ, ◌+◌, ◌-◌, ◌*◌, ◌^◌, ◌<◌, ◌≤◌, arith, refl, ap, sym, ◌∙◌, subst, Bool, true, false, Option, Some, None, Result, Ok, Err, List, [], length, take, drop, map}
-use Rattle.std.specs.Option.{option_map, option_and_then}
+use Rattle.std.specs.Prelude.{All, IfOk, IfSome, IsSomeAnd}
+use Rattle.std.proofs.Common.{◌≡◌, ℕ, ◌+◌, ◌-◌, ◌*◌, ◌^◌, ◌<◌, ◌≤◌, arith, refl, ap, sym, ◌∙◌, subst, Option, Some, None, Result, Ok, Err, List, length, take, drop, map}
+use Rattle.std.specs.Option.{option_and_then}
 use Rattle.std.proofs.lemmas.List.{length-map, length-append, length-take-le, take-append-drop}
-use Rattle.fraction.specs.Rational.{ℚ}
 use Rattle.problem_box.specs.declared.span.Span.{Span}
 use Rattle.problem.specs.declared.row.Row.{Row}
 use Rattle.problem.specs.Linear.{Terms, Multipliers}
@@ -21,95 +20,57 @@ use Rattle.tableau.specs.Tableau.{Tableau}
 use Rattle.tableau.specs.Place.{place}
 use Rattle.tableau.specs.Start.{started}
 use Rattle.tableau.specs.Run.{RunEnd, EndsAs, run_from}
-use Rattle.tableau.specs.Multipliers.{point_of, mult_of_cost, mult_of_row}
+use Rattle.tableau.specs.Multipliers.{mult_of_cost, mult_of_row}
 use Rattle.tableau.specs.Invariants.{IsTableauOf, EndsWithTableauOf}
 use Rattle.tableau.specs.Lemmas.Places.{IsNoColumn, no_column_is}
 use Rattle.tableau.specs.Lemmas.RunKeeps.{run_keeps}
+use Rattle.integer_tableau.specs.declared.final_numbers.FinalNumbers.{FinalNumbers}
+use Rattle.integer_tableau.specs.FinalNumbers.{AreNumbersAt, AreNumbersOver}
 use Rattle.integer_tableau.specs.Run.{IsRunOver}
-use Rattle.dual_simplex.specs.declared.answer.Answer.{Answer}
-use Rattle.dual_simplex.specs.declared.answer.Answer.TheVariants.{Infeasible, Optimal}
-use Rattle.dual_simplex.specs.PointSums.{sums_fit}
-use Rattle.dual_simplex.specs.Answers.{linear_program, pivot_limit, run_of_start, run, HasPivots, infeasible_answer, optimal_answer, answer_or_cramped, answer_at, answer}
+use Rattle.dual_simplex.specs.Answers.{linear_program, pivot_limit, run_of_start, run, HasPivots, answer_at, answer}
 use Rattle.dual_simplex.specs.Meaning.{IsTableauAt}
 use Rattle.dual_simplex.specs.Ends.{IsEnd, AreMultipliers}
 use Rattle.dual_simplex.specs.Lemmas.TrueAnswers.{size, variables_are, start_is_tableau, cost_multipliers_usable, row_multipliers_usable}
-use Rattle.problem.specs.Directions.{aim}
 
 abbrev row_of_cut : Cut → Row
 row_of_cut c = c.row
 
 -- ---- the first cuts
 module _ (p : Problem) (cs : List Cut) (k : ℕ) (mult : Multipliers) (usable : AreProofMultipliers p (take k cs) mult) where
-  first_priced : (box : List Span) (target : Terms) → price p cs box target mult ≡ price p (take k cs) box target mult
+  pub first_priced : (box : List Span) (target : Terms) → price p cs box target mult ≡ price p (take k cs) box target mult
   first_priced box target =
       ap (λ (ds : List Cut). price p ds box target mult) (sym (take-append-drop k cs))
       ∙ ap (option_and_then (λ (q : Sums). with_columns q.side target 0 q.coefficients box)) (still_combined p (take k cs) (drop k cs) mult usable.combined (length p.spans))
 
-  first_known : All (λ m. m.0 < length (known_lines p cs)) mult
+  pub first_known : All (λ m. m.0 < length (known_lines p cs)) mult
   first_known =
       subst (λ (ds : List Cut). All (λ m. m.0 < length (known_lines p ds)) mult) (take-append-drop k cs) (still_combination p (take k cs) (drop k cs) mult usable.combined).earlier
 
-module _ (p : Problem) (cs : List Cut) (k : ℕ) (box : List Span) where
-  abbrev first : List Cut
-  first = take k cs
-
-  sized : (t : Tableau) → IsTableauAt p first box t → IsTableauOf (size p first box) (linear_program p first box) t
-  sized t h = subst (λ n. IsTableauOf n (linear_program p first box) t) (variables_are p first box) h
+module _ (p : Problem) (cs : List Cut) (box : List Span) where
+  sized : (t : Tableau) → IsTableauAt p cs box t → IsTableauOf (size p cs box) (linear_program p cs box) t
+  sized t h = subst (λ n. IsTableauOf n (linear_program p cs box) t) (variables_are p cs box) h
 
   -- ---- a tableau that is done
-  pub cost_multipliers : (t : Tableau) → IsTableauAt p first box t → AreMultipliers p cs (mult_of_cost t)
-  cost_multipliers t h =
-      let u = cost_multipliers_usable p first box t (sized t h) in record { rising = u.0; nonzero = u.1; known = first_known p cs k (mult_of_cost t) u.2 }
-
-  -- its price by all cuts is that by the first
-  pub cost_price_same : (t : Tableau) (target : Terms) → IsTableauAt p first box t → price p cs box target (mult_of_cost t) ≡ price p first box target (mult_of_cost t)
-  cost_price_same t target h = first_priced p cs k (mult_of_cost t) (cost_multipliers_usable p first box t (sized t h)).2 box target
-
-  pub optimal_there : (t : Tableau) (v : ℚ) → IsTableauAt p first box t → sums_fit p first (point_of t) ≡ true → price p cs box (aim p) (mult_of_cost t) ≡ Some v
-      → Some (Optimal (point_of t) (mult_of_cost t) v) ≡ optimal_answer p first box (point_of t) (mult_of_cost t)
-  optimal_there t v h f e =
-      let u = cost_multipliers_usable p first box t (sized t h) in
-      sym (chosen _ _ f ∙ ap (option_map (λ v. Optimal (point_of t) (mult_of_cost t) v)) (sym (first_priced p cs k (mult_of_cost t) u.2 box (aim p)) ∙ e))
-    where
-      chosen : (b : Bool) (o : Option Answer) → b ≡ true → cond b o None ≡ o
-      chosen true o e = refl
-      chosen false o e = cc
-
-  pub optimal_not_priced : (t : Tableau) → IsTableauAt p first box t → price p cs box (aim p) (mult_of_cost t) ≡ None → None ≡ optimal_answer p first box (point_of t) (mult_of_cost t)
-  optimal_not_priced t h e =
-      let u = cost_multipliers_usable p first box t (sized t h) in
-      sym (neither (sums_fit p first (point_of t)) _ (ap (option_map (λ v. Optimal (point_of t) (mult_of_cost t) v)) (sym (first_priced p cs k (mult_of_cost t) u.2 box (aim p)) ∙ e)))
-    where
-      neither : (b : Bool) (o : Option Answer) → o ≡ None → cond b o None ≡ None
-      neither true o e = e
-      neither false o e = refl
+  pub cost_multipliers : (t : Tableau) → IsTableauAt p cs box t → AreMultipliers p cs (mult_of_cost t)
+  cost_multipliers t h = let u = cost_multipliers_usable p cs box t (sized t h) in record { rising = u.0; nonzero = u.1; usable = u.2 }
 
   -- ---- a row that no column can help
-  module _ (t : Tableau) (r : ℕ) (q : Place) (end : IsEnd p first box q t) (here : q ≡ NoColumn r) where
+  module _ (t : Tableau) (r : ℕ) (q : Place) (end : IsEnd p cs box q t) (here : q ≡ NoColumn r) where
     whole : q ≡ CrampedRatio → ⊥
     whole e = let f : NoColumn r ≡ CrampedRatio = sym here ∙ e in cc
 
-    is_tableau : IsTableauOf (size p first box) (linear_program p first box) t
+    is_tableau : IsTableauOf (size p cs box) (linear_program p cs box) t
     is_tableau = sized t (end.tableau whole)
 
-    no_column : IsNoColumn (size p first box) t r
-    no_column = no_column_is (size p first box) t r is_tableau.size (sym (end.place whole) ∙ here)
+    no_column : IsNoColumn (size p cs box) t r
+    no_column = no_column_is (size p cs box) t r is_tableau.size (sym (end.place whole) ∙ here)
 
     pub row_there : r < length t.statuses
     row_there = omega (arith, no_column.leaving.there, is_tableau.size.statuses)
 
     pub row_multipliers : AreMultipliers p cs (mult_of_row t r)
     row_multipliers =
-        let u = row_multipliers_usable p first box t is_tableau r no_column in record { rising = u.0; nonzero = u.1; known = first_known p cs k (mult_of_row t r) u.2 }
-
-    pub row_price_same : price p cs box [] (mult_of_row t r) ≡ price p first box [] (mult_of_row t r)
-    row_price_same = first_priced p cs k (mult_of_row t r) (row_multipliers_usable p first box t is_tableau r no_column).2 box []
-
-    pub infeasible_there : answer_or_cramped t.pivots (infeasible_answer p cs box (mult_of_row t r)) ≡ answer_at p first box t.pivots (Some t) q
-    infeasible_there =
-        let u = row_multipliers_usable p first box t is_tableau r no_column in
-        ap (λ o. answer_or_cramped t.pivots (option_map (λ v. Infeasible (mult_of_row t r)) o)) (first_priced p cs k (mult_of_row t r) u.2 box [])
-        ∙ ap (answer_at p first box t.pivots (Some t)) (sym here)
+        let u = row_multipliers_usable p cs box t is_tableau r no_column in record { rising = u.0; nonzero = u.1; usable = u.2 }
 
 -- ---- the run
 -- its start
@@ -117,7 +78,7 @@ start_kept : (p : Problem) (cs : List Cut) (box : List Span) (t : Tableau) → s
 start_kept p cs box t start = subst (λ n. IsTableauOf n (linear_program p cs box) t) (sym (variables_are p cs box)) (start_is_tableau p cs box t start)
 
 -- it ended with a tableau of the relaxation, unless a pivot or the start is cramped
-run_kept : (p : Problem) (cs : List Cut) (box : List Span) → EndsWithTableauOf (variables (linear_program p cs box)) (linear_program p cs box) (run (linear_program p cs box))
+pub run_kept : (p : Problem) (cs : List Cut) (box : List Span) → EndsWithTableauOf (variables (linear_program p cs box)) (linear_program p cs box) (run (linear_program p cs box))
 run_kept p cs box = at (started (linear_program p cs box)) refl
   where
     at : (o : Option Tableau) → started (linear_program p cs box) ≡ o → EndsWithTableauOf (variables (linear_program p cs box)) (linear_program p cs box) (run_of_start (linear_program p cs box) o)
@@ -170,7 +131,7 @@ pub ends_so : (p : Problem) (cs : List Cut) (box : List Span) (e : RunEnd) (u v 
 ends_so p cs box e u v q is same h = subst (EndsAs (run (linear_program p cs box)) q) (sym same) (subst (λ e. EndsAs e q u) (sym is) h)
 
 -- what follows of the end of a run, where there is one
-pub of_end : {T E : Type 0} (P Q : Place × T → Type 0) → ((e : Place × T) → P e → Q e) → (r : Result (Option (Result (Place × T) ℕ)) E)
+pub of_end : {T E : Type 0} (P Q : T → Type 0) → ((e : T) → P e → Q e) → (r : Result (Option (Result T ℕ)) E)
     → IfOk r (λ o. IfSome o (λ s. IfOk s P)) → IfOk r (λ o. IfSome o (λ s. IfOk s Q))
 of_end P Q f (Err e) h = tt
 of_end P Q f (Ok None) h = tt
@@ -208,3 +169,7 @@ module _ (p : Problem) (cs : List Cut) (k : ℕ) (box : List Span) (few : k ≤ 
   -- a run over the box with so many at most is that of the answer
   pub run_over_is : (q : Place) (t : Tableau) → IsRunOver program n q t → EndsAs (run program) q t
   run_over_is q t h = subst (λ (e : RunEnd). EndsAs e q t) (sym (run_is h.start h.starts)) h.ends
+
+  -- and so the numbers at its end are those of the answer's
+  pub numbers_over_are : (e : FinalNumbers) → AreNumbersOver program n e → AreNumbersAt (run program) e
+  numbers_over_are e h = subst (λ (r : RunEnd). AreNumbersAt r e) (sym (run_is h.start h.starts)) h.ends

@@ -55,6 +55,7 @@ mod LowProducts
 mod Loops
 mod Sizes
 mod Lists
+mod WaysOut
 mod FromCode
 mod StartFromCode
 mod Answering
@@ -80,3 +81,5 @@ mod ValueSteps
 mod ColumnSteps
 mod ColumnSums
 mod DroppedColumns
+mod FinalEnds
+mod NamedCoefficients

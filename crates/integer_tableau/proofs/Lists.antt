@@ -11,7 +11,7 @@ use Rattle.std.proofs.lemmas.Int.{to_z-of_z}
 use Rattle.std.specs.Prelude.{ℤ, pos, nat_abs, int_lt, ◌<ℤ◌, ◌*ℤ◌, Option, Some, None, map}
 use Rattle.std.specs.Option.{IfSome}
 use Rattle.std.proofs.lemmas.Int.{ints}
-use Rattle.std.proofs.lemmas.List.{length-set, take_more, map-append}
+use Rattle.std.proofs.lemmas.List.{get_or_append_left, get_or_push, length-set, length_push, take_more, map-append}
 use Rattle.fraction.specs.Checked.{compare}
 use Rattle.fraction.specs.Lemmas.Bounds.{whole_parts}
 use Rattle.fraction.specs.Lemmas.Order.{compare_equal}
@@ -57,6 +57,14 @@ module _ {X : Type 0} (R : ℕ → X → X → Type 0) (none : X) where
 
 pub others_more : {X : Type 0} (none : X) (first now : List X) (i : ℕ) (x : X) → ((v : ℕ) → i ≤ v → get_or now v none ≡ get_or first v none) → (v : ℕ) → i + 1 ≤ v → get_or (set now i x) v none ≡ get_or first v none
 others_more none first now i x h v m = let ne : v ≢ i = omega arith in get_or-set_other now i v x none ne ∙ h v (omega arith)
+
+-- what holds at each index holds so with one element more
+pub each_pushed : {X : Type 0} (P : ℕ → X → Type 0) (none : X) (xs new : List X) (x : X) (i : ℕ) → new ≡ xs ++ x ∷ [] → length xs ≡ i → ((k : ℕ) → k < length xs → P k (get_or xs k none)) → P i x
+    → (k : ℕ) → k < length new → P k (get_or new k none)
+each_pushed P none xs new x i e full h here k l =
+    let more = below_more (λ k. P k (get_or (xs ++ x ∷ []) k none)) i (λ k m. subst (P k) (sym (get_or_append_left xs (x ∷ []) none k (omega (arith, m, full)))) (h k (omega (arith, m, full))))
+    (subst (P i) (sym (get_or_push xs x none i full)) here) in
+    subst (λ new. P k (get_or new k none)) (sym e) (more k (omega (arith, l, ap length e, full, length_push xs x)))
 
 -- another fact of what is there
 pub if_some : {A : Type 0} (P Q : A → Type 0) (o : Option A) → ((v : A) → P v → Q v) → IfSome o P → IfSome o Q

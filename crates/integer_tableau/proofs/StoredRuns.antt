@@ -1,14 +1,13 @@
 -- Runs by kept dictionaries, step by step.
 use Rattle.std.proofs.Common.{◌≡◌, ◌≢◌, ℕ, suc, ◌+◌, ◌-◌, ◌<◌, arith, refl, ap, sym, ◌∙◌, subst, List, [], length}
-use Rattle.std.specs.Prelude.{ℤ, pos, nat_abs, ◌*◌, ◌^◌, Result, Ok, Err, IfOk}
+use Rattle.std.specs.Prelude.{ℤ, pos, nat_abs, ◌*◌, ◌^◌, Result, IfOk}
 use mathlib.Core.Logic.{inr}
-use Rattle.integer_tableau.proofs.Requests.{at_same, same_places}
-use Rattle.integer_tableau.specs.IntegerDictionary.{IntegerDictionary}
+use Rattle.integer_tableau.proofs.Requests.{as_many, at_same, same_places}
 use Rattle.integer_tableau.specs.Kept.{HaveSameDictionaries, IsAt, KeptDictionaries, kept_at}
-use Rattle.integer_tableau.specs.StoredRun.{IsLastPlace, IsMove, IsTurnAt, IsTurned, IsTurning, IsUnmoved, dictionary_at, view_with}
+use Rattle.integer_tableau.specs.StoredRun.{IsKeptEnd, IsLastPlace, IsMove, IsStoredEnd, IsTurnAt, IsTurned, IsTurning, IsUnmoved, dictionary_at, view_with}
 use Rattle.integer_tableau.specs.declared.basic_solution.BasicSolution.{BasicSolution}
 use Rattle.integer_tableau.specs.declared.request.Turn.{Turn}
-use Rattle.integer_tableau.specs.declared.run.IntegerRunEnd.{IntegerRunEnd}
+use Rattle.integer_tableau.specs.declared.stored_run.StoredEnd.{StoredEnd}
 use Rattle.tableau.specs.Place.{PlaceIsWithin, place}
 use Rattle.tableau.specs.Run.{EndsAs, RunEnd, continued, run_from, step_at}
 use Rattle.tableau.specs.Tableau.{Tableau}
@@ -51,10 +50,6 @@ pub unmoved_view : (numbers : List ℕ) (ps : List (List ℤ)) (old new : KeptDi
     → view_with numbers ps (dictionary_at new p) m ≡ view_with numbers ps (dictionary_at old p) n
 unmoved_view numbers ps old new p n m u l = λ i. view_with numbers ps (same_places new old p u.dictionaries l i) (u.solution i)
 
--- the last place doesn't depend on the numbers of the rows
-pub last_numbered : (numbers : List ℕ) (ps : List (List ℤ)) (m : IntegerDictionary) (n : BasicSolution) (l : Place) → IsLastPlace (view_with [] ps m n) l → IsLastPlace (view_with numbers ps m n) l
-last_numbered numbers ps m n l h = record { place = h.place; within = h.within; exact = h.exact; other = h.other }
-
 -- ---- runs
 -- it ends where no pivot is asked for
 ends_here : (k : ℕ) (t : Tableau) (p : Place) → p ≡ place t → ((r c : ℕ) → p ≢ Pivot r c) → EndsAs (run_from (suc k) t) p t
@@ -72,18 +67,27 @@ goes_on cap made t u e l s h =
     let q : cap - made ≡ suc (cap - (made + 1)) = omega (arith, l) in
     sym (ap (continued (run_from (cap - (made + 1)))) s) ∙ ap (λ k. run_from k t) (sym q) ∙ h
 
--- the last place of a run, and the tableau there
-pub run_ended : {E : Type 0} (cap made : ℕ) (t : Tableau) (e : RunEnd) (p : Place) (r : Result IntegerRunEnd E) → made < cap → IsLastPlace t p → run_from (cap - made) t ≡ e
-    → IfOk r (λ end. end.place ≡ p) → IfOk r (λ end. end.tableau ≡ t) → IfOk r (λ end. EndsAs e end.place end.tableau)
-run_ended cap made t e p (Ok end) l last h at_place at_tableau =
-    let q : cap - made ≡ suc (cap - (made + 1)) = omega (arith, l) in
-    subst (λ e. EndsAs e end.place end.tableau) (ap (λ k. run_from k t) (sym q) ∙ h)
-    (subst (λ u. EndsAs (run_from (suc (cap - (made + 1))) t) end.place u) (sym at_tableau)
-    (subst (λ p. EndsAs (run_from (suc (cap - (made + 1))) t) p t) (sym at_place) (ends_here (cap - (made + 1)) t p last.place last.other)))
-run_ended cap made t e p (Err x) l last h at_place at_tableau = tt
+-- it has ended with a solution that hasn't moved
+pub kept_end : (numbers : List ℕ) (ps : List (List ℤ)) (weight : ℕ) (old new : KeptDictionaries) (most made : ℕ) (e : RunEnd) (l : Place) (p : ℕ) (n m : BasicSolution) → made < most → p < length old.all
+    → IsAt ps weight (kept_at old.all p) n → run_from (most - made) (view_with numbers ps (dictionary_at old p) n) ≡ e → n.pivots ≡ made → IsUnmoved old new n m → IsLastPlace (view_with [] ps (dictionary_at old p) n) l
+    → IsKeptEnd numbers ps weight new most e l p m
+kept_end numbers ps weight old new most made e l p n m b there at same counted u last = record {
+  there = omega (arith, there, as_many new old u.dictionaries);
+  at = unmoved_at ps weight old new p n m u there at;
+  ends = subst (EndsAs e l) (sym view) (subst (λ e. EndsAs e l (view_with numbers ps (dictionary_at old p) n)) (ap (λ k. run_from k (view_with numbers ps (dictionary_at old p) n)) (sym rest) ∙ same)
+      (ends_here (most - (made + 1)) (view_with numbers ps (dictionary_at old p) n) l last.place last.other));
+  within = subst (λ (t : Tableau). PlaceIsWithin (length t.statuses) l) (sym view) last.within;
+  exact = last.exact;
+  capped = omega (arith, b, counted, ap (λ (n : BasicSolution). n.pivots) u.solution);
+}
+  where
+    view : view_with numbers ps (dictionary_at new p) m ≡ view_with numbers ps (dictionary_at old p) n
+    view = unmoved_view numbers ps old new p n m u there
 
-pub ended_within : {E : Type 0} (t : Tableau) (p : Place) (r : Result IntegerRunEnd E) → IsLastPlace t p → IfOk r (λ end. end.place ≡ p) → IfOk r (λ end. end.tableau ≡ t)
-    → IfOk r (λ end. PlaceIsWithin (length end.tableau.statuses) end.place)
-ended_within t p (Ok end) last at_place at_tableau =
-    subst (λ q. PlaceIsWithin (length end.tableau.statuses) q) (sym at_place) (subst (λ (u : Tableau). PlaceIsWithin (length u.statuses) p) (sym at_tableau) last.within)
-ended_within t p (Err x) last at_place at_tableau = tt
+    rest : most - made ≡ suc (most - (made + 1))
+    rest = omega (arith, b)
+
+-- as it ended by the one tableau it ended by the same one
+pub same_end : (numbers : List ℕ) (ps : List (List ℤ)) (weight : ℕ) (k : KeptDictionaries) (r : Result StoredEnd ℕ) (c d : ℕ) (e f : RunEnd) → c ≡ d → e ≡ f
+    → IfOk r (IsStoredEnd numbers ps weight k c e) → IfOk r (IsStoredEnd numbers ps weight k d f)
+same_end numbers ps weight k r c d e f p q h = subst (λ e. IfOk r (IsStoredEnd numbers ps weight k d e)) q (subst (λ c. IfOk r (IsStoredEnd numbers ps weight k c e)) p h)

@@ -1,20 +1,19 @@
 -- Runs from the first of kept dictionaries.
-use Rattle.std.proofs.Common.{◌≡◌, ℕ, ◌<◌, arith, Option, Some, List, [], ◌∷◌, ◌++◌, length, drop, map, take, All}
+use Rattle.std.proofs.Common.{◌≡◌, ℕ, ◌<◌, arith, subst, Option, Some, List, [], ◌∷◌, ◌++◌, length, drop, map, take, All}
 use Rattle.std.specs.Prelude.{ℤ, Result, Ok, Err, IfOk, IfSome}
 use Rattle.std.proofs.lemmas.List.{length-append, length-drop, length-map}
 use Rattle.integer_tableau.specs.IntegerProgram.{CanStart, column_bounds, fraction_program}
 use Rattle.integer_tableau.specs.Kept.{AreKept, IsAt, IsStartDictionary, IsStartSolution, KeptDictionaries, KeptDictionary, kept_at}
 use Rattle.integer_tableau.specs.RowSums.{AreColumnsOf, AreColumnSums}
-use Rattle.integer_tableau.specs.Run.{IsRunOver}
-use Rattle.integer_tableau.specs.StoredRun.{dictionary_at, view_with}
+use Rattle.integer_tableau.specs.StoredRun.{IsStoredEnd, IsStoredRun, dictionary_at, view_with}
 use Rattle.integer_tableau.specs.declared.coefficient_columns.CoefficientColumns.{CoefficientColumns}
 use Rattle.integer_tableau.specs.declared.integer_bounds.IntegerBounds.{IntegerBounds}
 use Rattle.integer_tableau.specs.declared.basic_solution.BasicSolution.{BasicSolution}
-use Rattle.integer_tableau.specs.declared.run.IntegerRunEnd.{IntegerRunEnd}
 use Rattle.integer_tableau.specs.declared.start_sums.StartSums.{StartSums}
+use Rattle.integer_tableau.specs.declared.stored_run.StoredEnd.{StoredEnd}
 use Rattle.problem_box.specs.declared.span.Span.{Span}
 use Rattle.tableau.specs.LinearProgram.{LinearProgram}
-use Rattle.tableau.specs.Run.{EndsAs, run_from}
+use Rattle.tableau.specs.Run.{run_from}
 use Rattle.tableau.specs.Start.{started}
 use Rattle.tableau.specs.Tableau.{Tableau}
 
@@ -43,7 +42,12 @@ module _ (ps : List (List ℤ)) (weight : ℕ) (costs : List ℤ) (bounds : List
   started_at numbers = start.started ps weight numbers (kept_at k.all 0) can (first_is ps costs k.all some kept.first)
 
 -- the run of a linear program, by that from its start
-pub run_over_box : {E : Type 0} (p : LinearProgram) (cap : ℕ) (t : Tableau) (r : Result IntegerRunEnd E) → started p ≡ Some t → IfOk r (λ e. EndsAs (run_from cap t) e.place e.tableau)
-    → IfOk r (λ e. IsRunOver p cap e.place e.tableau)
-run_over_box p cap t (Ok e) starts ends = record { start = t; starts = starts; ends = ends }
-run_over_box p cap t (Err x) starts ends = tt
+pub stored_run : {E : Type 0} (numbers : List ℕ) (ps : List (List ℤ)) (weight : ℕ) (k : KeptDictionaries) (p : LinearProgram) (most : ℕ) (t : Tableau) (r : Result StoredEnd E) → started p ≡ Some t
+    → IfOk r (IsStoredEnd numbers ps weight k most (run_from most t)) → IfOk r (IsStoredRun numbers ps weight k p most)
+stored_run numbers ps weight k p most t (Ok x) starts ends = record { start = t; starts = starts; ends = ends }
+stored_run numbers ps weight k p most t (Err x) starts ends = tt
+
+-- it is the same by equal numbers and an equal program
+pub same_run : (numbers others : List ℕ) (ps : List (List ℤ)) (weight : ℕ) (k : KeptDictionaries) (p q : LinearProgram) (most : ℕ) (x : StoredEnd) → numbers ≡ others → p ≡ q
+    → IsStoredRun numbers ps weight k p most x → IsStoredRun others ps weight k q most x
+same_run numbers others ps weight k p q most x e f h = subst (λ q. IsStoredRun others ps weight k q most x) f (subst (λ ns. IsStoredRun ns ps weight k p most x) e h)

@@ -30,3 +30,4 @@ pub mod Kept
 pub mod RowSums
 pub mod StoredRun
 pub mod StoreCalls
+pub mod FinalNumbers

@@ -1,10 +1,12 @@
 -- Steps and runs by dictionaries that are kept.
-use Rattle.std.specs.Prelude.{◌≡◌, ◌≢◌, ◌<◌, ◌+◌, ◌*◌, ◌^◌, ◌-ℤ◌, ◌*ℤ◌, ℕ, ℤ, pos, nat_abs, Bool, false, true, List, [], length, map, slice_index_or, slice_set, Some}
+use Rattle.std.specs.Prelude.{◌≡◌, ◌≢◌, ◌<◌, ◌≤◌, ◌+◌, ◌*◌, ◌^◌, ◌-ℤ◌, ◌*ℤ◌, ℕ, ℤ, pos, nat_abs, Bool, false, true, List, [], length, map, slice_index_or, slice_set, Some}
 use mathlib.Core.Logic.{inr}
 use Rattle.fraction.specs.Rational.{frac}
 use Rattle.tableau.specs.Leaving.{unbounded, violation}
 use Rattle.tableau.specs.Place.{PlaceIsWithin, place}
-use Rattle.tableau.specs.Run.{step_at}
+use Rattle.tableau.specs.LinearProgram.{LinearProgram}
+use Rattle.tableau.specs.Run.{EndsAs, RunEnd, run_from, step_at}
+use Rattle.tableau.specs.Start.{started}
 use Rattle.tableau.specs.Tableau.{Tableau}
 use Rattle.tableau.specs.declared.bounds.Direction.{Direction}
 use Rattle.tableau.specs.declared.place.Place.{Place}
@@ -24,8 +26,11 @@ use Rattle.integer_tableau.specs.declared.position.Position.TheVariants.{InBasis
 use Rattle.integer_tableau.specs.declared.request.Request.{Request}
 use Rattle.integer_tableau.specs.declared.request.Request.TheVariants.{Stops, Goes, Unknown}
 use Rattle.integer_tableau.specs.declared.request.Turn.{Turn}
+use Rattle.integer_tableau.specs.declared.run.IntegerRunEnd.{IntegerRunEnd}
 use Rattle.integer_tableau.specs.declared.stored_run.Step.{Step}
 use Rattle.integer_tableau.specs.declared.stored_run.Step.TheVariants.{Ended, Moved, Closed, GivenUp}
+use Rattle.integer_tableau.specs.declared.stored_run.StoredEnd.{StoredEnd}
+use Rattle.integer_tableau.specs.declared.stored_run.StoredEnd.TheVariants.{Kept, Alone}
 
 -- ---- dictionaries by their places
 -- what the basis fixes of the dictionary at a place
@@ -144,3 +149,31 @@ IsStep ps weight old p n new m (Ended l) = IsUnmoved old new n m × IsLastPlace 
 IsStep ps weight old p n new m (Moved q) = IsMove ps weight (dictionary_at old p) n new q m
 IsStep ps weight old p n new m Closed = IsUnmoved old new n m
 IsStep ps weight old p n new m GivenUp = Unit {0}
+
+-- ---- ends
+-- a run of at most so many pivots ended so, with this tableau
+pub record IsEndWithin (cap : ℕ) (e : RunEnd) (x : IntegerRunEnd) : Type 0 where
+  pub ends : EndsAs e x.place x.tableau
+  pub within : PlaceIsWithin (length x.tableau.statuses) x.place
+  pub exact : x.place ≢ Cramped
+  pub capped : x.tableau.pivots ≤ cap
+
+-- it ended at this last place, with a solution at the dictionary of this place
+pub record IsKeptEnd (numbers : List ℕ) (ps : List (List ℤ)) (weight : ℕ) (k : KeptDictionaries) (cap : ℕ) (e : RunEnd) (l : Place) (p : ℕ) (n : BasicSolution) : Type 0 where
+  pub there : p < length k.all
+  pub at : IsAt ps weight (kept_at k.all p) n
+  pub ends : EndsAs e l (view_with numbers ps (dictionary_at k p) n)
+  pub within : PlaceIsWithin (length (view_with numbers ps (dictionary_at k p) n).statuses) l
+  pub exact : l ≢ Cramped
+  pub capped : n.pivots ≤ cap
+
+-- it ended so by these dictionaries, or went on without them
+abbrev pub IsStoredEnd : List ℕ → List (List ℤ) → ℕ → KeptDictionaries → ℕ → RunEnd → StoredEnd → Type 0
+IsStoredEnd numbers ps weight k cap e (Kept l p n) = IsKeptEnd numbers ps weight k cap e l p n
+IsStoredEnd numbers ps weight k cap e (Alone x) = IsEndWithin cap e x
+
+-- the run of a linear program of these rows from the start
+pub record IsStoredRun (numbers : List ℕ) (ps : List (List ℤ)) (weight : ℕ) (k : KeptDictionaries) (p : LinearProgram) (cap : ℕ) (x : StoredEnd) : Type 0 where
+  pub start : Tableau
+  pub starts : started p ≡ Some start
+  pub ends : IsStoredEnd numbers ps weight k cap (run_from cap start) x

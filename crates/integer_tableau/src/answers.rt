@@ -14,6 +14,7 @@ ghost use Rattle.integer_tableau.specs.Combined.{combined_row, expanded_rows};
 use crate::integer_bounds::{IntegerBounds, is_below};
 use crate::integer_row::IntegerRow;
 use crate::integer_tableau::IntegerTableau;
+use crate::named_coefficients::named_coefficients;
 use crate::pivot::value_of;
 use crate::position::Position;
 use crate::program_row::ProgramRow;
@@ -36,7 +37,7 @@ fn column_value(position: Position, nonbasic_value: i64, numerator: i64, denomin
 }
 
 /// The values of the columns. The one error is want of memory.
-fn column_values(
+pub(crate) fn column_values(
     alloc: Global,
     positions: &[Position],
     nonbasic_values: &[i64],
@@ -92,15 +93,25 @@ fn direction_of(
 
 // ---- coefficients
 
+/// The numerator in a column, 0 past the end.
+pub(crate) fn numerator_in(row: &[i64], column: usize) -> i64
+    ensures { result ≡ number_at row.now column }
+{
+    if column < row.len() { row[column] } else { 0 }
+}
+
 /// The coefficient of a variable in a row.
-fn coefficient(position: Position, row: &IntegerRow, denominator: i64) -> Frac
+fn coefficient(position: Position, row: &[i64], denominator: i64) -> Frac
     requires { pos 0 <ℤ denominator }
     ensures { result ≡ coefficient (nat_abs denominator) row.now position }
 {
     match position {
         Position::InBasis => Frac::of(0),
         Position::InColumn(column) => {
-            Frac::make(i128::from(row.numerator(column)), i128::from(denominator))
+            Frac::make(
+                i128::from(numerator_in(row, column)),
+                i128::from(denominator),
+            )
         }
     }
 }
@@ -109,7 +120,7 @@ fn coefficient(position: Position, row: &IntegerRow, denominator: i64) -> Frac
 pub(crate) fn coefficients(
     alloc: Global,
     positions: &[Position],
-    row: &IntegerRow,
+    row: &[i64],
     denominator: i64,
 ) -> Result<Vec<Frac>, AllocError>
     requires { pos 0 <ℤ denominator }
@@ -142,7 +153,7 @@ fn combined_coefficients(
     if !row.combine_small(program_row, positions, rows, denominator) {
         return Err(AllocError);
     }
-    coefficients(alloc, &positions[first..], &row, denominator)
+    coefficients(alloc, &positions[first..], row.numerators(), denominator)
 }
 
 impl IntegerTableau {
@@ -181,7 +192,7 @@ impl IntegerTableau {
         coefficients(
             alloc,
             &self.positions[columns..],
-            &self.reduced_costs,
+            self.reduced_costs.numerators(),
             self.denominator,
         )
     }
@@ -190,8 +201,13 @@ impl IntegerTableau {
     pub fn mult_of_cost(&self, alloc: Global) -> Result<Terms, AllocError>
         ensures { IfOk result (λ m. m ≡ mult_of_cost self.now) }
     {
-        let multipliers = self.cost_multipliers(alloc)?;
-        named_multipliers(alloc, self.numbers(), 0, &multipliers)
+        named_coefficients(
+            alloc,
+            self.numbers(),
+            &self.positions[self.rows.len()..],
+            self.reduced_costs.numerators(),
+            self.denominator,
+        )
     }
 
     /// The direction back to its bounds of a variable that is outside of them.
@@ -235,7 +251,7 @@ impl IntegerTableau {
             coefficients(
                 alloc,
                 &self.positions[first..],
-                &self.rows[row],
+                self.rows[row].numerators(),
                 self.denominator,
             )
         } else {

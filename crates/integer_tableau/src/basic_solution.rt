@@ -40,6 +40,18 @@ pub(crate) struct BasicSolution {
     pub(crate) pivots: u64,
 }
 
+/// What a tableau has of its linear program and its dictionary, in lists of its own.
+#[derive(Drop)]
+struct TableauParts {
+    numbers: Vec<u32>,
+    program_rows: RcSlice<ProgramRow>,
+    positions: Vec<Position>,
+    nonbasic: Vec<usize>,
+    rows: Vec<IntegerRow>,
+    reduced_costs: IntegerRow,
+    basic_columns: Vec<usize>,
+}
+
 /// Which variables aren't fixed at these bounds. The one error is want of memory.
 fn free_of(alloc: Global, bounds: &[IntegerBounds]) -> Result<Vec<bool>, AllocError>
     ensures { IfOk result (λ v. v.items ≡ are_free bounds.now) }
@@ -84,6 +96,39 @@ impl Dictionaries {
             positions[*variable] = Position::InColumn(column);
         }
         Ok(positions)
+    }
+
+    /// What the tableau at a dictionary has of it and of its linear program. The one error is want of memory.
+    fn tableau_parts(
+        &self,
+        alloc: Global,
+        numbers: &[u32],
+        program_rows: &RcSlice<ProgramRow>,
+        place: usize,
+    ) -> Result<TableauParts, AllocError>
+        requires there { place < length self.now.all }
+        requires kept { (ps : List (List ℤ)) × (weight : ℕ) × (costs : List ℤ) × IsKept ps weight costs (kept_at self.now.all place) }
+        ensures { IfOk result (λ p. (p.numbers.items ≡ numbers.now) × (p.program_rows.items.value.items ≡ program_rows.now.items.value.items)
+            × (p.positions.items ≡ (kept_at self.now.all place).positions) × (p.nonbasic.items ≡ (kept_at self.now.all place).nonbasic)
+            × (p.rows.items ≡ (kept_at self.now.all place).rows) × (p.reduced_costs ≡ (kept_at self.now.all place).reduced_costs)
+            × (p.basic_columns.items ≡ (kept_at self.now.all place).basic_columns)) }
+    {
+        let numbers = Vec::from_slice(alloc, numbers)?;
+        let costs = Vec::from_slice(alloc, self.reduced_costs(place))?;
+        let positions = self.positions(alloc, place)?;
+        let nonbasic = Vec::from_slice(alloc, self.nonbasic(place))?;
+        let basic_columns = Vec::from_slice(alloc, self.basic_columns(place))?;
+        let rows = self.rows_by_column(alloc, place)?;
+        let program_rows = program_rows.clone()?;
+        Ok(TableauParts {
+            numbers,
+            program_rows,
+            positions,
+            nonbasic,
+            rows,
+            reduced_costs: IntegerRow::make(costs),
+            basic_columns,
+        })
     }
 }
 
@@ -142,30 +187,24 @@ impl BasicSolution {
         requires at { IsAt program_rows.now.items.value.items weight (kept_at dictionaries.now.all place) self }
         ensures { IfOk result (λ t. t ≡ view_of numbers.now program_rows.now.items.value.items (kept_at dictionaries.now.all place) self) }
     {
-        let costs = Vec::from_slice(alloc, dictionaries.reduced_costs(place))?;
-        let numbers = Vec::from_slice(alloc, numbers)?;
-        let program_rows = program_rows.clone()?;
-        let positions = dictionaries.positions(alloc, place)?;
-        let nonbasic = Vec::from_slice(alloc, dictionaries.nonbasic(place))?;
-        let rows = dictionaries.rows_by_column(alloc, place)?;
-        let basic_columns = Vec::from_slice(alloc, dictionaries.basic_columns(place))?;
+        let own = dictionaries.tableau_parts(alloc, numbers, program_rows, place)?;
         Ok(IntegerTableau {
             fixed: Fixed {
-                numbers,
+                numbers: own.numbers,
                 bounds: self.bounds,
-                rows: program_rows,
+                rows: own.program_rows,
                 weight,
                 reach: self.reach,
             },
-            positions,
-            nonbasic,
+            positions: own.positions,
+            nonbasic: own.nonbasic,
             at_upper: self.at_upper,
             nonbasic_values: self.nonbasic_values,
-            rows,
+            rows: own.rows,
             spare: IntegerRow::empty(alloc),
-            reduced_costs: IntegerRow::make(costs),
+            reduced_costs: own.reduced_costs,
             values: self.values,
-            basic_columns,
+            basic_columns: own.basic_columns,
             denominator: dictionaries.divisor(place).number(),
             pivots: self.pivots,
         })

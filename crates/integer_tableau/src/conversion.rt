@@ -135,7 +135,7 @@ impl IntegerTableau {
         coefficients(
             alloc,
             &self.positions,
-            &self.reduced_costs,
+            self.reduced_costs.numerators(),
             self.denominator,
         )
     }

@@ -1,10 +1,11 @@
 // The denominator of all numbers.
 
-ghost use Rattle.std.specs.Prelude.{◌≡◌, ℕ, ◌+◌, ◌*◌, ◌<◌, ◌≤◌, ◌^◌, [], pos, nat_abs, ◌*ℤ◌, ◌<ℤ◌, length, IsTrue, IfSome, slice_index_or};
+ghost use Rattle.std.specs.Prelude.{◌≡◌, ℕ, ◌+◌, ◌*◌, ◌<◌, ◌≤◌, ◌^◌, [], pos, nat_abs, ◌*ℤ◌, ◌<ℤ◌, length, IsTrue, IfSome, List, slice_index_or};
 ghost use Rattle.integer_tableau.specs.Numbers.{number_at, total_size};
 ghost use Rattle.integer_tableau.specs.Range.{size_limit};
-ghost use Rattle.integer_tableau.specs.Combined.{value_numerator, combined_value};
-ghost use Rattle.integer_tableau.specs.Denominator.{HasDenominator};
+ghost use Rattle.integer_tableau.specs.Combined.{IsCompact, expanded, value_numerator, combined_value};
+ghost use Rattle.integer_tableau.specs.Denominator.{ArePartsOf, HasDenominator};
+ghost use Rattle.integer_tableau.specs.IntegerTableau.{IntegerTableau as WholeTableau, tableau_of};
 
 use crate::combination::{column_value, combined_value};
 use crate::integer_row::IntegerRow;
@@ -13,27 +14,6 @@ use crate::position::Position;
 use crate::program_row::ProgramRow;
 use crate::range::SIZE_LIMIT;
 use crate::wide_numbers::product;
-
-/// Whether the numerators of the columns' values are at most `SIZE_LIMIT` in size.
-fn are_columns_small(
-    positions: &[Position],
-    nonbasic_values: &[i64],
-    values: &[i64],
-    denominator: i64,
-) -> bool
-    requires positions_there { length values.now ≤ length positions.now }
-    requires nonbasic_values_there { length values.now ≤ length nonbasic_values.now }
-    requires near { (j : ℕ) → j < length values.now → nat_abs (number_at nonbasic_values.now j) * nat_abs denominator < 2 ^ 63 }
-    ensures { IsTrue result → (j : ℕ) → j < length values.now → nat_abs (value_numerator denominator (slice_index_or positions.now j Position.InBasis) (number_at nonbasic_values.now j) (number_at values.now j)) ≤ size_limit }
-{
-    for (j, value) in values.iter().enumerate() {
-        let numerator = column_value(positions[j], nonbasic_values[j], *value, denominator);
-        if numerator.unsigned_abs() > SIZE_LIMIT {
-            return false;
-        }
-    }
-    true
-}
 
 /// The greatest size of the numerators of the columns' values.
 fn greatest_numerator(
@@ -158,6 +138,7 @@ fn are_rows_small_by_look(
 fn are_rows_small(
     program_rows: &[ProgramRow],
     weight: u64,
+    greatest: u64,
     positions: &[Position],
     nonbasic_values: &[i64],
     values: &[i64],
@@ -169,9 +150,9 @@ fn are_rows_small(
     requires weights { (i : ℕ) → i < length program_rows.now → total_size (slice_index_or program_rows.now i []) ≤ weight }
     requires light { (i : ℕ) → i < length program_rows.now → total_size (slice_index_or program_rows.now i []) < size_limit }
     requires near { (j : ℕ) → j < length values.now → nat_abs (number_at nonbasic_values.now j) * nat_abs denominator < 2 ^ 63 }
+    requires greatest { (j : ℕ) → j < length values.now → nat_abs (value_numerator denominator (slice_index_or positions.now j Position.InBasis) (number_at nonbasic_values.now j) (number_at values.now j)) ≤ greatest }
     ensures { IsTrue result → (i : ℕ) → i < length program_rows.now → nat_abs (value_numerator denominator (slice_index_or positions.now (length values.now + i) Position.InBasis) (number_at nonbasic_values.now (length values.now + i)) (combined_value denominator (slice_index_or program_rows.now i []) positions.now nonbasic_values.now values.now)) ≤ size_limit }
 {
-    let greatest = greatest_numerator(positions, nonbasic_values, values, denominator);
     if is_light(weight, greatest)
         && are_nonbasic_small(values.len(), positions, nonbasic_values, denominator)
     {
@@ -186,26 +167,49 @@ fn are_rows_small(
     )
 }
 
+/// A denominator of all numbers of a tableau of these parts, where none is greater in size than `SIZE_LIMIT` over it; none where one is.
+pub(crate) fn common_denominator(
+    program_rows: &[ProgramRow],
+    weight: u64,
+    positions: &[Position],
+    nonbasic_values: &[i64],
+    values: &[i64],
+    denominator: i64,
+) -> Option<u64>
+    requires positive { pos 0 <ℤ denominator }
+    requires parts { (reach : ℕ) × (t : WholeTableau) × IsCompact program_rows.now weight reach t × ArePartsOf t positions.now nonbasic_values.now values.now denominator }
+    ensures { (reach columns : ℕ) (numbers : List ℕ) (t : WholeTableau) → IsCompact program_rows.now weight reach t → ArePartsOf t positions.now nonbasic_values.now values.now denominator
+        → IfSome result (λ d. HasDenominator d (tableau_of columns numbers (expanded program_rows.now t))) }
+{
+    let greatest = greatest_numerator(positions, nonbasic_values, values, denominator);
+    if greatest > SIZE_LIMIT
+        || !are_rows_small(
+            program_rows,
+            weight,
+            greatest,
+            positions,
+            nonbasic_values,
+            values,
+            denominator,
+        )
+    {
+        return None;
+    }
+    Some(denominator.unsigned_abs())
+}
+
 impl IntegerTableau {
     /// A denominator of all numbers, where none is greater in size than `SIZE_LIMIT` over it; none where one is.
     pub fn common_denominator(&self) -> Option<u64>
         ensures { IfSome result (λ d. HasDenominator d self.now) }
     {
-        if !are_columns_small(
-            &self.positions,
-            &self.nonbasic_values,
-            &self.values,
-            self.denominator,
-        ) || !are_rows_small(
+        common_denominator(
             &self.fixed.rows,
             self.fixed.weight,
             &self.positions,
             &self.nonbasic_values,
             &self.values,
             self.denominator,
-        ) {
-            return None;
-        }
-        Some(self.denominator.unsigned_abs())
+        )
     }
 }

@@ -208,7 +208,7 @@ fn integer_rows(
 }
 
 /// Whether the numbers of each row are below `SIZE_LIMIT` in size.
-pub(crate) fn are_within(rows: &[ProgramRow]) -> bool
+fn are_within(rows: &[ProgramRow]) -> bool
     ensures { IsTrue result → (v : ℕ) → v < length rows.now → IsWithin (size_limit - 1) (slice_index_or rows.now v []) }
 {
     for row in rows {
@@ -220,7 +220,7 @@ pub(crate) fn are_within(rows: &[ProgramRow]) -> bool
 }
 
 /// The greatest sum of the sizes in a row, if each has 64 bits.
-pub(crate) fn greatest_weight(rows: &[ProgramRow]) -> Option<u64>
+fn greatest_weight(rows: &[ProgramRow]) -> Option<u64>
     ensures { IfSome result (λ w. (v : ℕ) → v < length rows.now → total_size (slice_index_or rows.now v []) ≤ w) }
 {
     let mut weight = 0u64;
@@ -228,6 +228,21 @@ pub(crate) fn greatest_weight(rows: &[ProgramRow]) -> Option<u64>
         weight = weight.max(row.weight()?);
     }
     Some(weight)
+}
+
+/// The greatest sum of the sizes in a row, if it and all numbers of the costs and the rows are below `SIZE_LIMIT` in size.
+pub(crate) fn small_weight(costs: &IntegerRow, rows: &[ProgramRow]) -> Option<u64>
+    ensures weights { IfSome result (λ w. (v : ℕ) → v < length rows.now → total_size (slice_index_or rows.now v []) ≤ w) }
+    ensures small { IfSome result (λ w. w < size_limit) }
+    ensures costs_within { IfSome result (λ w. IsWithin (size_limit - 1) costs.now) }
+    ensures rows_within { IfSome result (λ w. (v : ℕ) → v < length rows.now → IsWithin (size_limit - 1) (slice_index_or rows.now v [])) }
+{
+    let weight = greatest_weight(rows)?;
+    if costs.is_within() && are_within(rows) && weight < SIZE_LIMIT {
+        Some(weight)
+    } else {
+        None
+    }
 }
 
 /// The bounds of a column.
@@ -281,12 +296,9 @@ impl IntegerProgram {
         let Some(bounds) = all_bounds(alloc, program.bounds())? else {
             return Ok(None);
         };
-        let Some(weight) = greatest_weight(&rows) else {
+        let Some(weight) = small_weight(&costs, &rows) else {
             return Ok(None);
         };
-        if !costs.is_within() || !are_within(&rows) || weight >= SIZE_LIMIT {
-            return Ok(None);
-        }
         let numbers = Vec::from_slice(alloc, program.numbers())?;
         let rows = RcSlice::from_vec(rows)?;
         Ok(Some(IntegerProgram::from_parts(alloc, rows, weight, costs, bounds, numbers)))

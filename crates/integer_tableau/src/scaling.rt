@@ -8,10 +8,9 @@ ghost use Rattle.integer_tableau.specs.Entries.{entry_by};
 ghost use Rattle.integer_tableau.specs.Scales.{scale_at, scaled_by, bounds_over, AreScaledBounds, AreScaledRows, unscaled_program};
 
 use crate::integer_bounds::IntegerBounds;
-use crate::integer_program::{IntegerProgram, are_within, greatest_weight, integer};
+use crate::integer_program::{IntegerProgram, integer, small_weight};
 use crate::integer_row::IntegerRow;
 use crate::program_row::{ProgramEntry, ProgramRow};
-use crate::range::SIZE_LIMIT;
 use fraction::Frac;
 use std::alloc::{AllocError, Global};
 use std::rc::RcSlice;
@@ -43,6 +42,23 @@ fn scaled_integers(
         }
     }
     Ok(Some(numbers))
+}
+
+/// The objective of a linear program, so many times, in whole numbers; none where one isn't whole, or is too large. The one error is want of
+/// memory.
+fn scaled_costs(
+    alloc: Global,
+    program: &LinearProgram,
+    scale: u64,
+) -> Result<Option<IntegerRow>, AllocError>
+    requires { 0 < scale }
+    ensures { IfOk result (λ o. IfSome o (λ r. map (λ z. scaled_by 1 scale (whole z)) r ≡ program.now.costs)) }
+{
+    let costs = program.costs(alloc)?;
+    match scaled_integers(alloc, &costs, scale)? {
+        Some(numbers) => Ok(Some(IntegerRow::make(numbers))),
+        None => Ok(None),
+    }
 }
 
 /// A bound, so many times, as a whole number, which may not be there; none where it isn't whole, or is too large.
@@ -189,11 +205,9 @@ impl IntegerProgram {
         requires cost_positive { 0 < cost_scale }
         ensures { IfOk result (λ o. IfSome o (λ p. unscaled_program (scale_at (length p.costs) scales.now) cost_scale p ≡ program.now)) }
     {
-        let all_costs = program.costs(alloc)?;
-        let Some(costs) = scaled_integers(alloc, &all_costs, cost_scale)? else {
+        let Some(costs) = scaled_costs(alloc, program, cost_scale)? else {
             return Ok(None);
         };
-        let costs = IntegerRow::make(costs);
         let Some(rows) = scaled_rows(alloc, program, scales)? else {
             return Ok(None);
         };
@@ -201,12 +215,9 @@ impl IntegerProgram {
         else {
             return Ok(None);
         };
-        let Some(weight) = greatest_weight(&rows) else {
+        let Some(weight) = small_weight(&costs, &rows) else {
             return Ok(None);
         };
-        if !costs.is_within() || !are_within(&rows) || weight >= SIZE_LIMIT {
-            return Ok(None);
-        }
         let numbers = Vec::from_slice(alloc, program.numbers())?;
         let rows = RcSlice::from_vec(rows)?;
         Ok(Some(IntegerProgram::from_parts(alloc, rows, weight, costs, bounds, numbers)))

@@ -1,15 +1,15 @@
 // Runs by dictionaries that are kept.
 
-ghost use Rattle.std.specs.Prelude.{◌≡◌, ◌≢◌, ◌≤◌, ◌<◌, ◌+◌, ◌^◌, ℤ, List, length, IfErr, IfOk, IfSome};
-ghost use Rattle.tableau.specs.Place.{PlaceIsWithin};
-ghost use Rattle.tableau.specs.Run.{EndsAs, run_from};
+ghost use Rattle.std.specs.Prelude.{◌≡◌, ◌≤◌, ◌<◌, ◌+◌, ◌^◌, ℕ, ℤ, List, length, IfErr, IfOk, IfSome};
+ghost use Rattle.tableau.specs.Run.{RunEnd, run_from};
 ghost use Rattle.integer_tableau.specs.Kept.{IsAt, kept_at, view_of};
 ghost use Rattle.integer_tableau.specs.RowSums.{AreColumnsOf};
 ghost use Rattle.integer_tableau.specs.StoreCalls.{AreKeptOf, StayKept};
-ghost use Rattle.integer_tableau.specs.StoredRun.{IsStep, dictionary_at, view_with};
+ghost use Rattle.integer_tableau.specs.StoredRun.{IsEndWithin, IsStep, IsStoredEnd, dictionary_at, view_with};
 
 use crate::basic_solution::BasicSolution;
 use crate::coefficient_columns::CoefficientColumns;
+use crate::dictionary::Dictionaries;
 use crate::dictionary_store::DictionaryStore;
 use crate::pivot::size_of;
 use crate::program_row::ProgramRow;
@@ -71,8 +71,61 @@ fn make_step(
     }
 }
 
-/// The run of a solution with at most `cap` further pivots, by a tableau of its own, after so many. The error says that it is given up, and how
-/// many pivots were made before.
+/// How a run ended.
+#[derive(Drop)]
+pub(crate) enum StoredEnd {
+    /// At this last place, with the solution at the dictionary of place `at`. It has no tableau yet.
+    Kept {
+        place: Place,
+        at: usize,
+        solution: BasicSolution,
+    },
+    /// It went on by a tableau of its own.
+    Alone(IntegerRunEnd),
+}
+
+impl StoredEnd {
+    /// The end with its tableau, by the dictionaries of the run. The error says that the run is given up, since memory is wanting, and how many pivots
+    /// were made before.
+    pub(crate) fn into_run_end(
+        self,
+        alloc: Global,
+        numbers: &[u32],
+        program_rows: &RcSlice<ProgramRow>,
+        weight: u64,
+        dictionaries: &Dictionaries,
+    ) -> Result<IntegerRunEnd, u64>
+        requires kept { AreKeptOf program_rows.now.items.value.items weight dictionaries.now }
+        requires ended { (cap : ℕ) × (e : RunEnd) × IsStoredEnd numbers.now program_rows.now.items.value.items weight dictionaries.now cap e self }
+        ensures end { (cap : ℕ) (e : RunEnd) → IsStoredEnd numbers.now program_rows.now.items.value.items weight dictionaries.now cap e self → IfOk result (IsEndWithin cap e) }
+        ensures given_up { (cap : ℕ) (e : RunEnd) → IsStoredEnd numbers.now program_rows.now.items.value.items weight dictionaries.now cap e self → IfErr result (λ made. made ≤ cap) }
+    {
+        match self {
+            StoredEnd::Kept {
+                place,
+                at,
+                solution,
+            } => {
+                let made = solution.pivots;
+                match solution.into_tableau(
+                    alloc,
+                    numbers,
+                    program_rows,
+                    weight,
+                    dictionaries,
+                    at,
+                ) {
+                    Ok(tableau) => Ok(IntegerRunEnd { place, tableau }),
+                    Err(_) => Err(made),
+                }
+            }
+            StoredEnd::Alone(end) => Ok(end),
+        }
+    }
+}
+
+/// The run of a solution with at most `cap` further pivots, by a tableau of its own. The error says that it is given up, and how many pivots were
+/// made before.
 fn run_alone(
     alloc: Global,
     numbers: &[u32],
@@ -82,19 +135,15 @@ fn run_alone(
     place: usize,
     solution: BasicSolution,
     cap: u64,
-    made: u64,
-) -> Result<IntegerRunEnd, u64>
+) -> Result<StoredEnd, u64>
     requires kept { AreKeptOf program_rows.now.items.value.items weight store.now.kept }
     requires there { place < length store.now.kept.all }
     requires at { IsAt program_rows.now.items.value.items weight (kept_at store.now.kept.all place) solution }
     requires room { solution.pivots + cap < 2 ^ 64 }
-    requires few { made + cap < 2 ^ 64 }
-    ensures value { IfOk result (λ e. EndsAs (run_from cap (view_of numbers.now program_rows.now.items.value.items (kept_at store.now.kept.all place) solution)) e.place e.tableau) }
-    ensures within { IfOk result (λ e. PlaceIsWithin (length e.tableau.statuses) e.place) }
-    ensures exact { IfOk result (λ e. e.place ≢ Place.Cramped) }
-    ensures capped { IfOk result (λ e. e.tableau.pivots ≤ solution.pivots + cap) }
-    ensures given_up { IfErr result (λ m. m ≤ made + cap) }
+    ensures end { IfOk result (IsStoredEnd numbers.now program_rows.now.items.value.items weight store.now.kept (solution.pivots + cap) (run_from cap (view_of numbers.now program_rows.now.items.value.items (kept_at store.now.kept.all place) solution))) }
+    ensures given_up { IfErr result (λ made. made ≤ solution.pivots + cap) }
 {
+    let made = solution.pivots;
     let Ok(tableau) = solution.into_tableau(
         alloc,
         numbers,
@@ -106,33 +155,8 @@ fn run_alone(
         return Err(made);
     };
     match tableau.run(cap) {
-        Ok(end) => Ok(end),
+        Ok(end) => Ok(StoredEnd::Alone(end)),
         Err(more) => Err(made + more),
-    }
-}
-
-/// The end of a run at the last place of a solution, after so many pivots. The error says that it is given up.
-fn ended(
-    alloc: Global,
-    numbers: &[u32],
-    program_rows: &RcSlice<ProgramRow>,
-    weight: u64,
-    store: &DictionaryStore,
-    at: usize,
-    solution: BasicSolution,
-    place: Place,
-    made: u64,
-) -> Result<IntegerRunEnd, u64>
-    requires kept { AreKeptOf program_rows.now.items.value.items weight store.now.kept }
-    requires there { at < length store.now.kept.all }
-    requires at_dictionary { IsAt program_rows.now.items.value.items weight (kept_at store.now.kept.all at) solution }
-    ensures place { IfOk result (λ e. e.place ≡ place) }
-    ensures tableau { IfOk result (λ e. e.tableau ≡ view_of numbers.now program_rows.now.items.value.items (kept_at store.now.kept.all at) solution) }
-    ensures given_up { IfErr result (λ m. m ≡ made) }
-{
-    match solution.into_tableau(alloc, numbers, program_rows, weight, &store.kept, at) {
-        Ok(tableau) => Ok(IntegerRunEnd { place, tableau }),
-        Err(_) => Err(made),
     }
 }
 
@@ -147,21 +171,18 @@ pub(crate) fn run_stored(
     store: &mut DictionaryStore,
     solution: BasicSolution,
     cap: u64,
-) -> Result<IntegerRunEnd, u64>
+) -> Result<StoredEnd, u64>
     requires kept { AreKeptOf program_rows.now.items.value.items weight store.old.kept }
     requires columns { IfSome columns.now (AreColumnsOf program_rows.now.items.value.items) }
     requires some { 0 < length store.old.kept.all }
     requires at { IsAt program_rows.now.items.value.items weight (kept_at store.old.kept.all 0) solution }
     requires fresh { solution.pivots ≡ 0 }
-    ensures value { IfOk result (λ e. EndsAs (run_from cap (view_with numbers.now program_rows.now.items.value.items (dictionary_at store.old.kept 0) solution)) e.place e.tableau) }
-    ensures within { IfOk result (λ e. PlaceIsWithin (length e.tableau.statuses) e.place) }
-    ensures exact { IfOk result (λ e. e.place ≢ Place.Cramped) }
-    ensures capped { IfOk result (λ e. e.tableau.pivots ≤ cap) }
+    ensures end { IfOk result (IsStoredEnd numbers.now program_rows.now.items.value.items weight store.new.kept cap (run_from cap (view_with numbers.now program_rows.now.items.value.items (dictionary_at store.old.kept 0) solution))) }
     ensures given_up { IfErr result (λ made. made ≤ cap) }
     ensures kept { StayKept program_rows.now.items.value.items weight store.old.kept store.new.kept }
 {
     let mut solution = solution;
-    let mut place = 0;
+    let mut at = 0;
     for made in 0..cap {
         match make_step(
             alloc,
@@ -169,22 +190,16 @@ pub(crate) fn run_stored(
             columns,
             weight,
             store,
-            place,
+            at,
             &mut solution,
         ) {
-            Step::Moved(next) => place = next,
-            Step::Ended(last) => {
-                return ended(
-                    alloc,
-                    numbers,
-                    program_rows,
-                    weight,
-                    store,
+            Step::Moved(next) => at = next,
+            Step::Ended(place) => {
+                return Ok(StoredEnd::Kept {
                     place,
+                    at,
                     solution,
-                    last,
-                    made,
-                );
+                });
             }
             Step::Closed => {
                 let rest = cap - made;
@@ -194,24 +209,13 @@ pub(crate) fn run_stored(
                     program_rows,
                     weight,
                     store,
-                    place,
+                    at,
                     solution,
                     rest,
-                    made,
                 );
             }
             Step::GivenUp => return Err(made),
         }
     }
-    run_alone(
-        alloc,
-        numbers,
-        program_rows,
-        weight,
-        store,
-        place,
-        solution,
-        0,
-        cap,
-    )
+    run_alone(alloc, numbers, program_rows, weight, store, at, solution, 0)
 }

@@ -1,5 +1,5 @@
 -- Lemmas: the reader's tables after the lines before.
-use Rattle.std.specs.Prelude.{◌≡◌, ℕ, Bool, true, false, cond, List, ◌∷◌, Option, Some, None, is_some, length, ◌<◌, ◌≢◌, []}
+use Rattle.std.specs.Prelude.{◌≡◌, ℕ, Bool, true, false, cond, List, ◌∷◌, Option, Some, None, is_some, length, ◌<◌, ◌≤◌, ◌≢◌, []}
 use Rattle.std.proofs.Common.{refl, sym, ap, ◌∙◌, arith, set, get_or, subst}
 use Rattle.std.proofs.lemmas.List.{length-map}
 use denote.Ref.{Bor}
@@ -89,6 +89,29 @@ module _ {B H : Type 0} (s : Columns B H) (es : List (Bor (List ℕ) × RowType)
       by : (b : Bool) → b ≡ is_same (last_of entries) e.column → cond b (bytes_of s.last) (Some e.column) ≡ Some e.column
       by true f = h.last ∙ last_is (last_of entries) e.column f
       by false f = refl
+
+-- ---- the fields of a line
+pub texts_two : (fields : List (Bor (List ℕ))) → 2 ≤ length fields → length fields < 3
+    → texts fields ≡ (get_or fields 0 (record { ref_ptr = (0, 0); now = [] })).now ∷ (get_or fields 1 (record { ref_ptr = (0, 0); now = [] })).now ∷ []
+texts_two [] l k = absurd (omega arith)
+texts_two (a ∷ []) l k = absurd (omega arith)
+texts_two (a ∷ b ∷ []) l k = refl
+texts_two (a ∷ b ∷ c ∷ fields) l k = absurd (omega arith)
+
+pub pairs_two : (fields : List (Bor (List ℕ))) → 2 ≤ length fields → length fields < 3
+    → pairs_of (texts fields) ≡ Some (((get_or fields 0 (record { ref_ptr = (0, 0); now = [] })).now, (get_or fields 1 (record { ref_ptr = (0, 0); now = [] })).now) ∷ [])
+pairs_two fields l k = ap pairs_of (texts_two fields l k)
+
+pub pairs_four : (fields : List (Bor (List ℕ))) → 4 ≤ length fields → length fields < 5
+    → pairs_of (texts fields) ≡ Some (
+    ((get_or fields 0 (record { ref_ptr = (0, 0); now = [] })).now, (get_or fields 1 (record { ref_ptr = (0, 0); now = [] })).now)
+    ∷ ((get_or fields 2 (record { ref_ptr = (0, 0); now = [] })).now, (get_or fields 3 (record { ref_ptr = (0, 0); now = [] })).now) ∷ [])
+pairs_four [] l k = absurd (omega arith)
+pairs_four (a ∷ []) l k = absurd (omega arith)
+pairs_four (a ∷ b ∷ []) l k = absurd (omega arith)
+pairs_four (a ∷ b ∷ c ∷ []) l k = absurd (omega arith)
+pairs_four (a ∷ b ∷ c ∷ d ∷ []) l k = refl
+pairs_four (a ∷ b ∷ c ∷ d ∷ e ∷ fields) l k = absurd (omega arith)
 
 -- other counts than two and four are no pairs
 pub pairs_none : (fields : List (Bor (List ℕ))) → length fields ≢ 2 → length fields ≢ 4 → pairs_of (texts fields) ≡ None

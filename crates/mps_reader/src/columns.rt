@@ -30,12 +30,23 @@ pub struct Cell<'a> {
 }
 
 /// The columns so far, the last one's name and place, and what the columns say of each row.
-#[derive(Drop)]
 pub struct Columns<'a, B: BuildHasher + Drop> {
     pub columns: IndexMap<&'a [u8], Column, B>,
     pub last: Option<&'a [u8]>,
     pub place: u16,
     pub rows: RowTable,
+}
+
+/// By hand (docs/DECISIONS.md, entry 98).
+impl<'a, B: BuildHasher + Drop> Drop for Columns<'a, B> {
+    fn drop(self) {
+        let Columns {
+            columns: _,
+            last: _,
+            place: _,
+            rows: _,
+        } = self;
+    }
 }
 
 /// Whether a marker begins whole columns.

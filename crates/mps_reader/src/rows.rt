@@ -1,9 +1,9 @@
 //! Lines of ROWS.
 
-ghost use Rattle.std.specs.Prelude.{◌≡◌, ◌++◌, ◌∷◌, ◌==◌, ◌||◌, [], OnOk, IfOk, IfErr, None};
+ghost use Rattle.std.specs.Prelude.{◌≡◌, ◌++◌, ◌∷◌, ◌==◌, ◌||◌, [], OnOk, IfOk, IfErr, None, Some};
 ghost use Rattle.mps_reader.specs.Words.{row_type_of};
 ghost use Rattle.mps_reader.specs.Sections.{row_entry};
-ghost use Rattle.mps_reader.specs.Faults.{row_fault, is_counted, counted};
+ghost use Rattle.mps_reader.specs.Faults.{row_fault, typed_row_fault, is_counted, counted};
 ghost use Rattle.mps_reader.specs.RowState.{new_row};
 ghost use Rattle.mps_reader.specs.RowsSoFar.{new_rows};
 ghost use Rattle.mps_reader.specs.Tables.{texts, table, Stops};
@@ -50,6 +50,35 @@ fn keeps_terms(kind: RowType, count: usize, rows: usize) -> bool
     is_counted(kind) || count == rows
 }
 
+/// Takes a row of this type and says whether its terms count, or says why not.
+fn take_row<'a, B: BuildHasher + Drop>(
+    rows: &mut IndexMap<&'a [u8], RowType, B>,
+    count: &mut usize,
+    kind: RowType,
+    name: &'a [u8],
+) -> Result<bool, Stop>
+    requires { count.old ≡ counted (table rows.old.entries) }
+    ensures fault { OnOk result (typed_row_fault (table rows.old.entries) name.now (Some kind) ≡ None) }
+    ensures row { OnOk result (table rows.new.entries ≡ table rows.old.entries ++ (name.now, kind) ∷ []) }
+    ensures keeps { IfOk result (λ keeps. new_rows (table rows.old.entries) ++ new_row keeps ∷ [] ≡ new_rows (table rows.new.entries)) }
+    ensures err { IfErr result (λ e. Stops e (typed_row_fault (table rows.old.entries) name.now (Some kind))) }
+    ensures count { OnOk result (count.new ≡ counted (table rows.new.entries)) }
+{
+    let keeps = keeps_terms(kind, *count, rows.len());
+    match add(rows, name, kind) {
+        Ok(true) => {}
+        Ok(false) => return Err(Stop::Fault(Kind::Duplicate)),
+        Err(_) => return Err(Stop::Memory),
+    }
+    if is_counted(kind) {
+        if *count >= MOST_ROWS {
+            return Err(Stop::Fault(Kind::TooMany));
+        }
+        *count += 1;
+    }
+    Ok(keeps)
+}
+
 /// Takes a line of ROWS and says whether the row's terms count, or says why not. Of rows of type N only those of the first one do.
 pub fn row_line<'a, B: BuildHasher + Drop>(
     rows: &mut IndexMap<&'a [u8], RowType, B>,
@@ -69,17 +98,5 @@ pub fn row_line<'a, B: BuildHasher + Drop>(
     let Some(kind) = row_type_of(word) else {
         return Err(Stop::Fault(Kind::BadFields));
     };
-    let keeps = keeps_terms(kind, *count, rows.len());
-    match add(rows, *name, kind) {
-        Ok(true) => {}
-        Ok(false) => return Err(Stop::Fault(Kind::Duplicate)),
-        Err(_) => return Err(Stop::Memory),
-    }
-    if is_counted(kind) {
-        if *count >= MOST_ROWS {
-            return Err(Stop::Fault(Kind::TooMany));
-        }
-        *count += 1;
-    }
-    Ok(keeps)
+    take_row(rows, count, kind, *name)
 }

@@ -21,11 +21,21 @@ use problem::MOST_ROWS;
 use std::hash::BuildHasher;
 
 /// The numbers of the rows so far, the set's name, and how many of these rows count where they are ranges.
-#[derive(Drop)]
 pub struct Sides<'a> {
     pub numbers: SideTable,
     pub group: Option<&'a [u8]>,
     pub ranged: usize,
+}
+
+/// By hand (docs/DECISIONS.md, entry 98).
+impl<'a> Drop for Sides<'a> {
+    fn drop(self) {
+        let Sides {
+            numbers: _,
+            group: _,
+            ranged: _,
+        } = self;
+    }
 }
 
 /// Whether a set's name differs from the one before.

@@ -108,6 +108,29 @@ copied q t next ss old new e f =
     at None = refl
     at (Some es) = ap Some (append_assoc old (t ∷ []) es)
 
+-- an entry after the products of earlier variables
+pub entry_after : (q : ℚ) (t : ℕ × ℚ) (next : Terms → Option Terms) (source ss old mid new : Terms) (k i n : ℕ) → k ≡ t.0 → ss ≡ drop i source
+    → option_map (λ es. mid ++ es) (met q t next (drop i source)) ≡ option_map (λ es. old ++ es) (products_below q k (met q t next) source)
+    → option_map (λ es. new ++ es) (next (drop n ss)) ≡ option_map (λ es. mid ++ es) (met q t next ss)
+    → option_map (λ es. new ++ es) (next (drop (i + n) source)) ≡ option_map (λ es. old ++ es) (products_below q t.0 (met q t next) source)
+entry_after q t next source ss old mid new k i n e f g h =
+    ap (λ ss. option_map (λ es. new ++ es) (next ss)) (sym (ap (drop n) f ∙ drop-drop n i source))
+    ∙ h ∙ ap (λ ss. option_map (λ es. mid ++ es) (met q t next ss)) f
+    ∙ g ∙ ap (λ k. option_map (λ es. old ++ es) (products_below q k (met q t next) source)) e
+
+-- nothing put behind others
+none_of : (old : Terms) (o : Option Terms) → option_map (λ es. old ++ es) o ≡ None → o ≡ None
+none_of old None e = refl
+none_of old (Some es) e = cc
+
+-- one that is cramped there
+pub entry_cramped : (q : ℚ) (t : ℕ × ℚ) (next : Terms → Option Terms) (source ss old mid : Terms) (k i : ℕ) → k ≡ t.0 → ss ≡ drop i source
+    → option_map (λ es. mid ++ es) (met q t next (drop i source)) ≡ option_map (λ es. old ++ es) (products_below q k (met q t next) source)
+    → met q t next ss ≡ None → products_below q t.0 (met q t next) source ≡ None
+entry_cramped q t next source ss old mid k i e f g h =
+    ap (λ k. products_below q k (met q t next) source) (sym e)
+    ∙ none_of old (products_below q k (met q t next) source) (sym g ∙ ap (λ ss. option_map (λ es. mid ++ es) (met q t next ss)) (sym f) ∙ ap (option_map (λ es. mid ++ es)) h)
+
 -- ---- the merge, row entry by row entry
 pub without_next : (v : ℕ) (es : Terms) (i : ℕ) (e : ℕ × ℚ) → i < length es → e ≡ get_or es i e → (e.0 ≡ v → ⊥) → without v (drop i es) ≡ e ∷ without v (drop (i + 1) es)
 without_next v es i e l f n = ap (without v) (next_entry es i e l f) ∙ ap (λ b. if b then without v (drop (i + 1) es) else e ∷ without v (drop (i + 1) es)) (ne_eqb e.0 v n)
@@ -128,11 +151,7 @@ pub merge_stops : (w : ℕ) (q : ℚ) (v : ℕ) (row source ss : Terms) (i next 
     → ((rest : Terms → Option Terms) → products_below q e.0 (met q e rest) ss ≡ None)
     → option_map (λ es. old ++ es) (merged w q (without v (drop i row)) (drop next source)) ≡ option_map (λ es. new ++ es) whole → whole ≡ None
 merge_stops w q v row source ss i next e old new whole l f g r h k =
-    none_of whole (sym k ∙ ap (option_map (λ es. old ++ es)) ((λ a. merged w q (without_next v row i e l f g a) (sym r a)) ∙ h (merged w q (without v (drop (i + 1) row)))))
-  where
-    none_of : (o : Option Terms) → option_map (λ es. new ++ es) o ≡ None → o ≡ None
-    none_of None e = refl
-    none_of (Some es) e = cc
+    none_of new whole (sym k ∙ ap (option_map (λ es. old ++ es)) ((λ a. merged w q (without_next v row i e l f g a) (sym r a)) ∙ h (merged w q (without v (drop (i + 1) row)))))
 
 -- ---- quotients
 pub quotients_go_on : (p : ℚ) (v : ℕ) (es : Terms) (i : ℕ) (e : ℕ × ℚ) (others old new : Terms) (whole : Option Terms) → i < length es → e ≡ get_or es i e

@@ -113,6 +113,56 @@ fn empty_rows(alloc: Global, count: usize) -> Result<Vec<SparseRow>, AllocError>
     Ok(rows)
 }
 
+/// What the tableau at the start says of each variable, but for its row.
+#[derive(Drop)]
+struct StartLists {
+    statuses: Vec<BasisStatus>,
+    nonbasic_values: Vec<Frac>,
+    values: Vec<Frac>,
+}
+
+/// The lists of the tableau at the start, with values that are still 0. The one error is want of memory.
+fn start_lists(
+    alloc: Global,
+    costs: &SparseRow,
+    bounds: &[Bounds],
+    rows: usize,
+) -> Result<StartLists, AllocError>
+    requires { length costs.now ≤ length bounds.now }
+    ensures statuses { IfOk result (λ l. l.statuses.items ≡ map start_status costs.now ++ replicate rows Basic) }
+    ensures nonbasic_values { IfOk result (λ l. l.nonbasic_values.items ≡ padded rows (start_values costs.now bounds.now)) }
+    ensures values { IfOk result (λ l. l.values.items ≡ replicate (length costs.now + rows) zero_ℚ) }
+    ensures count { IfOk result (λ l. (length l.statuses.items ≡ length costs.now + rows) × (length l.nonbasic_values.items ≡ length costs.now + rows) × (length l.values.items ≡ length costs.now + rows)) }
+{
+    let dense = costs.dense(alloc)?;
+    let statuses = start_statuses(alloc, &dense, rows)?;
+    let mut nonbasic_values = column_values(alloc, &dense, bounds)?;
+    pad(&mut nonbasic_values, rows)?;
+    let values = Vec::from_elem(alloc, Frac::of(0), statuses.len())?;
+    Ok(StartLists {
+        statuses,
+        nonbasic_values,
+        values,
+    })
+}
+
+/// An empty row for each column and behind them these rows, which it takes, padded with zeros. The one error is want of memory.
+fn start_rows(
+    alloc: Global,
+    columns: usize,
+    rows: &mut Vec<SparseRow>,
+) -> Result<Vec<SparseRow>, AllocError>
+    requires { All (λ (r : List ℚ). length r + length rows.old.items < 2 ^ 64) rows.old.items }
+    ensures value { IfOk result (λ v. v.items ≡ replicate columns [] ++ map (padded (length rows.old.items)) rows.old.items) }
+    ensures count { IfOk result (λ v. length v.items ≡ columns + length rows.old.items) }
+{
+    let zeros = rows.len();
+    pad_rows(rows, zeros);
+    let mut all_rows = empty_rows(alloc, columns)?;
+    all_rows.append(rows)?;
+    Ok(all_rows)
+}
+
 impl LinearProgram {
     /// The tableau whose basis is the rows' values, with values that are still 0. The one error is want of memory.
     fn slack_basis(self, alloc: Global) -> Result<Tableau, AllocError>
@@ -124,24 +174,23 @@ impl LinearProgram {
             bounds,
             numbers,
         } = self;
+        let columns = costs.width();
         let count = rows.len();
-        let dense = costs.dense(alloc)?;
-        let statuses = start_statuses(alloc, &dense, count)?;
-        let mut nonbasic_values = column_values(alloc, &dense, &bounds)?;
-        pad(&mut nonbasic_values, count)?;
-        pad_rows(&mut rows, count);
-        let mut all_rows = empty_rows(alloc, dense.len())?;
-        all_rows.append(&mut rows)?;
-        let values = Vec::from_elem(alloc, Frac::of(0), statuses.len())?;
+        let StartLists {
+            statuses,
+            nonbasic_values,
+            values,
+        } = start_lists(alloc, &costs, &bounds, count)?;
+        let rows = start_rows(alloc, columns, &mut rows)?;
         let mut reduced_costs = costs;
         reduced_costs.pad(count);
         Ok(Tableau {
-            columns: dense.len(),
+            columns,
             numbers,
             bounds,
             statuses,
             nonbasic_values,
-            rows: all_rows,
+            rows,
             reduced_costs,
             values,
             pivots: 0,

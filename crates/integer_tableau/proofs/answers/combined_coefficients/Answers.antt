@@ -19,5 +19,5 @@ returns c =
     let d = to_z-of_z w64 a.denominator c.ranges.denominator in
     let made = c.if-not-combine_small.ensures refl ∙ ap (λ z. combined_row (nat_abs z) a.positions.now a.rows.now a.program_row.now) d in
     IfOk-weaker c.coefficients.result _ _ (λ v h. h
-    ∙ (λ i. coefficients (nat_abs (d i)) (take_rest a.positions.now a.first i) c.combine_small.new.self)
+    ∙ (λ i. coefficients (nat_abs (d i)) (take_rest a.positions.now a.first i) (c.numerators.ensures i))
     ∙ ap (coefficients (nat_abs a.denominator) (drop a.first a.positions.now)) made) c.coefficients.ensures

@@ -1,10 +1,11 @@
-use Rattle.std.proofs.Common.{◌-◌, ℤ, List, arith, length, refl, subst, w64}
+use Rattle.std.proofs.Common.{◌-◌, ◌<◌, ◌∙◌, ℤ, List, ap, arith, length, nat_abs, refl, subst, sym, w64}
 use Rattle.std.specs.Option.{IfSome}
 use Rattle.std.specs.Prelude.{◌≡◌, ◌++◌, ◌+◌, ◌*◌, slice_range}
 use Rattle.std.proofs.lemmas.Int.{to_z-of_z}
 use Rattle.integer_tableau.specs.Numbers.{IsWithin}
 use Rattle.integer_tableau.specs.Range.{size_limit}
 use Rattle.integer_tableau.specs.Substitution.{IsSubstitutedRow}
+use Rattle.integer_tableau.proofs.WaysOut.{extended, none_then, stays_grown}
 use Rattle.integer_tableau.proofs.PushedRows.{row_pushed, row_there, row_within}
 use Rattle.integer_tableau.proofs.made_dictionary.push_row.Goals as goal
 
@@ -45,3 +46,34 @@ returns-clause-pushed c =
     (subst (λ e. IfSome c.push_substituted.result (λ b. (x : List ℤ) × (c.push_substituted.new.numerators.items ≡ ns ++ x)
     × IsSubstitutedRow c.args.own.divisor.number e c.args.turn.column c.args.solved.now (slice_range ns from (from + length c.args.solved.now)) x × IsWithin b x))
     (to_z-of_z w64 c.args.pivot_size c.ranges.pivot_size) c.push_substituted.ensures.pushed)
+
+pub push_substituted-requires-clause-column : goal.push_substituted-requires-clause-column
+push_substituted-requires-clause-column c = c.requires.column
+
+pub push_substituted-requires-clause-source_small : goal.push_substituted-requires-clause-source_small
+push_substituted-requires-clause-source_small c = c.requires.source_small
+
+pub push_substituted-requires-clause-pivot_size_small : goal.push_substituted-requires-clause-pivot_size_small
+push_substituted-requires-clause-pivot_size_small c = subst (λ z. nat_abs z < size_limit) (sym (to_z-of_z w64 c.args.pivot_size c.ranges.pivot_size)) c.requires.pivot_size_small
+
+pub returns-clause-more : goal.returns-clause-more
+returns-clause-more c = c.push_substituted.ensures.more
+
+pub returns-in_err-ok-clause-more : goal.returns-in_err-ok-clause-more
+returns-in_err-ok-clause-more c = stays_grown _ c.extend_from_slice.new.self.items c.args.numerators.now.items c.numerators.result.now c.extend_from_slice.ensures.items c.in_err-ok.ensures.variant
+
+pub returns-in_err-ok-clause-pushed : goal.returns-in_err-ok-clause-pushed
+returns-in_err-ok-clause-pushed c = none_then c.from_residual.result _ c.from_residual.ensures
+
+pub returns-then-column-turn-clause-more : goal.returns-then-column-turn-clause-more
+returns-then-column-turn-clause-more c =
+    (c.numerators.result.now, extended _ c.extend_from_slice.new.self.items c.args.numerators.now.items c.numerators.result.now c.extend_from_slice.ensures.items c.in_ok-ok.ensures.variant)
+
+pub returns-then-column-turn-clause-pushed : goal.returns-then-column-turn-clause-pushed
+returns-then-column-turn-clause-pushed c = (
+  c.args.solved.now,
+  extended _ c.extend_from_slice.new.self.items c.args.numerators.now.items c.numerators.result.now c.extend_from_slice.ensures.items c.in_ok-ok.ensures.variant
+      ∙ ap (λ (xs : List ℤ). c.args.numerators.now.items ++ xs) c.numerators.ensures,
+  record { width = refl; put = λ _. refl; other = λ no. absurd (no c.if-column-turn.true) },
+  c.bound.ensures,
+)

@@ -1,24 +1,14 @@
-use Rattle.std.proofs.Common.{◌≡◌, ◌+◌, ◌++◌, ◌-◌, ◌<◌, ◌≤◌, ◌∙◌, [], ℤ, Bool, true, false, List, Option, None, append-nil, ap, arith, length, nat_abs, rules, subst, sym, w64}
-use Rattle.std.specs.Option.{IfSome}
-use Rattle.std.specs.Prelude.{if◌then◌else◌, slice_range}
+use Rattle.std.proofs.Common.{◌≡◌, ◌+◌, ◌++◌, ◌-◌, ◌<◌, ◌≤◌, ◌∙◌, ℤ, List, ap, arith, length, nat_abs, rules, subst, sym, w64}
+use Rattle.std.specs.Prelude.{slice_range}
 use Rattle.std.proofs.lemmas.Int.{to_z-of_z}
 use Rattle.integer_tableau.proofs.Arenas.{piece_many}
 use Rattle.integer_tableau.proofs.Sizes.{written}
+use Rattle.integer_tableau.proofs.WaysOut.{extended, none_then, stays_grown, untouched}
 use Rattle.integer_tableau.specs.Numbers.{IsWithin}
 use Rattle.integer_tableau.specs.Range.{size_limit}
 use Rattle.integer_tableau.specs.Substitution.{IsSubstitutedRow}
 use Rattle.integer_tableau.proofs.made_dictionary.push_substituted.Goals as goal
 use Rattle.integer_tableau.proofs.made_dictionary.push_substituted.Goals.{After-deref_mut, After-width}
-
--- what a list has after others are put behind its own, or aren't
-extended : {A : Type 0} (b : Bool) (new old more : List A) → new ≡ (if b then old ++ more else old) → true ≡ b → new ≡ old ++ more
-extended b new old more e t = e ∙ ap (λ b. if b then old ++ more else old) (sym t)
-
-stays : {A : Type 0} (b : Bool) (new old more : List A) → new ≡ (if b then old ++ more else old) → false ≡ b → new ≡ old
-stays b new old more e f = e ∙ ap (λ b. if b then old ++ more else old) (sym f)
-
-none_then : {A : Type 0} (o : Option A) (P : A → Type 0) → o ≡ None → IfSome o P
-none_then o P e = subst (λ o. IfSome o P) (sym e) tt
 
 -- the spare room holds the row
 module _ (c : After-deref_mut) where
@@ -47,7 +37,7 @@ pub slice_bounds-extend_from_slice-end : goal.slice_bounds-extend_from_slice-end
 slice_bounds-extend_from_slice-end c = ends_there c
 
 pub returns-in_err-ok-clause-more : goal.returns-in_err-ok-clause-more
-returns-in_err-ok-clause-more c = ([], sym (append-nil c.args.numerators.now.items))
+returns-in_err-ok-clause-more c = untouched c.args.numerators.now.items
 
 pub returns-in_err-ok-clause-pushed : goal.returns-in_err-ok-clause-pushed
 returns-in_err-ok-clause-pushed c = none_then c.from_residual.result _ c.from_residual.ensures
@@ -71,16 +61,13 @@ pub substitute_small-requires-clause-pivot_size_small : goal.substitute_small-re
 substitute_small-requires-clause-pivot_size_small c = subst (λ (z : ℤ). nat_abs z < size_limit) (sym (to_z-of_z w64 c.args.pivot_size c.ranges.pivot_size)) c.requires.pivot_size_small
 
 pub returns-in_err-bound-clause-more : goal.returns-in_err-bound-clause-more
-returns-in_err-bound-clause-more c = ([], sym (append-nil c.args.numerators.now.items))
+returns-in_err-bound-clause-more c = untouched c.args.numerators.now.items
 
 pub returns-in_err-bound-clause-pushed : goal.returns-in_err-bound-clause-pushed
 returns-in_err-bound-clause-pushed c = none_then c.from_residual-in_err-bound.result _ c.from_residual-in_err-bound.ensures
 
 pub returns-in_err-ok-2-clause-more : goal.returns-in_err-ok-2-clause-more
-returns-in_err-ok-2-clause-more c = (
-  [],
-  stays _ c.extend_from_slice-2.new.self.items c.args.numerators.now.items c.deref-2.result.now c.extend_from_slice-2.ensures.items c.in_err-ok-2.ensures.variant ∙ sym (append-nil c.args.numerators.now.items),
-)
+returns-in_err-ok-2-clause-more c = stays_grown _ c.extend_from_slice-2.new.self.items c.args.numerators.now.items c.deref-2.result.now c.extend_from_slice-2.ensures.items c.in_err-ok-2.ensures.variant
 
 pub returns-in_err-ok-2-clause-pushed : goal.returns-in_err-ok-2-clause-pushed
 returns-in_err-ok-2-clause-pushed c = none_then c.from_residual-in_err-ok-2.result _ c.from_residual-in_err-ok-2.ensures

@@ -1,6 +1,5 @@
-use Rattle.std.proofs.Common.{◌≡◌, ◌<◌, ◌<ℤ◌, ℤ, Option, None, arith, ◌+◌, ◌-ℤ◌, ◌*ℤ◌, [], refl, rules, false, length, get_or, set, nat_abs, pos, ap, sym, subst, ◌∙◌, w64, to_z, of_z}
+use Rattle.std.proofs.Common.{◌≡◌, ◌<◌, ◌<ℤ◌, ℤ, arith, ◌+◌, ◌-ℤ◌, ◌*ℤ◌, [], refl, rules, false, length, get_or, set, nat_abs, pos, ap, sym, subst, ◌∙◌, w64, to_z, of_z}
 use Rattle.std.specs.Int.{w128}
-use Rattle.std.specs.Option.{IfSome}
 use mir.Val.{SFits}
 use Rattle.std.proofs.lemmas.Int.{to_z-of_z}
 use Rattle.integer_tableau.specs.Combined.{expanded_rows, expanded_values}
@@ -14,10 +13,8 @@ use Rattle.integer_tableau.proofs.BasicColumns.{column_there}
 use Rattle.integer_tableau.proofs.ListedRows.{after_has_rows, basic_rows, list_after, taken_has_rows}
 use Rattle.integer_tableau.specs.BasicColumns.{basic_from, count_below}
 use Rattle.integer_tableau.proofs.FromCode.{near_from_code, pivoted_from, positive_from, small_from_code}
+use Rattle.integer_tableau.proofs.WaysOut.{none_then}
 use Rattle.integer_tableau.proofs.pivot.pivot_parts.Goals as goal
-
-none_then : {A : Type 0} (o : Option A) (P : A → Type 0) → o ≡ None → IfSome o P
-none_then o P e = subst (λ o. IfSome o P) (sym e) tt
 
 pub returns-in_default-clause-nonbasic : goal.returns-in_default-clause-nonbasic
 returns-in_default-clause-nonbasic c = tt

@@ -1,17 +1,9 @@
-use Rattle.std.proofs.Common.{◌≡◌, ◌<◌, ◌+◌, ◌++◌, ◌∷◌, ℕ, List, [], get_or, length, map, arith, ap, sym, subst, ◌∙◌}
-use Rattle.std.proofs.lemmas.List.{get_or_append_left, get_or_default, get_or_push, length_push}
-use borrow.Author.Count.{below_more}
+use Rattle.std.proofs.Common.{◌≡◌, ◌<◌, ◌+◌, ◌++◌, ◌∷◌, [], get_or, length, map, arith, ap, subst, ◌∙◌}
+use Rattle.std.proofs.lemmas.List.{get_or_default, length_push}
 use Rattle.fraction.specs.Rational.{whole}
 use Rattle.integer_tableau.specs.Scales.{scaled_by}
+use Rattle.integer_tableau.proofs.Lists.{each_pushed}
 use Rattle.integer_tableau.proofs.scaling.scaled_rows.Goals as goal
-
--- what holds at each index holds so with one element more
-each_pushed : {X : Type 0} (P : ℕ → X → Type 0) (none : X) (xs new : List X) (x : X) (i : ℕ) → new ≡ xs ++ x ∷ [] → length xs ≡ i → ((k : ℕ) → k < length xs → P k (get_or xs k none)) → P i x
-    → (k : ℕ) → k < length new → P k (get_or new k none)
-each_pushed P none xs new x i e full h here k l =
-    let more = below_more (λ k. P k (get_or (xs ++ x ∷ []) k none)) i (λ k m. subst (P k) (sym (get_or_append_left xs (x ∷ []) none k (omega (arith, m, full)))) (h k (omega (arith, m, full))))
-    (subst (P i) (sym (get_or_push xs x none i full)) here) in
-    subst (λ new. P k (get_or new k none)) (sym e) (more k (omega (arith, l, ap length e, full, length_push xs x)))
 
 pub scaled_row-requires-clause-positive : goal.scaled_row-requires-clause-positive
 scaled_row-requires-clause-positive c =

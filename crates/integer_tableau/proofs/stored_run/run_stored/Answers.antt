@@ -1,11 +1,10 @@
-use Rattle.std.proofs.Common.{◌≡◌, ◌+◌, ◌-◌, ap, arith, sym, subst, ◌∙◌}
-use Rattle.std.proofs.lemmas.Result.{IfOk-weaker}
-use Rattle.std.specs.Prelude.{IfOk}
-use Rattle.tableau.specs.Run.{EndsAs, run_from}
+use Rattle.std.proofs.Common.{◌≡◌, ◌+◌, ◌-◌, ap, arith, rules, sym, subst, ◌∙◌}
+use Rattle.tableau.specs.Run.{run_from}
 use Rattle.integer_tableau.proofs.Requests.{as_many}
-use Rattle.integer_tableau.proofs.StoredRuns.{ended_within, goes_on, last_numbered, run_ended, unmoved_at, unmoved_view}
+use Rattle.integer_tableau.proofs.StoredRuns.{goes_on, kept_end, same_end, unmoved_at, unmoved_view}
 use Rattle.integer_tableau.specs.Kept.{AreKept}
 use Rattle.integer_tableau.specs.StoredRun.{IsStep, dictionary_at, view_with}
+use Rattle.integer_tableau.specs.declared.basic_solution.BasicSolution.{BasicSolution}
 use Rattle.integer_tableau.specs.declared.stored_run.Step.TheVariants.{Ended, Moved}
 use Rattle.integer_tableau.proofs.stored_run.run_stored.Goals as goal
 
@@ -15,49 +14,16 @@ make_step-requires-clause-kept c =
     let costs = c.requires.kept.0 in
     (costs, subst (λ ps. AreKept ps a.weight costs c.loop-made.store.kept) (sym c.deref.ensures.value) (c.loop-made.invariant.kept costs c.requires.kept.1))
 
-pub ended-requires-clause-kept : goal.ended-requires-clause-kept
-ended-requires-clause-kept c =
-    let a = c.args in
-    let costs = c.requires.kept.0 in (
-      costs,
-      subst (λ ps. AreKept ps a.weight costs c.loop-made.store.kept → AreKept ps a.weight costs c.make_step.new.store.kept) c.deref.ensures.value (c.make_step.ensures.kept costs)
-          (c.loop-made.invariant.kept costs c.requires.kept.1),
-    )
-
-pub ended-requires-clause-there : goal.ended-requires-clause-there
-ended-requires-clause-there c = omega (arith, c.loop-made.invariant.there, as_many c.make_step.new.store.kept c.loop-made.store.kept c.in-Ended.ensures.step.0.dictionaries)
-
-pub ended-requires-clause-at_dictionary : goal.ended-requires-clause-at_dictionary
-ended-requires-clause-at_dictionary c =
-    let a = c.args in
-    let l = c.loop-made in
-    unmoved_at a.program_rows.now.items.value.items a.weight l.store.kept c.make_step.new.store.kept l.place l.solution c.make_step.new.solution c.in-Ended.ensures.step.0 l.invariant.there l.invariant.at
-
-pub returns-in-Ended-clause-value : goal.returns-in-Ended-clause-value
-returns-in-Ended-clause-value c =
+pub returns-in-Ended-clause-end : goal.returns-in-Ended-clause-end
+returns-in-Ended-clause-end c =
     let a = c.args in
     let l = c.loop-made in
     let ps = a.program_rows.now.items.value.items in
     let old = l.store.kept in
     let new = c.make_step.new.store.kept in
     let m = c.make_step.new.solution in
-    let s = subst (λ ps. IsStep ps a.weight old l.place l.solution new m (Ended c.in-Ended.last)) c.deref.ensures.value c.in-Ended.ensures.step in
-    let v = unmoved_view a.numbers.now ps old new l.place l.solution m s.0 l.invariant.there in
-    run_ended a.cap l.made (view_with a.numbers.now ps (dictionary_at old l.place) l.solution) _ c.in-Ended.last c.ended.result c.loop-made-test.true
-    (last_numbered a.numbers.now ps (dictionary_at old l.place) l.solution c.in-Ended.last s.1) l.invariant.same c.ended.ensures.place (IfOk-weaker c.ended.result _ _ (λ e h. h ∙ v) c.ended.ensures.tableau)
-
-pub returns-in-Ended-clause-within : goal.returns-in-Ended-clause-within
-returns-in-Ended-clause-within c =
-    let a = c.args in
-    let l = c.loop-made in
-    let ps = a.program_rows.now.items.value.items in
-    let old = l.store.kept in
-    let new = c.make_step.new.store.kept in
-    let m = c.make_step.new.solution in
-    let s = subst (λ ps. IsStep ps a.weight old l.place l.solution new m (Ended c.in-Ended.last)) c.deref.ensures.value c.in-Ended.ensures.step in
-    let v = unmoved_view a.numbers.now ps old new l.place l.solution m s.0 l.invariant.there in
-    ended_within (view_with a.numbers.now ps (dictionary_at old l.place) l.solution) c.in-Ended.last c.ended.result (last_numbered a.numbers.now ps (dictionary_at old l.place) l.solution c.in-Ended.last s.1)
-    c.ended.ensures.place (IfOk-weaker c.ended.result _ _ (λ e h. h ∙ v) c.ended.ensures.tableau)
+    let s = subst (λ ps. IsStep ps a.weight old l.at l.solution new m (Ended c.in-Ended.place)) c.deref.ensures.value c.in-Ended.ensures.step in
+    kept_end a.numbers.now ps a.weight old new a.cap l.made _ c.in-Ended.place l.at l.solution m c.loop-made-test.true l.invariant.there l.invariant.at l.invariant.same l.invariant.counted s.0 s.1
 
 pub returns-in-Ended-clause-kept : goal.returns-in-Ended-clause-kept
 returns-in-Ended-clause-kept c = λ costs h.
@@ -80,18 +46,19 @@ pub run_alone-requires-clause-at : goal.run_alone-requires-clause-at
 run_alone-requires-clause-at c =
     let a = c.args in
     let l = c.loop-made in
-    unmoved_at a.program_rows.now.items.value.items a.weight l.store.kept c.make_step.new.store.kept l.place l.solution c.make_step.new.solution c.in-Closed.ensures.step l.invariant.there l.invariant.at
+    unmoved_at a.program_rows.now.items.value.items a.weight l.store.kept c.make_step.new.store.kept l.at l.solution c.make_step.new.solution c.in-Closed.ensures.step l.invariant.there l.invariant.at
 
-pub returns-in-Closed-clause-value : goal.returns-in-Closed-clause-value
-returns-in-Closed-clause-value c =
+pub returns-in-Closed-clause-end : goal.returns-in-Closed-clause-end
+returns-in-Closed-clause-end c =
     let a = c.args in
     let l = c.loop-made in
     let ps = a.program_rows.now.items.value.items in
     let old = l.store.kept in
     let new = c.make_step.new.store.kept in
     let m = c.make_step.new.solution in
-    let v = unmoved_view a.numbers.now ps old new l.place l.solution m c.in-Closed.ensures.step l.invariant.there in
-    subst (λ e. IfOk c.run_alone.result (λ end. EndsAs e end.place end.tableau)) (ap (run_from (a.cap - l.made)) v ∙ l.invariant.same) c.run_alone.ensures.value
+    let v = unmoved_view a.numbers.now ps old new l.at l.solution m c.in-Closed.ensures.step l.invariant.there in
+    same_end a.numbers.now ps a.weight new c.run_alone.result _ _ _ _ (let h : m.pivots + (a.cap - l.made) ≡ a.cap = omega (arith, c.loop-made-test.true, l.invariant.counted, ap (λ (n : BasicSolution). n.pivots) c.in-Closed.ensures.step.solution) in h)
+    (ap (run_from (a.cap - l.made)) v ∙ l.invariant.same) c.run_alone.ensures.end
 
 pub returns-in-Closed-clause-kept : goal.returns-in-Closed-clause-kept
 returns-in-Closed-clause-kept c = λ costs h.
@@ -111,12 +78,12 @@ loop-made-preserved c =
     let old = l.store.kept in
     let new = c.make_step.new.store.kept in
     let m = c.make_step.new.solution in
-    let h = subst (λ ps. IsStep ps a.weight old l.place l.solution new m (Moved c.in-Moved.next)) c.deref.ensures.value c.in-Moved.ensures.step in
+    let h = subst (λ ps. IsStep ps a.weight old l.at l.solution new m (Moved c.in-Moved.next)) c.deref.ensures.value c.in-Moved.ensures.step in
     record {
       kept = λ costs h. subst (λ ps. AreKept ps a.weight costs old → AreKept ps a.weight costs new) c.deref.ensures.value (c.make_step.ensures.kept costs) (l.invariant.kept costs h);
       there = h.there;
       at = h.at;
-      same = goes_on a.cap l.made (view_with a.numbers.now ps (dictionary_at old l.place) l.solution) (view_with a.numbers.now ps (dictionary_at new c.in-Moved.next) m) _ c.loop-made-test.true (h.step a.numbers.now)
+      same = goes_on a.cap l.made (view_with a.numbers.now ps (dictionary_at old l.at) l.solution) (view_with a.numbers.now ps (dictionary_at new c.in-Moved.next) m) _ c.loop-made-test.true (h.step a.numbers.now)
           l.invariant.same;
       counted = h.counted ∙ ap (λ n. n + 1) l.invariant.counted;
     }
@@ -124,10 +91,10 @@ loop-made-preserved c =
 pub run_alone-requires-2-clause-kept : goal.run_alone-requires-2-clause-kept
 run_alone-requires-2-clause-kept c = (c.requires.kept.0, c.loop-made.invariant.kept c.requires.kept.0 c.requires.kept.1)
 
-pub returns-clause-value : goal.returns-clause-value
-returns-clause-value c =
+pub returns-clause-end : goal.returns-clause-end
+returns-clause-end c =
     let a = c.args in
     let l = c.loop-made in
     let none : 0 ≡ a.cap - l.made = omega (arith, c.loop-made-test.false) in
-    subst (λ e. IfOk c.run_alone-2.result (λ end. EndsAs e end.place end.tableau)) (ap (λ k. run_from k (view_with a.numbers.now a.program_rows.now.items.value.items (dictionary_at l.store.kept l.place) l.solution)) none ∙ l.invariant.same)
-    c.run_alone-2.ensures.value
+    same_end a.numbers.now a.program_rows.now.items.value.items a.weight l.store.kept c.run_alone-2.result _ _ _ _ (let h : l.solution.pivots + 0 ≡ a.cap = search rules in h)
+    (ap (λ k. run_from k (view_with a.numbers.now a.program_rows.now.items.value.items (dictionary_at l.store.kept l.at) l.solution)) none ∙ l.invariant.same) c.run_alone-2.ensures.end

@@ -1,9 +1,10 @@
-use Rattle.std.proofs.Common.{◌≡◌, ◌≢◌, ◌+◌, ◌-◌, ◌*◌, ◌++◌, ◌<◌, ◌<ℤ◌, ◌≤◌, ◌∷◌, ◌∙◌, [], refl, nat_abs, pos, sym, ap, subst, arith, rules, ℕ, Option, None, Some, List, length, get_or, set, map, w64, to_z, of_z}
+use Rattle.std.proofs.Common.{◌≡◌, ◌≢◌, ◌+◌, ◌-◌, ◌*◌, ◌++◌, ◌<◌, ◌<ℤ◌, ◌≤◌, ◌∷◌, ◌∙◌, [], refl, nat_abs, pos, sym, ap, subst, arith, ℕ, Option, None, Some, List, length, get_or, set, map, w64, to_z, of_z}
 use Rattle.std.specs.Prelude.{ℤ, slice_range, All, IfNone}
 use Rattle.std.proofs.lemmas.Int.{to_z-of_z}
-use Rattle.std.proofs.lemmas.List.{append-nil, length-set}
+use Rattle.std.proofs.lemmas.List.{length-map, length-set}
 use Rattle.integer_tableau.proofs.Behind.{IsBefore, IsPushed, all_in_lists, all_kept, before_of, behind, costs_small, grows_none, kept_pushed, lists_pushed, of_pieces, own_in_lists, own_is, rows_small, solved_long, turn_column, turn_known, turn_listed, turn_rises}
 use Rattle.integer_tableau.proofs.Arenas.{piece_many}
+use Rattle.integer_tableau.proofs.WaysOut.{extended, none_then, stays, stays_grown}
 use Rattle.integer_tableau.specs.Arena.{AreMadeRows, row_by}
 use Rattle.integer_tableau.specs.BasicColumns.{basic_exchanged, count_below}
 use Rattle.integer_tableau.specs.Kept.{IsDictionaryBehind, IsInLists, IsKept, KeptDictionaries, KeptDictionary, costs_of, kept_at, kept_in, rows_of}
@@ -177,31 +178,29 @@ returns-in_err-push_nonbasic-clause-failed c =
 
 pub invariant_of-self-in_err-ok : goal.invariant_of-self-in_err-ok
 invariant_of-self-in_err-ok c =
-    let same : c.extend_from_slice.new.self.items ≡ c.self.inside.basic_columns.items = search rules in
     let d = c.self.inside in
-    all_in_lists d.variables d.width d.numerators.items c.push_numerators.new.numerators.items d.basic_columns.items c.extend_from_slice.new.self.items d.nonbasic.items c.push_nonbasic.new.nonbasic.items c.push_numerators.ensures.more ([], same ∙ sym (append-nil d.basic_columns.items)) c.push_nonbasic.ensures.more d.all.items c.self.invariant
+    all_in_lists d.variables d.width d.numerators.items c.push_numerators.new.numerators.items d.basic_columns.items c.extend_from_slice.new.self.items d.nonbasic.items c.push_nonbasic.new.nonbasic.items c.push_numerators.ensures.more (stays_grown _ c.extend_from_slice.new.self.items c.self.inside.basic_columns.items c.deref-3.result.now c.extend_from_slice.ensures.items c.in_err-ok.ensures.variant) c.push_nonbasic.ensures.more d.all.items c.self.invariant
 
 pub returns-in_err-ok-clause-failed : goal.returns-in_err-ok-clause-failed
 returns-in_err-ok-clause-failed c =
-    let same : c.extend_from_slice.new.self.items ≡ c.self.inside.basic_columns.items = search rules in
     let d = c.self.inside in
     if_none c.from_residual-in_err-ok.result _
-    (all_kept d.variables d.width d.numerators.items c.push_numerators.new.numerators.items d.basic_columns.items c.extend_from_slice.new.self.items d.nonbasic.items c.push_nonbasic.new.nonbasic.items c.push_numerators.ensures.more ([], same ∙ sym (append-nil d.basic_columns.items)) c.push_nonbasic.ensures.more d.all.items c.self.invariant
+    (all_kept d.variables d.width d.numerators.items c.push_numerators.new.numerators.items d.basic_columns.items c.extend_from_slice.new.self.items d.nonbasic.items c.push_nonbasic.new.nonbasic.items c.push_numerators.ensures.more (stays_grown _ c.extend_from_slice.new.self.items c.self.inside.basic_columns.items c.deref-3.result.now c.extend_from_slice.ensures.items c.in_err-ok.ensures.variant) c.push_nonbasic.ensures.more d.all.items c.self.invariant
     ∙ ap (λ (k : KeptDictionaries). k.all) c.self.view_is)
 
 pub invariant_of-self-in_err-ok-2 : goal.invariant_of-self-in_err-ok-2
 invariant_of-self-in_err-ok-2 c =
     let d = c.self.inside in
-    let same : c.push.new.self.items ≡ c.self.inside.all.items = search rules in
-    let more : c.extend_from_slice.new.self.items ≡ c.self.inside.basic_columns.items ++ c.deref-3.result.now = search rules in
+    let same = stays _ c.push.new.self.items c.self.inside.all.items _ c.push.ensures.items c.in_err-ok-2.ensures.variant in
+    let more = extended _ c.extend_from_slice.new.self.items c.self.inside.basic_columns.items c.deref-3.result.now c.extend_from_slice.ensures.items c.in_ok-ok.ensures.variant in
     subst (All (IsInLists d.width c.push_numerators.new.numerators.items c.extend_from_slice.new.self.items c.push_nonbasic.new.nonbasic.items)) (sym same)
     (all_in_lists d.variables d.width d.numerators.items c.push_numerators.new.numerators.items d.basic_columns.items c.extend_from_slice.new.self.items d.nonbasic.items c.push_nonbasic.new.nonbasic.items c.push_numerators.ensures.more (c.deref-3.result.now, more) c.push_nonbasic.ensures.more d.all.items c.self.invariant)
 
 pub returns-in_err-ok-2-clause-failed : goal.returns-in_err-ok-2-clause-failed
 returns-in_err-ok-2-clause-failed c =
     let d = c.self.inside in
-    let same : c.push.new.self.items ≡ c.self.inside.all.items = search rules in
-    let more : c.extend_from_slice.new.self.items ≡ c.self.inside.basic_columns.items ++ c.deref-3.result.now = search rules in
+    let same = stays _ c.push.new.self.items c.self.inside.all.items _ c.push.ensures.items c.in_err-ok-2.ensures.variant in
+    let more = extended _ c.extend_from_slice.new.self.items c.self.inside.basic_columns.items c.deref-3.result.now c.extend_from_slice.ensures.items c.in_ok-ok.ensures.variant in
     if_none c.from_residual-in_err-ok-2.result _
     (ap (map (kept_in d.variables d.width c.push_numerators.new.numerators.items c.extend_from_slice.new.self.items c.push_nonbasic.new.nonbasic.items)) same
     ∙ all_kept d.variables d.width d.numerators.items c.push_numerators.new.numerators.items d.basic_columns.items c.extend_from_slice.new.self.items d.nonbasic.items c.push_nonbasic.new.nonbasic.items c.push_numerators.ensures.more (c.deref-3.result.now, more) c.push_nonbasic.ensures.more d.all.items c.self.invariant ∙ ap (λ (k : KeptDictionaries). k.all) c.self.view_is)
@@ -266,12 +265,12 @@ module _ (c : In_ok-ok-2) where
   costs_made = subst (λ (T : Type 0). T) (λ i. IsSubstitutedRow own.divisor.number (size_is i) c.args.turn.column c.args.solved.now (costs_of (wide i) d.numerators.items own) costs) c.in_ok-size.ensures.pushed.4
 
   added : c.push.new.self.items ≡ d.all.items ++ x ∷ []
-  added = let h : c.push.new.self.items ≡ c.self.inside.all.items ++ x ∷ [] = search rules in h
+  added = extended _ c.push.new.self.items c.self.inside.all.items (x ∷ []) c.push.ensures.items c.in_ok-ok-2.ensures.variant
 
   columns_added : c.extend_from_slice.new.self.items ≡ d.basic_columns.items ++ js
   columns_added =
-      let h : c.extend_from_slice.new.self.items ≡ c.self.inside.basic_columns.items ++ c.deref-3.result.now = search rules in
-      h ∙ ap (λ (us : List ℕ). c.self.inside.basic_columns.items ++ us) (c.deref-3.ensures.value ∙ sym c.deref-2.ensures.value)
+      extended _ c.extend_from_slice.new.self.items c.self.inside.basic_columns.items c.deref-3.result.now c.extend_from_slice.ensures.items c.in_ok-ok.ensures.variant
+      ∙ ap (λ (us : List ℕ). c.self.inside.basic_columns.items ++ us) (c.deref-3.ensures.value ∙ sym c.deref-2.ensures.value)
 
   is_pushed : IsPushed d.width d.numerators.items c.push_numerators.new.numerators.items d.basic_columns.items c.extend_from_slice.new.self.items d.nonbasic.items c.push_nonbasic.new.nonbasic.items js us made costs c.args.pivot_size x
   is_pushed = record {
@@ -405,3 +404,32 @@ make-requires-clause-small c = subst (λ z. nat_abs z < size_limit) (sym (to_z-o
 
 pub slice_bounds-old_columns-start : goal.slice_bounds-old_columns-start
 slice_bounds-old_columns-start c = omega arith
+
+pub returns-in_err-size-clause-pushed : goal.returns-in_err-size-clause-pushed
+returns-in_err-size-clause-pushed c = none_then c.from_residual.result _ c.from_residual.ensures
+
+pub returns-in_err-push_nonbasic-clause-pushed : goal.returns-in_err-push_nonbasic-clause-pushed
+returns-in_err-push_nonbasic-clause-pushed c = none_then c.from_residual-in_err-push_nonbasic.result _ c.from_residual-in_err-push_nonbasic.ensures
+
+pub returns-in_err-ok-clause-pushed : goal.returns-in_err-ok-clause-pushed
+returns-in_err-ok-clause-pushed c = none_then c.from_residual-in_err-ok.result _ c.from_residual-in_err-ok.ensures
+
+pub returns-in_err-ok-2-clause-pushed : goal.returns-in_err-ok-2-clause-pushed
+returns-in_err-ok-2-clause-pushed c = none_then c.from_residual-in_err-ok-2.result _ c.from_residual-in_err-ok-2.ensures
+
+pub push_numerators-requires-clause-count : goal.push_numerators-requires-clause-count
+push_numerators-requires-clause-count c =
+    let d = c.self.inside in
+    let there = own_in_lists d.variables d.width d.numerators.items d.basic_columns.items d.nonbasic.items d.all.items c.args.self.now.all (ap (λ (k : KeptDictionaries). k.all) c.self.view_is) c.args.place c.requires.there c.index-own.result.now c.index-own.ensures c.self.invariant in
+    piece_many c.deref.result.now c.index-own.result.now.basic_columns c.index-own.result.now.count (omega (arith, there.basic_there, ap length c.deref.ensures.value))
+
+pub slice_bounds-old_columns-count : goal.slice_bounds-old_columns-count
+slice_bounds-old_columns-count c = omega arith
+
+pub returns-clause-failed : goal.returns-clause-failed
+returns-clause-failed c = tt
+
+pub index-own-requires : goal.index-own-requires
+index-own-requires c =
+    let d = c.self.inside in
+    omega (arith, c.requires.there, ap (λ (k : KeptDictionaries). length k.all) c.self.view_is, length-map d.all.items (kept_in d.variables d.width d.numerators.items d.basic_columns.items d.nonbasic.items), d.all.ok.0)

@@ -104,7 +104,7 @@ returns-then-row-columns c =
     let f : SFits w64 n.denominator = search rules in
     let there = is_there _ _ _ _ _ _ c.args.self.now c.self.invariant.0 c.self.view_is n.positions.items c.args.row refl c.requires.row_there in
     IfOk-weaker c.coefficients.result _ _ (λ v h. h
-    ∙ (λ i. coefficients (nat_abs (to_z-of_z w64 n.denominator f i)) (take_rest c.deref.result.now c.args.first i) c.index-then-row-columns.result.now)
+    ∙ (λ i. coefficients (nat_abs (to_z-of_z w64 n.denominator f i)) (take_rest c.deref.result.now c.args.first i) (c.numerators.ensures i))
     ∙ ap (λ ss. coefficients (nat_abs n.denominator) (drop c.args.first ss) c.index-then-row-columns.result.now) c.deref.ensures.value
     ∙ column_are _ _ _ _ _ _ c.args.self.now c.self.invariant.0 c.self.view_is refl c.args.row there c.args.first c.index-then-row-columns.result.now
     (sym (get_or_default n.positions.items c.args.row c.index.result.now InBasis there) ∙ sym c.index.ensures ∙ c.in-InBasis.is)

@@ -12,6 +12,6 @@ returns c =
     let n = c.self.inside in
     let f : SFits w64 n.denominator = search rules in
     IfOk-weaker c.coefficients.result _ _ (λ v h. h
-    ∙ (λ i. coefficients (nat_abs (to_z-of_z w64 n.denominator f i)) (take_rest c.deref.result.now c.len-columns.result i) n.reduced_costs)
+    ∙ (λ i. coefficients (nat_abs (to_z-of_z w64 n.denominator f i)) (take_rest c.deref.result.now c.len-columns.result i) (c.numerators.ensures i))
     ∙ (λ i. coefficients (nat_abs n.denominator) (drop ((c.len-columns.ensures ∙ n.rows.ok.0) i) (c.deref.ensures.value i)) n.reduced_costs)
     ∙ costs_are _ _ _ _ _ _ c.args.self.now c.self.invariant.0 c.self.view_is refl) c.coefficients.ensures

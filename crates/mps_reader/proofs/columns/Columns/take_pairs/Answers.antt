@@ -1,29 +1,8 @@
-use Rattle.std.proofs.Common.{◌≡◌, ◌∷◌, ◌≤◌, ◌<◌, [], ℕ, List, Option, Some, None, length, get_or, refl, arith}
-use denote.Ref.{Bor}
-use Rattle.mps_reader.proofs.State.{pairs_none}
+use Rattle.std.proofs.Common.{◌≡◌, Option, Some, None, refl, arith}
+use Rattle.mps_reader.proofs.State.{pairs_four, pairs_none, pairs_two}
 use Rattle.mps_reader.specs.Faults.{◌<|>◌}
-use Rattle.mps_reader.specs.Sections.{pairs_of}
-use Rattle.mps_reader.specs.Tables.{texts}
 use Rattle.mps_reader.specs.declared.kinds.Kind.{Kind}
 use Rattle.mps_reader.proofs.columns.Columns.take_pairs.Goals as goal
-
-pairs_two : (fields : List (Bor (List ℕ))) → 2 ≤ length fields → length fields < 3
-    → pairs_of (texts fields) ≡ Some (((get_or fields 0 (record { ref_ptr = (0, 0); now = [] })).now, (get_or fields 1 (record { ref_ptr = (0, 0); now = [] })).now) ∷ [])
-pairs_two [] l k = absurd (omega arith)
-pairs_two (a ∷ []) l k = absurd (omega arith)
-pairs_two (a ∷ b ∷ []) l k = refl
-pairs_two (a ∷ b ∷ c ∷ fields) l k = absurd (omega arith)
-
-pairs_four : (fields : List (Bor (List ℕ))) → 4 ≤ length fields → length fields < 5
-    → pairs_of (texts fields) ≡ Some (
-    ((get_or fields 0 (record { ref_ptr = (0, 0); now = [] })).now, (get_or fields 1 (record { ref_ptr = (0, 0); now = [] })).now)
-    ∷ ((get_or fields 2 (record { ref_ptr = (0, 0); now = [] })).now, (get_or fields 3 (record { ref_ptr = (0, 0); now = [] })).now) ∷ [])
-pairs_four [] l k = absurd (omega arith)
-pairs_four (a ∷ []) l k = absurd (omega arith)
-pairs_four (a ∷ b ∷ []) l k = absurd (omega arith)
-pairs_four (a ∷ b ∷ c ∷ []) l k = absurd (omega arith)
-pairs_four (a ∷ b ∷ c ∷ d ∷ []) l k = refl
-pairs_four (a ∷ b ∷ c ∷ d ∷ e ∷ fields) l k = absurd (omega arith)
 
 or_none : (o : Option Kind) → (o <|> None) ≡ o
 or_none (Some k) = refl
@@ -46,3 +25,33 @@ returns-in_default-clause-err g c entries h = rw (pairs_none c.args.rest.now (om
 
 pub returns-in_default-2-clause-err : goal.returns-in_default-2-clause-err
 returns-in_default-2-clause-err g c entries h = rw (pairs_none c.args.rest.now (omega arith) (omega arith)) refl
+
+pub returns-in_default-3-clause-err : goal.returns-in_default-3-clause-err
+returns-in_default-3-clause-err g c entries h = rw (pairs_none c.args.rest.now (omega arith) (omega arith)) refl
+
+pub returns-in_default-clause-ok : goal.returns-in_default-clause-ok
+returns-in_default-clause-ok g c entries h = tt
+
+pub returns-in_default-2-clause-ok : goal.returns-in_default-2-clause-ok
+returns-in_default-2-clause-ok g c entries h = tt
+
+pub returns-in_default-3-clause-ok : goal.returns-in_default-3-clause-ok
+returns-in_default-3-clause-ok g c entries h = tt
+
+pub slice_bounds-take-end : goal.slice_bounds-take-end
+slice_bounds-take-end g c = refl
+
+pub slice_bounds-take-end-in-len2 : goal.slice_bounds-take-end-in-len2
+slice_bounds-take-end-in-len2 g c = refl
+
+pub slice_bounds-take_two-end : goal.slice_bounds-take_two-end
+slice_bounds-take_two-end g c = refl
+
+pub slice_bounds-take_two-end-in-len4 : goal.slice_bounds-take_two-end-in-len4
+slice_bounds-take_two-end-in-len4 g c = refl
+
+pub slice_bounds-take_two-end-in-len4-2 : goal.slice_bounds-take_two-end-in-len4-2
+slice_bounds-take_two-end-in-len4-2 g c = refl
+
+pub slice_bounds-take_two-end-in-len4-3 : goal.slice_bounds-take_two-end-in-len4-3
+slice_bounds-take_two-end-in-len4-3 g c = refl
