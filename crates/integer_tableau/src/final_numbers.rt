@@ -154,8 +154,31 @@ fn numbers_where_done(
     })
 }
 
-/// What is asked of the tableau of a solution at the dictionary of this place, where a run ended at it. The error inside says that the run is given
-/// up, and how many pivots were made before. The one error outside is want of memory.
+/// What is asked of the tableau of a solution at the dictionary of place `at`, where a run ended, by that tableau. The error inside says that the run is
+/// given up, and how many pivots were made before. The one error outside is want of memory.
+fn numbers_by_tableau(
+    alloc: Global,
+    numbers: &[u32],
+    program_rows: &RcSlice<ProgramRow>,
+    weight: u64,
+    dictionaries: &Dictionaries,
+    place: Place,
+    at: usize,
+    solution: BasicSolution,
+) -> Result<Result<FinalNumbers, u64>, AllocError>
+    requires kept { AreKeptOf program_rows.now.items.value.items weight dictionaries.now }
+    requires ended { (cap : ℕ) × (e : RunEnd) × IsKeptEnd numbers.now program_rows.now.items.value.items weight dictionaries.now cap e place at solution }
+    ensures numbers { (cap : ℕ) (start : Tableau) → IsKeptEnd numbers.now program_rows.now.items.value.items weight dictionaries.now cap (run_from cap start) place at solution → IfOk result (λ r. IfOk r (AreNumbersWithin cap start)) }
+    ensures given_up { IfOk result (λ r. IfErr r (λ made. made ≡ solution.pivots)) }
+{
+    let made = solution.pivots;
+    match solution.into_tableau(alloc, numbers, program_rows, weight, dictionaries, at) {
+        Ok(tableau) => Ok(Ok(tableau.final_numbers(alloc, place)?)),
+        Err(_) => Ok(Err(made)),
+    }
+}
+
+/// The same, without the tableau where it is done.
 fn numbers_at_end(
     alloc: Global,
     numbers: &[u32],
@@ -171,8 +194,8 @@ fn numbers_at_end(
     ensures numbers { (cap : ℕ) (start : Tableau) → IsKeptEnd numbers.now program_rows.now.items.value.items weight dictionaries.now cap (run_from cap start) place at solution → IfOk result (λ r. IfOk r (AreNumbersWithin cap start)) }
     ensures given_up { IfOk result (λ r. IfErr r (λ made. made ≡ solution.pivots)) }
 {
-    if let Place::Done = place {
-        return Ok(Ok(numbers_where_done(
+    match place {
+        Place::Done => Ok(Ok(numbers_where_done(
             alloc,
             numbers,
             program_rows,
@@ -180,12 +203,17 @@ fn numbers_at_end(
             dictionaries,
             at,
             &solution,
-        )?));
-    }
-    let made = solution.pivots;
-    match solution.into_tableau(alloc, numbers, program_rows, weight, dictionaries, at) {
-        Ok(tableau) => Ok(Ok(tableau.final_numbers(alloc, place)?)),
-        Err(_) => Ok(Err(made)),
+        )?)),
+        _ => numbers_by_tableau(
+            alloc,
+            numbers,
+            program_rows,
+            weight,
+            dictionaries,
+            place,
+            at,
+            solution,
+        ),
     }
 }
 
