@@ -1,9 +1,8 @@
 -- The answer at the end of a run, as the code makes it.
-use Rattle.std.specs.Prelude.{All, IfOk, IfSome, IsSomeAnd, cond}
-use Rattle.std.proofs.Common.{◌≡◌, ℕ, ◌+◌, ◌-◌, ◌*◌, ◌^◌, ◌<◌, ◌≤◌, arith, refl, ap, sym, ◌∙◌, subst, Bool, true, false, Option, Some, None, Result, Ok, Err, List, [], length, take, drop, map}
-use Rattle.std.specs.Option.{option_map, option_and_then}
+use Rattle.std.specs.Prelude.{All, IfOk, IfSome, IsSomeAnd}
+use Rattle.std.proofs.Common.{◌≡◌, ℕ, ◌+◌, ◌-◌, ◌*◌, ◌^◌, ◌<◌, ◌≤◌, arith, refl, ap, sym, ◌∙◌, subst, Option, Some, None, Result, Ok, Err, List, length, take, drop, map}
+use Rattle.std.specs.Option.{option_and_then}
 use Rattle.std.proofs.lemmas.List.{length-map, length-append, length-take-le, take-append-drop}
-use Rattle.fraction.specs.Rational.{ℚ}
 use Rattle.problem_box.specs.declared.span.Span.{Span}
 use Rattle.problem.specs.declared.row.Row.{Row}
 use Rattle.problem.specs.Linear.{Terms, Multipliers}
@@ -21,31 +20,27 @@ use Rattle.tableau.specs.Tableau.{Tableau}
 use Rattle.tableau.specs.Place.{place}
 use Rattle.tableau.specs.Start.{started}
 use Rattle.tableau.specs.Run.{RunEnd, EndsAs, run_from}
-use Rattle.tableau.specs.Multipliers.{point_of, mult_of_cost, mult_of_row}
+use Rattle.tableau.specs.Multipliers.{mult_of_cost, mult_of_row}
 use Rattle.tableau.specs.Invariants.{IsTableauOf, EndsWithTableauOf}
 use Rattle.tableau.specs.Lemmas.Places.{IsNoColumn, no_column_is}
 use Rattle.tableau.specs.Lemmas.RunKeeps.{run_keeps}
 use Rattle.integer_tableau.specs.Run.{IsRunOver}
-use Rattle.dual_simplex.specs.declared.answer.Answer.{Answer}
-use Rattle.dual_simplex.specs.declared.answer.Answer.TheVariants.{Infeasible, Optimal}
-use Rattle.dual_simplex.specs.PointSums.{sums_fit}
-use Rattle.dual_simplex.specs.Answers.{linear_program, pivot_limit, run_of_start, run, HasPivots, infeasible_answer, optimal_answer, answer_or_cramped, answer_at, answer}
+use Rattle.dual_simplex.specs.Answers.{linear_program, pivot_limit, run_of_start, run, HasPivots, answer_at, answer}
 use Rattle.dual_simplex.specs.Meaning.{IsTableauAt}
 use Rattle.dual_simplex.specs.Ends.{IsEnd, AreMultipliers}
 use Rattle.dual_simplex.specs.Lemmas.TrueAnswers.{size, variables_are, start_is_tableau, cost_multipliers_usable, row_multipliers_usable}
-use Rattle.problem.specs.Directions.{aim}
 
 abbrev row_of_cut : Cut → Row
 row_of_cut c = c.row
 
 -- ---- the first cuts
 module _ (p : Problem) (cs : List Cut) (k : ℕ) (mult : Multipliers) (usable : AreProofMultipliers p (take k cs) mult) where
-  first_priced : (box : List Span) (target : Terms) → price p cs box target mult ≡ price p (take k cs) box target mult
+  pub first_priced : (box : List Span) (target : Terms) → price p cs box target mult ≡ price p (take k cs) box target mult
   first_priced box target =
       ap (λ (ds : List Cut). price p ds box target mult) (sym (take-append-drop k cs))
       ∙ ap (option_and_then (λ (q : Sums). with_columns q.side target 0 q.coefficients box)) (still_combined p (take k cs) (drop k cs) mult usable.combined (length p.spans))
 
-  first_known : All (λ m. m.0 < length (known_lines p cs)) mult
+  pub first_known : All (λ m. m.0 < length (known_lines p cs)) mult
   first_known =
       subst (λ (ds : List Cut). All (λ m. m.0 < length (known_lines p ds)) mult) (take-append-drop k cs) (still_combination p (take k cs) (drop k cs) mult usable.combined).earlier
 
@@ -57,32 +52,8 @@ module _ (p : Problem) (cs : List Cut) (k : ℕ) (box : List Span) where
   sized t h = subst (λ n. IsTableauOf n (linear_program p first box) t) (variables_are p first box) h
 
   -- ---- a tableau that is done
-  pub cost_multipliers : (t : Tableau) → IsTableauAt p first box t → AreMultipliers p cs (mult_of_cost t)
-  cost_multipliers t h =
-      let u = cost_multipliers_usable p first box t (sized t h) in record { rising = u.0; nonzero = u.1; known = first_known p cs k (mult_of_cost t) u.2 }
-
-  -- its price by all cuts is that by the first
-  pub cost_price_same : (t : Tableau) (target : Terms) → IsTableauAt p first box t → price p cs box target (mult_of_cost t) ≡ price p first box target (mult_of_cost t)
-  cost_price_same t target h = first_priced p cs k (mult_of_cost t) (cost_multipliers_usable p first box t (sized t h)).2 box target
-
-  pub optimal_there : (t : Tableau) (v : ℚ) → IsTableauAt p first box t → sums_fit p first (point_of t) ≡ true → price p cs box (aim p) (mult_of_cost t) ≡ Some v
-      → Some (Optimal (point_of t) (mult_of_cost t) v) ≡ optimal_answer p first box (point_of t) (mult_of_cost t)
-  optimal_there t v h f e =
-      let u = cost_multipliers_usable p first box t (sized t h) in
-      sym (chosen _ _ f ∙ ap (option_map (λ v. Optimal (point_of t) (mult_of_cost t) v)) (sym (first_priced p cs k (mult_of_cost t) u.2 box (aim p)) ∙ e))
-    where
-      chosen : (b : Bool) (o : Option Answer) → b ≡ true → cond b o None ≡ o
-      chosen true o e = refl
-      chosen false o e = cc
-
-  pub optimal_not_priced : (t : Tableau) → IsTableauAt p first box t → price p cs box (aim p) (mult_of_cost t) ≡ None → None ≡ optimal_answer p first box (point_of t) (mult_of_cost t)
-  optimal_not_priced t h e =
-      let u = cost_multipliers_usable p first box t (sized t h) in
-      sym (neither (sums_fit p first (point_of t)) _ (ap (option_map (λ v. Optimal (point_of t) (mult_of_cost t) v)) (sym (first_priced p cs k (mult_of_cost t) u.2 box (aim p)) ∙ e)))
-    where
-      neither : (b : Bool) (o : Option Answer) → o ≡ None → cond b o None ≡ None
-      neither true o e = e
-      neither false o e = refl
+  pub cost_multipliers : (t : Tableau) → IsTableauAt p first box t → AreMultipliers p first (mult_of_cost t)
+  cost_multipliers t h = let u = cost_multipliers_usable p first box t (sized t h) in record { rising = u.0; nonzero = u.1; usable = u.2 }
 
   -- ---- a row that no column can help
   module _ (t : Tableau) (r : ℕ) (q : Place) (end : IsEnd p first box q t) (here : q ≡ NoColumn r) where
@@ -98,18 +69,9 @@ module _ (p : Problem) (cs : List Cut) (k : ℕ) (box : List Span) where
     pub row_there : r < length t.statuses
     row_there = omega (arith, no_column.leaving.there, is_tableau.size.statuses)
 
-    pub row_multipliers : AreMultipliers p cs (mult_of_row t r)
+    pub row_multipliers : AreMultipliers p first (mult_of_row t r)
     row_multipliers =
-        let u = row_multipliers_usable p first box t is_tableau r no_column in record { rising = u.0; nonzero = u.1; known = first_known p cs k (mult_of_row t r) u.2 }
-
-    pub row_price_same : price p cs box [] (mult_of_row t r) ≡ price p first box [] (mult_of_row t r)
-    row_price_same = first_priced p cs k (mult_of_row t r) (row_multipliers_usable p first box t is_tableau r no_column).2 box []
-
-    pub infeasible_there : answer_or_cramped t.pivots (infeasible_answer p cs box (mult_of_row t r)) ≡ answer_at p first box t.pivots (Some t) q
-    infeasible_there =
-        let u = row_multipliers_usable p first box t is_tableau r no_column in
-        ap (λ o. answer_or_cramped t.pivots (option_map (λ v. Infeasible (mult_of_row t r)) o)) (first_priced p cs k (mult_of_row t r) u.2 box [])
-        ∙ ap (answer_at p first box t.pivots (Some t)) (sym here)
+        let u = row_multipliers_usable p first box t is_tableau r no_column in record { rising = u.0; nonzero = u.1; usable = u.2 }
 
 -- ---- the run
 -- its start

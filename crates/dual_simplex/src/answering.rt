@@ -1,15 +1,14 @@
 //! The answer at the end of a run.
 
-ghost use Rattle.std.specs.Prelude.{◌≡◌, ◌<◌, ◌≤◌, ◌^◌, [], true, IsTrue, IsSome, IfOk, All, Some, None, option_map, if◌then◌else◌, length, take};
+ghost use Rattle.std.specs.Prelude.{◌≡◌, ◌<◌, ◌≤◌, ◌^◌, [], true, IsTrue, IsSome, IfOk, Some, None, option_map, if◌then◌else◌, length, take};
 ghost use Rattle.problem.specs.Directions.{aim};
-ghost use Rattle.problem.specs.Rising.{AreRising, AreNonzero};
-ghost use Rattle.derivation_book.specs.Known.{known_lines};
+ghost use Rattle.problem.specs.Rising.{AreRising};
+ghost use Rattle.derivation_book.specs.Legal.{AreProofMultipliers};
 ghost use Rattle.derivation_book.specs.Price.{price};
 ghost use Rattle.tableau.specs.Multipliers.{point_of, mult_of_cost, mult_of_row};
 ghost use Rattle.dual_simplex.specs.declared.answer.Answer.TheVariants.{Infeasible, Optimal};
 ghost use Rattle.dual_simplex.specs.PointSums.{checked_sum, sums_fit};
 ghost use Rattle.dual_simplex.specs.Answers.{infeasible_answer, optimal_answer, answer_or_cramped, answer_at};
-ghost use Rattle.dual_simplex.specs.Meaning.{IsTableauAt};
 ghost use Rattle.dual_simplex.specs.Ends.{IsEnd, AreMultipliers, IsOptimumThere, IsAnswerThere};
 
 use crate::answer::Answer;
@@ -19,57 +18,78 @@ use crate::sums::sums_fit;
 use derivation_book::Book;
 use fraction::Frac;
 use node_events::{Mult, RationalPoint};
-use problem::Problem;
+use problem::{Problem, Term};
 use problem_box::IntBox;
 use std::alloc::{AllocError, Global};
 use tableau::Place;
 
-/// Whether the price of these multipliers isn't cramped, as an infeasible answer asks. `is_there` says so, and then it isn't computed.
+/// The price of a target by these multipliers of the rows and the first cuts; none exactly where it is cramped. The one error is want of memory.
+fn price_by_first(
+    alloc: Global,
+    problem: &Problem,
+    book: &Book,
+    cuts: usize,
+    area: &IntBox,
+    target: &[Term],
+    mult: &Mult,
+) -> Result<Option<Frac>, AllocError>
+    requires few { cuts ≤ length book.now.cuts }
+    requires columns { length area.now ≡ length problem.now.spans }
+    requires rising { AreRising target.now }
+    requires usable { AreProofMultipliers problem.now (take cuts book.now.cuts) mult.now }
+    ensures { IfOk result (λ v. v ≡ price problem.now (take cuts book.now.cuts) area.now target.now mult.now) }
+{
+    book.price(alloc, problem, area, target, mult)
+}
+
+/// Whether the price of these multipliers of the rows and the first cuts isn't cramped, as an infeasible answer asks. `is_there` says so, and then it
+/// isn't computed. The one error is want of memory.
 fn is_infeasible(
     alloc: Global,
     problem: &Problem,
     book: &Book,
+    cuts: usize,
     area: &IntBox,
     mult: &Mult,
     is_there: bool,
 ) -> Result<bool, AllocError>
+    requires few { cuts ≤ length book.now.cuts }
     requires columns { length area.now ≡ length problem.now.spans }
-    requires known { All (λ m. m.0 < length (known_lines problem.now book.now.cuts)) mult.now }
-    requires there { IsTrue is_there → IsSome (price problem.now book.now.cuts area.now [] mult.now) }
-    ensures { IfOk result (λ b. (if b then Some (Infeasible mult.now) else None) ≡ infeasible_answer problem.now book.now.cuts area.now mult.now) }
+    requires usable { AreProofMultipliers problem.now (take cuts book.now.cuts) mult.now }
+    requires there { IsTrue is_there → IsSome (price problem.now (take cuts book.now.cuts) area.now [] mult.now) }
+    ensures { IfOk result (λ b. (if b then Some (Infeasible mult.now) else None) ≡ infeasible_answer problem.now (take cuts book.now.cuts) area.now mult.now) }
 {
     if is_there {
         return Ok(true);
     }
-    match book.price(alloc, problem, area, &[], mult)? {
+    match price_by_first(alloc, problem, book, cuts, area, &[], mult)? {
         Some(_) => Ok(true),
         None => Ok(false),
     }
 }
 
-/// Infeasible by the multipliers of a row that no column can help; none exactly where their price is cramped. Where `is_there` says that it isn't, it
-/// isn't computed. The one error is want of memory.
-fn infeasible_answer(
+/// Infeasible by the multipliers of a row that no column can help; cramped after so many pivots exactly where their price is. Where `is_there` says
+/// that it isn't, it isn't computed. The one error is want of memory.
+pub(crate) fn infeasible_by(
     alloc: Global,
     problem: &Problem,
     book: &Book,
+    cuts: usize,
     area: &IntBox,
-    tableau: &FinalTableau,
-    row: usize,
+    pivots: u32,
+    mult: Mult,
     is_there: bool,
-) -> Result<Option<Answer>, AllocError>
+) -> Result<Answer, AllocError>
+    requires few { cuts ≤ length book.now.cuts }
     requires columns { length area.now ≡ length problem.now.spans }
-    requires row { row < length tableau.now.statuses }
-    requires multipliers { AreMultipliers problem.now book.now.cuts (mult_of_row tableau.now row) }
-    requires there { IsTrue is_there → IsSome (price problem.now book.now.cuts area.now [] (mult_of_row tableau.now row)) }
-    ensures { IfOk result (λ a. a ≡ infeasible_answer problem.now book.now.cuts area.now (mult_of_row tableau.now row)) }
+    requires usable { AreProofMultipliers problem.now (take cuts book.now.cuts) mult }
+    requires there { IsTrue is_there → IsSome (price problem.now (take cuts book.now.cuts) area.now [] mult) }
+    ensures { IfOk result (λ a. a ≡ answer_or_cramped pivots (infeasible_answer problem.now (take cuts book.now.cuts) area.now mult)) }
 {
-    let mult = Mult::make(tableau.mult_of_row(alloc, row)?);
-    let infeasible = is_infeasible(alloc, problem, book, area, &mult, is_there)?;
-    if infeasible {
-        Ok(Some(Answer::Infeasible { mult }))
+    if is_infeasible(alloc, problem, book, cuts, area, &mult, is_there)? {
+        Ok(Answer::Infeasible { mult })
     } else {
-        Ok(None)
+        Ok(Answer::Cramped { pivots })
     }
 }
 
@@ -94,28 +114,80 @@ fn are_sums_there(
     }
 }
 
-/// The price of the aim by these multipliers; none exactly where it is cramped. Where `is_there` says that it is the aim at the point, it is
-/// computed as that. The one error is want of memory.
+/// The price of the aim by these multipliers of the rows and the first cuts; none exactly where it is cramped. Where `is_there` says that it is the aim
+/// at the point, it is computed as that. The one error is want of memory.
 fn aim_price(
     alloc: Global,
     problem: &Problem,
     book: &Book,
+    cuts: usize,
     area: &IntBox,
     point: &RationalPoint,
     mult: &Mult,
     is_there: bool,
 ) -> Result<Option<Frac>, AllocError>
+    requires few { cuts ≤ length book.now.cuts }
     requires columns { length area.now ≡ length problem.now.spans }
-    requires known { All (λ m. m.0 < length (known_lines problem.now book.now.cuts)) mult.now }
-    requires there { IsTrue is_there → price problem.now book.now.cuts area.now (aim problem.now) mult.now ≡ checked_sum (aim problem.now) point.now }
-    ensures { IfOk result (λ v. v ≡ price problem.now book.now.cuts area.now (aim problem.now) mult.now) }
+    requires usable { AreProofMultipliers problem.now (take cuts book.now.cuts) mult.now }
+    requires there { IsTrue is_there → price problem.now (take cuts book.now.cuts) area.now (aim problem.now) mult.now ≡ checked_sum (aim problem.now) point.now }
+    ensures { IfOk result (λ v. v ≡ price problem.now (take cuts book.now.cuts) area.now (aim problem.now) mult.now) }
 {
     problem.limits_hold();
     let aim = problem.aim().as_slice();
     if is_there {
         Ok(single_sum(point, aim))
     } else {
-        book.price(alloc, problem, area, aim, mult)
+        price_by_first(alloc, problem, book, cuts, area, aim, mult)
+    }
+}
+
+/// The value of an optimal answer at a point: the price of the aim by these multipliers; none exactly where that or a sum at the point is cramped.
+/// `is_there` says that none is. The one error is want of memory.
+fn optimal_value(
+    alloc: Global,
+    problem: &Problem,
+    book: &Book,
+    cuts: usize,
+    area: &IntBox,
+    point: &RationalPoint,
+    mult: &Mult,
+    is_there: bool,
+) -> Result<Option<Frac>, AllocError>
+    requires few { cuts ≤ length book.now.cuts }
+    requires columns { length area.now ≡ length problem.now.spans }
+    requires usable { AreProofMultipliers problem.now (take cuts book.now.cuts) mult.now }
+    requires there { IsTrue is_there → IsOptimumThere problem.now (take cuts book.now.cuts) area.now point.now mult.now }
+    ensures { IfOk result (λ o. option_map (λ v. Optimal point.now mult.now v) o ≡ optimal_answer problem.now (take cuts book.now.cuts) area.now point.now mult.now) }
+{
+    if are_sums_there(alloc, problem, book, cuts, point, is_there)? {
+        aim_price(alloc, problem, book, cuts, area, point, mult, is_there)
+    } else {
+        Ok(None)
+    }
+}
+
+/// Optimal at a point, with these multipliers; cramped after so many pivots exactly where their price or a sum at the point is. `is_there` says that
+/// none is. The one error is want of memory.
+pub(crate) fn optimal_by(
+    alloc: Global,
+    problem: &Problem,
+    book: &Book,
+    cuts: usize,
+    area: &IntBox,
+    pivots: u32,
+    point: RationalPoint,
+    mult: Mult,
+    is_there: bool,
+) -> Result<Answer, AllocError>
+    requires few { cuts ≤ length book.now.cuts }
+    requires columns { length area.now ≡ length problem.now.spans }
+    requires usable { AreProofMultipliers problem.now (take cuts book.now.cuts) mult }
+    requires there { IsTrue is_there → IsOptimumThere problem.now (take cuts book.now.cuts) area.now point mult }
+    ensures { IfOk result (λ a. a ≡ answer_or_cramped pivots (optimal_answer problem.now (take cuts book.now.cuts) area.now point mult)) }
+{
+    match optimal_value(alloc, problem, book, cuts, area, &point, &mult, is_there)? {
+        Some(value) => Ok(Answer::Optimal { point, mult, value }),
+        None => Ok(Answer::Cramped { pivots }),
     }
 }
 
@@ -127,76 +199,51 @@ fn point_at(alloc: Global, tableau: &FinalTableau) -> Result<RationalPoint, Allo
     RationalPoint::make(alloc, numbers)
 }
 
-/// The multipliers of a tableau's costs, where the numbers of their rows rise and none is 0. The one error is want of memory.
-fn cost_multipliers(alloc: Global, tableau: &FinalTableau) -> Result<Mult, AllocError>
-    requires rising { AreRising (mult_of_cost tableau.now) }
-    requires nonzero { AreNonzero (mult_of_cost tableau.now) }
-    ensures { IfOk result (λ m. m ≡ mult_of_cost tableau.now) }
-{
-    Ok(Mult::make(tableau.mult_of_cost(alloc)?))
-}
-
-/// The multipliers of the costs of a tableau that is done, and the price of the aim by them; none where that or a sum at the point is cramped.
-fn priced_multipliers(
+/// The answer by the point and the multipliers of the costs of a tableau that is done. The one error is want of memory.
+fn optimal_at(
     alloc: Global,
     problem: &Problem,
     book: &Book,
     cuts: usize,
     area: &IntBox,
-    tableau: &FinalTableau,
-    point: &RationalPoint,
-    is_there: bool,
-) -> Result<Option<(Mult, Frac)>, AllocError>
-    requires few { cuts ≤ length book.now.cuts }
-    requires columns { length area.now ≡ length problem.now.spans }
-    requires tableau { IsTableauAt problem.now (take cuts book.now.cuts) area.now tableau.now }
-    requires point { point.now ≡ point_of tableau.now }
-    requires there { IsTrue is_there → IsOptimumThere problem.now (take cuts book.now.cuts) area.now tableau.now }
-    ensures { IfOk result (λ o. option_map (λ m. Optimal point.now m.0 m.1) o ≡ optimal_answer problem.now (take cuts book.now.cuts) area.now (point_of tableau.now) (mult_of_cost tableau.now)) }
-{
-    let are_there = are_sums_there(alloc, problem, book, cuts, point, is_there)?;
-    if !are_there {
-        return Ok(None);
-    }
-    let mult = cost_multipliers(alloc, tableau)?;
-    match aim_price(alloc, problem, book, area, point, &mult, is_there)? {
-        Some(value) => Ok(Some((mult, value))),
-        None => Ok(None),
-    }
-}
-
-/// Optimal at the point of a tableau that is done; none exactly where the price of its multipliers or a sum at the point is cramped. `is_there` says
-/// that none is. The one error is want of memory.
-fn optimal_answer(
-    alloc: Global,
-    problem: &Problem,
-    book: &Book,
-    cuts: usize,
-    area: &IntBox,
+    pivots: u32,
     tableau: &FinalTableau,
     is_there: bool,
-) -> Result<Option<Answer>, AllocError>
+) -> Result<Answer, AllocError>
     requires few { cuts ≤ length book.now.cuts }
     requires columns { length area.now ≡ length problem.now.spans }
-    requires tableau { IsTableauAt problem.now (take cuts book.now.cuts) area.now tableau.now }
-    requires there { IsTrue is_there → IsOptimumThere problem.now (take cuts book.now.cuts) area.now tableau.now }
-    ensures { IfOk result (λ a. a ≡ optimal_answer problem.now (take cuts book.now.cuts) area.now (point_of tableau.now) (mult_of_cost tableau.now)) }
+    requires multipliers { AreMultipliers problem.now (take cuts book.now.cuts) (mult_of_cost tableau.now) }
+    requires there { IsTrue is_there → IsOptimumThere problem.now (take cuts book.now.cuts) area.now (point_of tableau.now) (mult_of_cost tableau.now) }
+    ensures { IfOk result (λ a. a ≡ answer_or_cramped pivots (optimal_answer problem.now (take cuts book.now.cuts) area.now (point_of tableau.now) (mult_of_cost tableau.now))) }
 {
     let point = point_at(alloc, tableau)?;
-    match priced_multipliers(alloc, problem, book, cuts, area, tableau, &point, is_there)? {
-        Some((mult, value)) => Ok(Some(Answer::Optimal { point, mult, value })),
-        None => Ok(None),
-    }
+    let mult = Mult::make(tableau.mult_of_cost(alloc)?);
+    optimal_by(
+        alloc, problem, book, cuts, area, pivots, point, mult, is_there,
+    )
 }
 
-/// The answer, or cramped after so many pivots.
-fn answer_or_cramped(pivots: u32, answer: Option<Answer>) -> Answer
-    ensures { result ≡ answer_or_cramped pivots answer }
+/// The answer by the multipliers of a row of a tableau that no column can help. The one error is want of memory.
+fn infeasible_at(
+    alloc: Global,
+    problem: &Problem,
+    book: &Book,
+    cuts: usize,
+    area: &IntBox,
+    pivots: u32,
+    tableau: &FinalTableau,
+    row: usize,
+    is_there: bool,
+) -> Result<Answer, AllocError>
+    requires few { cuts ≤ length book.now.cuts }
+    requires columns { length area.now ≡ length problem.now.spans }
+    requires row { row < length tableau.now.statuses }
+    requires multipliers { AreMultipliers problem.now (take cuts book.now.cuts) (mult_of_row tableau.now row) }
+    requires there { IsTrue is_there → IsSome (price problem.now (take cuts book.now.cuts) area.now [] (mult_of_row tableau.now row)) }
+    ensures { IfOk result (λ a. a ≡ answer_or_cramped pivots (infeasible_answer problem.now (take cuts book.now.cuts) area.now (mult_of_row tableau.now row))) }
 {
-    match answer {
-        Some(answer) => answer,
-        None => Answer::Cramped { pivots },
-    }
+    let mult = Mult::make(tableau.mult_of_row(alloc, row)?);
+    infeasible_by(alloc, problem, book, cuts, area, pivots, mult, is_there)
 }
 
 /// The answer of a run that ended at this place with this tableau. `is_there` says that none of its sums is cramped, so that they need no test; where
@@ -220,14 +267,10 @@ pub(crate) fn answer_at(
 {
     let pivots = tableau.pivots() as u32;
     match place {
-        Place::Done => {
-            let answer = optimal_answer(alloc, problem, book, cuts, area, tableau, is_there)?;
-            Ok(answer_or_cramped(pivots, answer))
-        }
-        Place::NoColumn { row } => {
-            let answer = infeasible_answer(alloc, problem, book, area, tableau, row, is_there)?;
-            Ok(answer_or_cramped(pivots, answer))
-        }
+        Place::Done => optimal_at(alloc, problem, book, cuts, area, pivots, tableau, is_there),
+        Place::NoColumn { row } => infeasible_at(
+            alloc, problem, book, cuts, area, pivots, tableau, row, is_there,
+        ),
         Place::Pivot { .. } => Ok(Answer::Stalled),
         Place::Cramped => Ok(Answer::Cramped { pivots }),
     }
