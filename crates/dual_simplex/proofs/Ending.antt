@@ -24,6 +24,8 @@ use Rattle.tableau.specs.Multipliers.{mult_of_cost, mult_of_row}
 use Rattle.tableau.specs.Invariants.{IsTableauOf, EndsWithTableauOf}
 use Rattle.tableau.specs.Lemmas.Places.{IsNoColumn, no_column_is}
 use Rattle.tableau.specs.Lemmas.RunKeeps.{run_keeps}
+use Rattle.integer_tableau.specs.declared.final_numbers.FinalNumbers.{FinalNumbers}
+use Rattle.integer_tableau.specs.FinalNumbers.{AreNumbersAt, AreNumbersOver}
 use Rattle.integer_tableau.specs.Run.{IsRunOver}
 use Rattle.dual_simplex.specs.Answers.{linear_program, pivot_limit, run_of_start, run, HasPivots, answer_at, answer}
 use Rattle.dual_simplex.specs.Meaning.{IsTableauAt}
@@ -44,34 +46,31 @@ module _ (p : Problem) (cs : List Cut) (k : ℕ) (mult : Multipliers) (usable : 
   first_known =
       subst (λ (ds : List Cut). All (λ m. m.0 < length (known_lines p ds)) mult) (take-append-drop k cs) (still_combination p (take k cs) (drop k cs) mult usable.combined).earlier
 
-module _ (p : Problem) (cs : List Cut) (k : ℕ) (box : List Span) where
-  abbrev first : List Cut
-  first = take k cs
-
-  sized : (t : Tableau) → IsTableauAt p first box t → IsTableauOf (size p first box) (linear_program p first box) t
-  sized t h = subst (λ n. IsTableauOf n (linear_program p first box) t) (variables_are p first box) h
+module _ (p : Problem) (cs : List Cut) (box : List Span) where
+  sized : (t : Tableau) → IsTableauAt p cs box t → IsTableauOf (size p cs box) (linear_program p cs box) t
+  sized t h = subst (λ n. IsTableauOf n (linear_program p cs box) t) (variables_are p cs box) h
 
   -- ---- a tableau that is done
-  pub cost_multipliers : (t : Tableau) → IsTableauAt p first box t → AreMultipliers p first (mult_of_cost t)
-  cost_multipliers t h = let u = cost_multipliers_usable p first box t (sized t h) in record { rising = u.0; nonzero = u.1; usable = u.2 }
+  pub cost_multipliers : (t : Tableau) → IsTableauAt p cs box t → AreMultipliers p cs (mult_of_cost t)
+  cost_multipliers t h = let u = cost_multipliers_usable p cs box t (sized t h) in record { rising = u.0; nonzero = u.1; usable = u.2 }
 
   -- ---- a row that no column can help
-  module _ (t : Tableau) (r : ℕ) (q : Place) (end : IsEnd p first box q t) (here : q ≡ NoColumn r) where
+  module _ (t : Tableau) (r : ℕ) (q : Place) (end : IsEnd p cs box q t) (here : q ≡ NoColumn r) where
     whole : q ≡ CrampedRatio → ⊥
     whole e = let f : NoColumn r ≡ CrampedRatio = sym here ∙ e in cc
 
-    is_tableau : IsTableauOf (size p first box) (linear_program p first box) t
+    is_tableau : IsTableauOf (size p cs box) (linear_program p cs box) t
     is_tableau = sized t (end.tableau whole)
 
-    no_column : IsNoColumn (size p first box) t r
-    no_column = no_column_is (size p first box) t r is_tableau.size (sym (end.place whole) ∙ here)
+    no_column : IsNoColumn (size p cs box) t r
+    no_column = no_column_is (size p cs box) t r is_tableau.size (sym (end.place whole) ∙ here)
 
     pub row_there : r < length t.statuses
     row_there = omega (arith, no_column.leaving.there, is_tableau.size.statuses)
 
-    pub row_multipliers : AreMultipliers p first (mult_of_row t r)
+    pub row_multipliers : AreMultipliers p cs (mult_of_row t r)
     row_multipliers =
-        let u = row_multipliers_usable p first box t is_tableau r no_column in record { rising = u.0; nonzero = u.1; usable = u.2 }
+        let u = row_multipliers_usable p cs box t is_tableau r no_column in record { rising = u.0; nonzero = u.1; usable = u.2 }
 
 -- ---- the run
 -- its start
@@ -79,7 +78,7 @@ start_kept : (p : Problem) (cs : List Cut) (box : List Span) (t : Tableau) → s
 start_kept p cs box t start = subst (λ n. IsTableauOf n (linear_program p cs box) t) (sym (variables_are p cs box)) (start_is_tableau p cs box t start)
 
 -- it ended with a tableau of the relaxation, unless a pivot or the start is cramped
-run_kept : (p : Problem) (cs : List Cut) (box : List Span) → EndsWithTableauOf (variables (linear_program p cs box)) (linear_program p cs box) (run (linear_program p cs box))
+pub run_kept : (p : Problem) (cs : List Cut) (box : List Span) → EndsWithTableauOf (variables (linear_program p cs box)) (linear_program p cs box) (run (linear_program p cs box))
 run_kept p cs box = at (started (linear_program p cs box)) refl
   where
     at : (o : Option Tableau) → started (linear_program p cs box) ≡ o → EndsWithTableauOf (variables (linear_program p cs box)) (linear_program p cs box) (run_of_start (linear_program p cs box) o)
@@ -132,7 +131,7 @@ pub ends_so : (p : Problem) (cs : List Cut) (box : List Span) (e : RunEnd) (u v 
 ends_so p cs box e u v q is same h = subst (EndsAs (run (linear_program p cs box)) q) (sym same) (subst (λ e. EndsAs e q u) (sym is) h)
 
 -- what follows of the end of a run, where there is one
-pub of_end : {T E : Type 0} (P Q : Place × T → Type 0) → ((e : Place × T) → P e → Q e) → (r : Result (Option (Result (Place × T) ℕ)) E)
+pub of_end : {T E : Type 0} (P Q : T → Type 0) → ((e : T) → P e → Q e) → (r : Result (Option (Result T ℕ)) E)
     → IfOk r (λ o. IfSome o (λ s. IfOk s P)) → IfOk r (λ o. IfSome o (λ s. IfOk s Q))
 of_end P Q f (Err e) h = tt
 of_end P Q f (Ok None) h = tt
@@ -170,3 +169,7 @@ module _ (p : Problem) (cs : List Cut) (k : ℕ) (box : List Span) (few : k ≤ 
   -- a run over the box with so many at most is that of the answer
   pub run_over_is : (q : Place) (t : Tableau) → IsRunOver program n q t → EndsAs (run program) q t
   run_over_is q t h = subst (λ (e : RunEnd). EndsAs e q t) (sym (run_is h.start h.starts)) h.ends
+
+  -- and so the numbers at its end are those of the answer's
+  pub numbers_over_are : (e : FinalNumbers) → AreNumbersOver program n e → AreNumbersAt (run program) e
+  numbers_over_are e h = subst (λ (r : RunEnd). AreNumbersAt r e) (sym (run_is h.start h.starts)) h.ends

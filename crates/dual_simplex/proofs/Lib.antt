@@ -6,5 +6,6 @@ mod Cutting
 mod CommonDenominator
 mod AnswerThere
 mod Ending
+mod EndNumbers
 mod Scaling
 mod Stopping

@@ -19,6 +19,7 @@ mod single_sum;
 mod sizes;
 mod solution;
 mod sums;
+mod whole_answer;
 mod whole_run;
 mod whole_tableau;
 

@@ -12,6 +12,7 @@ use crate::fraction_run::solve_by_fractions;
 use crate::program::linear_program;
 use crate::sizes::is_integer_relaxation;
 use crate::solution::Solution;
+use crate::whole_answer::answer_by_integers;
 use crate::whole_run::solve_by;
 use derivation_book::Book;
 use integer_tableau::{IntegerProgram, IntegerTableau};
@@ -194,6 +195,66 @@ impl Relaxation {
         }
     }
 
+    /// The answer of `solution_by_scales` alone.
+    fn answer_by_scales(
+        &mut self,
+        alloc: Global,
+        problem: &Problem,
+        book: &Book,
+        area: &IntBox,
+    ) -> Result<Option<Answer>, AllocError>
+        requires few { self.old.cuts ≤ length book.now.cuts }
+        requires prepared { IsRelaxationOf problem.now (take self.old.cuts book.now.cuts) self.old }
+        requires columns { length area.now ≡ length problem.now.spans }
+        ensures answer { IfOk result (λ o. IfSome o (λ a. a ≡ answer problem.now (take self.old.cuts book.now.cuts) area.now)) }
+        ensures same { self.new ≡ self.old }
+    {
+        match self.solution_by_scales(alloc, problem, book, area)? {
+            Some(solution) => Ok(Some(solution.into_answer())),
+            None => Ok(None),
+        }
+    }
+
+    /// The answer of `solution_on_whole_numbers` alone.
+    fn answer_on_whole_numbers(
+        &mut self,
+        alloc: Global,
+        problem: &Problem,
+        book: &Book,
+        area: &IntBox,
+    ) -> Result<Option<Answer>, AllocError>
+        requires few { self.old.cuts ≤ length book.now.cuts }
+        requires prepared { IsRelaxationOf problem.now (take self.old.cuts book.now.cuts) self.old }
+        requires columns { length area.now ≡ length problem.now.spans }
+        ensures answer { IfOk result (λ o. IfSome o (λ a. a ≡ answer problem.now (take self.old.cuts book.now.cuts) area.now)) }
+        ensures same { self.new ≡ self.old }
+    {
+        match &mut self.program {
+            Some(program) => { answer_by_integers(alloc, problem, book, self.cuts, area, program) }
+            None => self.answer_by_scales(alloc, problem, book, area),
+        }
+    }
+
+    /// The answer of `solve` alone: where a run ends by what is kept, no tableau is made. The one error is want of memory.
+    pub fn answer(
+        &mut self,
+        alloc: Global,
+        problem: &Problem,
+        book: &Book,
+        area: &IntBox,
+    ) -> Result<Answer, AllocError>
+        requires few { self.old.cuts ≤ length book.now.cuts }
+        requires prepared { IsRelaxationOf problem.now (take self.old.cuts book.now.cuts) self.old }
+        requires columns { length area.now ≡ length problem.now.spans }
+        ensures answer { IfOk result (λ a. a ≡ answer problem.now (take self.old.cuts book.now.cuts) area.now) }
+        ensures same { self.new ≡ self.old }
+    {
+        match self.answer_on_whole_numbers(alloc, problem, book, area)? {
+            Some(answer) => Ok(answer),
+            None => Ok(solve_by_fractions(alloc, problem, book, self.cuts, area)?.into_answer()),
+        }
+    }
+
     /// How many of the cuts it has.
     pub fn cuts(&self) -> usize
         ensures { result ≡ self.now.cuts }
@@ -259,8 +320,8 @@ impl Relaxation {
         ensures stalled { IfOk result (λ b. IsTrue b ↔ (answer problem.now (take self.old.cuts book.now.cuts) area.now ≡ Answer.Stalled)) }
         ensures same { self.new ≡ self.old }
     {
-        let solution = self.solve(alloc, problem, book, area)?;
-        Ok(is_stalled(&solution.answer))
+        let answer = self.answer(alloc, problem, book, area)?;
+        Ok(is_stalled(&answer))
     }
 }
 

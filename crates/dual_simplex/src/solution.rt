@@ -24,6 +24,16 @@ pub struct Solution {
     pub tableau: Option<FinalTableau>,
 }
 
+impl Solution {
+    /// Its answer, without the tableau.
+    pub(crate) fn into_answer(self) -> Answer
+        ensures { result ≡ self.answer }
+    {
+        let Solution { answer, tableau: _ } = self;
+        answer
+    }
+}
+
 /// How many pivots a run makes at most.
 pub(crate) fn pivot_limit(problem: &Problem, cuts: usize) -> u64
     requires { cuts < most_numbered_cuts }

@@ -107,6 +107,29 @@ fn solve_from<T: WholeTableau>(
     Ok(Some(solution))
 }
 
+/// The same of a run that was given up after so many pivots, from its start on; none also where there is no start on whole numbers.
+pub(crate) fn solve_again<T: WholeTableau>(
+    alloc: Global,
+    problem: &Problem,
+    book: &Book,
+    cuts: usize,
+    area: &IntBox,
+    program: &T::Program,
+    pivots: u64,
+) -> Result<Option<Solution>, AllocError>
+    requires few { cuts ≤ length book.now.cuts }
+    requires numbered { cuts < most_numbered_cuts }
+    requires columns { length area.now ≡ length problem.now.spans }
+    requires program { T.program_of program.now ≡ linear_program problem.now (take cuts book.now.cuts) problem.now.spans }
+    requires within { pivots ≤ 20 * (length problem.now.spans + (length problem.now.rows + cuts)) + 100 }
+    ensures { IfOk result (λ o. IfSome o (IsSolution problem.now (take cuts book.now.cuts) area.now)) }
+{
+    match start::<T>(alloc, problem, book, cuts, area, program)? {
+        Some(again) => solve_from(alloc, problem, book, cuts, area, again, pivots),
+        None => Ok(None),
+    }
+}
+
 /// What the run answers of a problem's rows and the first cuts over a box, on whole numbers, and over exact fractions from where these are given up;
 /// none where they can't start. The one error is want of memory.
 pub(crate) fn solve_by<T: WholeTableau>(
@@ -130,10 +153,7 @@ pub(crate) fn solve_by<T: WholeTableau>(
             let solution = solution_of(alloc, problem, book, cuts, area, place, tableau)?;
             Ok(Some(solution))
         }
-        Some(Err(pivots)) => match start::<T>(alloc, problem, book, cuts, area, program)? {
-            Some(again) => solve_from(alloc, problem, book, cuts, area, again, pivots),
-            None => Ok(None),
-        },
+        Some(Err(pivots)) => { solve_again::<T>(alloc, problem, book, cuts, area, program, pivots) }
         None => Ok(None),
     }
 }

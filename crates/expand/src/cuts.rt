@@ -1,5 +1,5 @@
 // The cuts that are found of a node.
-ghost use Rattle.std.specs.Prelude.{◌≡◌, ◌≤◌, IfOk, IfSome, Some, length};
+ghost use Rattle.std.specs.Prelude.{◌≡◌, ◌<◌, ◌≤◌, IfOk, IfSome, Some, length};
 ghost use Rattle.problem.specs.Limits.{most_cuts};
 ghost use Rattle.problem.specs.Linear.{Multipliers};
 ghost use Rattle.dual_simplex.specs.declared.answer.Answer.TheVariants.{Optimal};
@@ -29,7 +29,7 @@ pub(crate) fn cuts_found(
 ) -> Result<Mults, AllocError>
     requires few { length subproblem.now.book.now.cuts ≤ most_cuts }
     requires area { length subproblem.now.area.now ≡ length subproblem.now.problem.now.spans }
-    requires tableau { IfSome (run (linear_program subproblem.now.problem.now subproblem.now.book.now.cuts subproblem.now.area.now)).tableau (λ t. tableau.now ≡ Some t) }
+    requires tableau { 0 < room → IfSome (run (linear_program subproblem.now.problem.now subproblem.now.book.now.cuts subproblem.now.area.now)).tableau (λ t. tableau.now ≡ Some t) }
     requires optimal { (mult : Multipliers) × (answer subproblem.now.problem.now subproblem.now.book.now.cuts subproblem.now.area.now ≡ Optimal point.now mult value) }
     requires point { length point.now ≡ length subproblem.now.problem.now.spans }
     requires columns { columns.now ≡ fractional_columns point.now }

@@ -84,7 +84,7 @@ fn columns_and_cuts(
 ) -> Result<(Vec<usize>, Mults), AllocError>
     requires few { length subproblem.now.book.now.cuts ≤ most_cuts }
     requires area { length subproblem.now.area.now ≡ length subproblem.now.problem.now.spans }
-    requires tableau { IfSome (run (linear_program subproblem.now.problem.now subproblem.now.book.now.cuts subproblem.now.area.now)).tableau (λ t. tableau.now ≡ Some t) }
+    requires tableau { 0 < room → IfSome (run (linear_program subproblem.now.problem.now subproblem.now.book.now.cuts subproblem.now.area.now)).tableau (λ t. tableau.now ≡ Some t) }
     requires optimal { (mult : Multipliers) × (answer subproblem.now.problem.now subproblem.now.book.now.cuts subproblem.now.area.now ≡ Optimal point.now mult value) }
     requires point { length point.now ≡ length subproblem.now.problem.now.spans }
     ensures columns { IfOk result (λ r. r.0.items ≡ fractional_columns point.now) }
@@ -113,7 +113,7 @@ fn at_optimum(
     requires costs { length costs.old ≡ length subproblem.now.problem.now.spans }
     requires origin { IfSome origin.now (λ o. o.column < length costs.old) }
     requires gain { IfSome gain (λ g. g ≤ largest_gain) }
-    requires tableau { IfSome (run (linear_program subproblem.now.problem.now subproblem.now.book.now.cuts subproblem.now.area.now)).tableau (λ t. tableau.now ≡ Some t) }
+    requires tableau { 0 < room → IfSome (run (linear_program subproblem.now.problem.now subproblem.now.book.now.cuts subproblem.now.area.now)).tableau (λ t. tableau.now ≡ Some t) }
     requires optimal { answer subproblem.now.problem.now subproblem.now.book.now.cuts subproblem.now.area.now ≡ Optimal point mult value }
     requires point { length point ≡ length subproblem.now.problem.now.spans }
     ensures found { IfOk result (λ f. IsOfOptimum costs.new (length subproblem.now.book.now.cuts) point mult value (cuts_found subproblem.now.problem.now subproblem.now.book.now.cuts subproblem.now.area.now subproblem.now.cutoff room point value) f) }
@@ -144,7 +144,7 @@ fn at_answer(
     requires free { IsOpen subproblem.now.area.now }
     requires costs { length costs.old ≡ length subproblem.now.problem.now.spans }
     requires origin { IfSome origin.now (λ o. o.column < length costs.old) }
-    requires tableau { IfSome (run (linear_program subproblem.now.problem.now subproblem.now.book.now.cuts subproblem.now.area.now)).tableau (λ t. tableau.now ≡ Some t) }
+    requires tableau { 0 < room → IfSome (run (linear_program subproblem.now.problem.now subproblem.now.book.now.cuts subproblem.now.area.now)).tableau (λ t. tableau.now ≡ Some t) }
     requires answered { outcome ≡ answer subproblem.now.problem.now subproblem.now.book.now.cuts subproblem.now.area.now }
     ensures found { IfOk result (λ f. IsOfAnswer subproblem.now.problem.now subproblem.now.book.now.cuts subproblem.now.area.now subproblem.now.cutoff costs.new room (answer subproblem.now.problem.now subproblem.now.book.now.cuts subproblem.now.area.now) f) }
     ensures noted { OnOk result (costs.new ≡ with_note origin.now (answer subproblem.now.problem.now subproblem.now.book.now.cuts subproblem.now.area.now) costs.old) }
@@ -172,6 +172,37 @@ fn at_answer(
     }
 }
 
+/// What the linear program of a node answers, and the tableau that its run left: that is made only where there is room for cuts. The one error is want
+/// of memory.
+fn answered(
+    alloc: Global,
+    subproblem: &Subproblem,
+    relaxation: &mut Relaxation,
+    room: usize,
+) -> Result<(Answer, Option<FinalTableau>), AllocError>
+    requires { IsSubproblem subproblem.now.problem.now subproblem.now.book.now.cuts relaxation.old subproblem.now.area.now }
+    ensures answer { IfOk result (λ r. r.0 ≡ answer subproblem.now.problem.now subproblem.now.book.now.cuts subproblem.now.area.now) }
+    ensures tableau { IfOk result (λ r. 0 < room → IfSome (run (linear_program subproblem.now.problem.now subproblem.now.book.now.cuts subproblem.now.area.now)).tableau (λ t. r.1 ≡ Some t)) }
+    ensures same { relaxation.new ≡ relaxation.old }
+{
+    if room == 0 {
+        let answer = relaxation.answer(
+            alloc,
+            subproblem.problem,
+            subproblem.book,
+            subproblem.area,
+        )?;
+        return Ok((answer, None));
+    }
+    let Solution { answer, tableau } = relaxation.solve(
+        alloc,
+        subproblem.problem,
+        subproblem.book,
+        subproblem.area,
+    )?;
+    Ok((answer, tableau))
+}
+
 /// What the linear program of a node says, where the node's box is open. The one error is want of memory; nothing is noted then.
 pub(crate) fn relax(
     alloc: Global,
@@ -191,11 +222,6 @@ pub(crate) fn relax(
     ensures columns { length costs.new ≡ length costs.old }
     ensures same { relaxation.new ≡ relaxation.old }
 {
-    let Solution { answer, tableau } = relaxation.solve(
-        alloc,
-        subproblem.problem,
-        subproblem.book,
-        subproblem.area,
-    )?;
+    let (answer, tableau) = answered(alloc, subproblem, relaxation, room)?;
     at_answer(alloc, subproblem, costs, origin, room, &tableau, answer)
 }
