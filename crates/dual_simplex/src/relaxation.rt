@@ -230,7 +230,7 @@ impl Relaxation {
         ensures same { self.new ≡ self.old }
     {
         match &mut self.program {
-            Some(program) => { answer_by_integers(alloc, problem, book, self.cuts, area, program) }
+            Some(program) => answer_by_integers(alloc, problem, book, self.cuts, area, program),
             None => self.answer_by_scales(alloc, problem, book, area),
         }
     }

@@ -153,7 +153,7 @@ pub(crate) fn solve_by<T: WholeTableau>(
             let solution = solution_of(alloc, problem, book, cuts, area, place, tableau)?;
             Ok(Some(solution))
         }
-        Some(Err(pivots)) => { solve_again::<T>(alloc, problem, book, cuts, area, program, pivots) }
+        Some(Err(pivots)) => solve_again::<T>(alloc, problem, book, cuts, area, program, pivots),
         None => Ok(None),
     }
 }
