@@ -1,6 +1,8 @@
-use Rattle.std.proofs.Common.{◌-◌, ◌<◌, ◌∙◌, ap, length, nat_abs, pos, refl, set, subst, sym, w64}
+use Rattle.std.proofs.Common.{◌-◌, ◌<◌, ◌∙◌, ap, length, nat_abs, pos, refl, rules, set, subst, sym, to_z, w64}
+use mir.Val.{SFits}
 use Rattle.std.proofs.lemmas.Int.{to_z-of_z}
 use Rattle.integer_tableau.proofs.Lists.{if_some}
+use Rattle.integer_tableau.proofs.Sizes.{stays_from}
 use Rattle.integer_tableau.proofs.WaysOut.{none_then}
 use Rattle.integer_tableau.specs.Numbers.{IsWithin, number_at}
 use Rattle.integer_tableau.specs.Range.{size_limit}
@@ -59,3 +61,14 @@ returns-clause-row c =
 
 pub returns-clause-within : goal.returns-clause-within
 returns-clause-within c = c.small_size-2.ensures.within
+
+pub returns-then-pivot_size-number-clause-row : goal.returns-then-pivot_size-number-clause-row
+returns-then-pivot_size-number-clause-row c =
+    if_some _ _ c.small_size.result
+    (λ b small.
+    stays_from c.args.divisor.number c.args.pivot_size c.args.column c.args.solved.now c.args.row.now c.args.row.now refl
+    (sym (to_z-of_z w64 (number_at c.args.row.now c.args.column) (let f : SFits w64 (number_at c.args.row.now c.args.column) = search rules in f)) ∙ ap (to_z w64) c.if-row-column-eq0.true)
+    (sym (to_z-of_z w64 c.args.pivot_size c.ranges.pivot_size) ∙ ap (to_z w64) c.if-pivot_size-number.true
+    ∙ to_z-of_z w64 c.number.result (let f : SFits w64 c.number.result = record { sfits = c.number.type_inv } in f) ∙ c.number.ensures)
+    small)
+    c.small_size.ensures.small

@@ -1,8 +1,9 @@
-use Rattle.std.proofs.Common.{◌<◌, ◌<ℤ◌, ◌*◌, ◌^◌, ◌∙◌, ℤ, pos, arith, ◌-◌, [], get_or, nat_abs, sym, subst, w64}
+use Rattle.std.proofs.Common.{◌<◌, ◌<ℤ◌, ◌*◌, ◌^◌, ◌∙◌, ℤ, pos, arith, ◌-◌, [], get_or, nat_abs, refl, sym, subst, w64}
 use Rattle.std.proofs.lemmas.Int.{to_z-of_z}
 use Rattle.integer_tableau.specs.Combined.{expanded_rows}
 use Rattle.integer_tableau.specs.Numbers.{IsWithin, number_at}
 use Rattle.integer_tableau.specs.Range.{size_limit}
+use Rattle.integer_tableau.proofs.WaysOut.{none_then}
 use Rattle.integer_tableau.proofs.pivot.leave.Goals as goal
 
 pub take_row-requires-clause-small : goal.take_row-requires-clause-small
@@ -24,3 +25,84 @@ value_of-value-requires-clause-positive c = subst (λ (z : ℤ). pos 0 <ℤ z) (
 
 pub exchange_of-requires-clause-positive : goal.exchange_of-requires-clause-positive
 exchange_of-requires-clause-positive c = subst (λ (z : ℤ). pos 0 <ℤ z) (sym (to_z-of_z w64 c.args.denominator c.ranges.denominator)) c.requires.positive
+
+pub value_of-value-requires-clause-nonbasic_values_there : goal.value_of-value-requires-clause-nonbasic_values_there
+value_of-value-requires-clause-nonbasic_values_there c = c.requires.nonbasic_values_there
+
+pub value_of-value-requires-clause-variable_there : goal.value_of-value-requires-clause-variable_there
+value_of-value-requires-clause-variable_there c = c.requires.leaving_there
+
+pub value_of-value-requires-clause-light : goal.value_of-value-requires-clause-light
+value_of-value-requires-clause-light c = c.requires.light
+
+pub take_row-requires-clause-positions_there : goal.take_row-requires-clause-positions_there
+take_row-requires-clause-positions_there c = c.requires.positions_there
+
+pub take_row-requires-clause-leaving_there : goal.take_row-requires-clause-leaving_there
+take_row-requires-clause-leaving_there c = c.requires.leaving_there
+
+pub take_row-requires-clause-basic : goal.take_row-requires-clause-basic
+take_row-requires-clause-basic c = c.requires.basic
+
+pub take_row-requires-clause-full : goal.take_row-requires-clause-full
+take_row-requires-clause-full c = c.requires.full
+
+pub take_row-requires-clause-positive : goal.take_row-requires-clause-positive
+take_row-requires-clause-positive c = subst (λ (z : ℤ). pos 0 <ℤ z) (sym (to_z-of_z w64 c.args.denominator c.ranges.denominator)) c.requires.positive
+
+pub returns-then-not-take_row-clause-value : goal.returns-then-not-take_row-clause-value
+returns-then-not-take_row-clause-value c = tt
+
+pub returns-then-not-take_row-clause-row : goal.returns-then-not-take_row-clause-row
+returns-then-not-take_row-clause-row c = tt
+
+pub returns-then-not-take_row-clause-rows : goal.returns-then-not-take_row-clause-rows
+returns-then-not-take_row-clause-rows c = tt
+
+pub returns-then-not-take_row-clause-pivot : goal.returns-then-not-take_row-clause-pivot
+returns-then-not-take_row-clause-pivot c = tt
+
+pub returns-then-not-take_row-clause-size : goal.returns-then-not-take_row-clause-size
+returns-then-not-take_row-clause-size c = tt
+
+pub returns-then-not-take_row-clause-there : goal.returns-then-not-take_row-clause-there
+returns-then-not-take_row-clause-there c = tt
+
+pub exchange_of-requires-clause-leaving_there : goal.exchange_of-requires-clause-leaving_there
+exchange_of-requires-clause-leaving_there c = c.requires.leaving_there
+
+pub exchange_of-requires-clause-entering_there : goal.exchange_of-requires-clause-entering_there
+exchange_of-requires-clause-entering_there c = c.requires.entering_there
+
+pub exchange_of-requires-clause-basic : goal.exchange_of-requires-clause-basic
+exchange_of-requires-clause-basic c = c.requires.basic
+
+pub exchange_of-requires-clause-bounds_there : goal.exchange_of-requires-clause-bounds_there
+exchange_of-requires-clause-bounds_there c = c.requires.bounds_there
+
+pub returns-in_err-exchange-clause-value : goal.returns-in_err-exchange-clause-value
+returns-in_err-exchange-clause-value c = none_then c.from_residual.result _ c.from_residual.ensures
+
+pub returns-in_err-exchange-clause-row : goal.returns-in_err-exchange-clause-row
+returns-in_err-exchange-clause-row c = none_then c.from_residual.result _ c.from_residual.ensures
+
+pub returns-in_err-exchange-clause-rows : goal.returns-in_err-exchange-clause-rows
+returns-in_err-exchange-clause-rows c = none_then c.from_residual.result _ c.from_residual.ensures
+
+pub returns-in_err-exchange-clause-pivot : goal.returns-in_err-exchange-clause-pivot
+returns-in_err-exchange-clause-pivot c = none_then c.from_residual.result _ c.from_residual.ensures
+
+pub returns-in_err-exchange-clause-size : goal.returns-in_err-exchange-clause-size
+returns-in_err-exchange-clause-size c = none_then c.from_residual.result _ c.from_residual.ensures
+
+pub returns-in_err-exchange-clause-there : goal.returns-in_err-exchange-clause-there
+returns-in_err-exchange-clause-there c = none_then c.from_residual.result _ c.from_residual.ensures
+
+pub returns-clause-pivot : goal.returns-clause-pivot
+returns-clause-pivot c = c.in_ok-exchange.ensures.pivot
+
+pub returns-clause-size : goal.returns-clause-size
+returns-clause-size c = c.in_ok-exchange.ensures.size
+
+pub returns-clause-rows : goal.returns-clause-rows
+returns-clause-rows c = c.if-not-take_row.ensures.rows refl
