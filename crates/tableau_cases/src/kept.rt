@@ -21,6 +21,9 @@ const CHILDREN: [(i64, i64); 6] = [(0, 3), (0, 3), (0, 3), (0, 0), (1, 3), (0, 3
 /// Bounds of x with which the fourth run comes to the basis of the third by other pivots. So no edge to it is noted, and it is found by its basis.
 const SAME_BASIS: [(i64, i64); 4] = [(0, 3), (0, 3), (1, 1), (1, 3)];
 
+/// Bounds of x for runs whose tableaus aren't made. The first two keep no dictionaries.
+const ENDS: [(i64, i64); 4] = [(0, 3), (0, 3), (0, 3), (1, 3)];
+
 /// The box of x from one bound to another, and of y from 0 to 3. The one error is want of memory.
 fn area_of(alloc: Global, low: i64, high: i64) -> Result<IntBox, AllocError> {
     let spans = vec![in alloc; Span { lo: low, hi: high }, Span { lo: 0, hi: 3 }]?;
@@ -109,5 +112,5 @@ pub(crate) fn show<R: Print + Alloc<A = Global>>(rt: &R) -> Result<()> {
     show_runs(rt, &CHILDREN)?;
     println!(rt; "a program of its own, of the same rows")?;
     show_runs(rt, &SAME_BASIS)?;
-    show_all_numbers(rt, &CHILDREN)
+    show_all_numbers(rt, &ENDS)
 }
