@@ -1,6 +1,6 @@
 //! The relaxation of a problem and cuts, over many boxes.
 
-ghost use Rattle.std.specs.Prelude.{◌≡◌, ◌↔◌, ◌<◌, ◌≤◌, ◌^◌, IsTrue, IfOk, IfSome, Some, length, take};
+ghost use Rattle.std.specs.Prelude.{◌≡◌, ◌↔◌, ◌<◌, ◌≤◌, IsTrue, IfOk, IfSome, Some, length, take};
 ghost use Rattle.dual_simplex.specs.Answers.{linear_program, run, HasPivots, answer};
 ghost use Rattle.dual_simplex.specs.Ends.{IsSolution};
 ghost use Rattle.dual_simplex.specs.Prepared.{IsIntegerProgramOf, IsRelaxationOf};

@@ -1,6 +1,6 @@
 // What a tableau answers: the point, and the multipliers of rows that it names.
 
-ghost use Rattle.std.specs.Prelude.{◌≡◌, ℕ, ◌+◌, ◌*◌, ◌-◌, ◌<◌, ◌≤◌, [], pos, nat_abs, ◌<ℤ◌, length, drop, IfOk, slice_index_or, if◌then◌else◌};
+ghost use Rattle.std.specs.Prelude.{◌≡◌, ◌*◌, ◌-◌, ◌<◌, ◌≤◌, pos, nat_abs, ◌<ℤ◌, length, drop, IfOk, if◌then◌else◌};
 ghost use Rattle.tableau.specs.Leaving.{is_below};
 ghost use Rattle.tableau.specs.Multipliers.{point_of, mult_of_cost, direction_of, row_multipliers, mult_of_row};
 ghost use Rattle.tableau.specs.Tableau.{row_of};
@@ -8,8 +8,8 @@ ghost use Rattle.tableau.specs.declared.bounds.Direction.TheVariants.{Rise, Fall
 ghost use Rattle.integer_tableau.specs.Numbers.{number_at, IsWithin};
 ghost use Rattle.integer_tableau.specs.Range.{size_limit};
 ghost use Rattle.integer_tableau.specs.Positions.{coefficient, coefficients};
-ghost use Rattle.integer_tableau.specs.IntegerTableau.{fraction_bounds, value, values_of, row_of_position};
-ghost use Rattle.integer_tableau.specs.Combined.{combined_row, expanded_rows};
+ghost use Rattle.integer_tableau.specs.IntegerTableau.{fraction_bounds, value, values_of};
+ghost use Rattle.integer_tableau.specs.Combined.{combined_row};
 
 use crate::integer_bounds::{IntegerBounds, is_below};
 use crate::integer_row::IntegerRow;

@@ -1,6 +1,6 @@
 // What is asked of the tableau that a run left.
 
-ghost use Rattle.std.specs.Prelude.{◌≡◌, ◌<◌, ◌≤◌, ◌<ℤ◌, ℕ, ℤ, List, drop, length, nat_abs, pos, IfErr, IfOk, IfSome};
+ghost use Rattle.std.specs.Prelude.{◌≡◌, ◌<◌, ◌≤◌, ◌<ℤ◌, ℕ, ℤ, List, drop, length, nat_abs, pos, IfErr, IfOk};
 ghost use Rattle.tableau.specs.Multipliers.{mult_of_cost, mult_of_row, numbered, point_of};
 ghost use Rattle.tableau.specs.Place.{PlaceIsWithin};
 ghost use Rattle.tableau.specs.Run.{RunEnd, run_from};

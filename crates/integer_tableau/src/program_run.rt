@@ -1,6 +1,6 @@
 // The run of a linear program over a box.
 
-ghost use Rattle.std.specs.Prelude.{◌≡◌, ◌≢◌, ◌≤◌, ◌<◌, ◌++◌, ◌^◌, drop, length, map, IfOk, IfErr, IfSome};
+ghost use Rattle.std.specs.Prelude.{◌≡◌, ◌≢◌, ◌≤◌, ◌<◌, ◌++◌, drop, length, map, IfOk, IfErr, IfSome};
 ghost use Rattle.tableau.specs.LinearProgram.{over};
 ghost use Rattle.tableau.specs.Place.{PlaceIsWithin};
 ghost use Rattle.integer_tableau.specs.FinalNumbers.{AreNumbersOver};

@@ -1,6 +1,6 @@
 // Linear programs of fractions as programs of whole numbers, whose rows and costs are so many times their own.
 
-ghost use Rattle.std.specs.Prelude.{◌≡◌, ℕ, ◌+◌, ◌-◌, ◌<◌, ◌≤◌, [], length, map, IfOk, IfSome, slice_index_or};
+ghost use Rattle.std.specs.Prelude.{◌≡◌, ℕ, ◌+◌, ◌-◌, ◌<◌, [], length, map, IfOk, IfSome, slice_index_or};
 ghost use Rattle.std.specs.Option.{option_map};
 ghost use Rattle.fraction.specs.Rational.{whole};
 ghost use Rattle.integer_tableau.specs.IntegerTableau.{fraction_bounds};

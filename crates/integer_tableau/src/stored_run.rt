@@ -1,6 +1,6 @@
 // Runs by dictionaries that are kept.
 
-ghost use Rattle.std.specs.Prelude.{◌≡◌, ◌≤◌, ◌<◌, ◌+◌, ◌^◌, ℕ, ℤ, List, length, IfErr, IfOk, IfSome};
+ghost use Rattle.std.specs.Prelude.{◌≡◌, ◌≤◌, ◌<◌, ◌+◌, ◌^◌, ℕ, length, IfErr, IfOk, IfSome};
 ghost use Rattle.tableau.specs.Run.{RunEnd, run_from};
 ghost use Rattle.integer_tableau.specs.Kept.{IsAt, kept_at, view_of};
 ghost use Rattle.integer_tableau.specs.RowSums.{AreColumnsOf};

@@ -1,6 +1,6 @@
 //! Lines of RHS and RANGES.
 
-ghost use Rattle.std.specs.Prelude.{◌≡◌, ◌≢◌, ℕ, ◌<◌, ◌++◌, ◌∷◌, ◌==◌, ◌&&◌, ◌||◌, [], OnOk, IfOk, IfErr, IfSome, List, None, Some, true, false, if◌then◌else◌, length, nat_le, ◌+◌, pos};
+ghost use Rattle.std.specs.Prelude.{◌≡◌, ◌≢◌, ◌<◌, ◌∷◌, ◌==◌, ◌&&◌, ◌||◌, [], OnOk, IfOk, IfErr, IfSome, None, Some, true, false, if◌then◌else◌, length, nat_le, ◌+◌, pos};
 ghost use Rattle.std.specs.Option.{option_map};
 ghost use Rattle.fraction.specs.Rational.{whole};
 ghost use Rattle.mps_reader.specs.Faults.{counted, differs, is_counted, side_fault, when};
