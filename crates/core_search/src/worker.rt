@@ -66,7 +66,8 @@ impl Worker {
         ensures limit { self.new.limit ≡ self.old.limit }
         ensures kept { self.new.costs ≡ self.old.costs }
     {
-        self.relaxation = relaxation_of(alloc, state)?;
-        Ok(())
+        state.conditions_hold();
+        let book = state.book();
+        self.relaxation.renew(alloc, state.problem(), book, book.len())
     }
 }

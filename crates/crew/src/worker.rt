@@ -87,8 +87,8 @@ impl Worker {
             return Ok(());
         }
         add_cuts(alloc, problem, &mut self.book, cuts)?;
-        self.relaxation = relaxation_of(alloc, problem, &self.book)?;
-        Ok(())
+        self.relaxation
+            .renew(alloc, problem, &self.book, self.book.len())
     }
 
     /// What is found of a node by the cuts that the worker knows, with room for so many more. The one error is want of memory.

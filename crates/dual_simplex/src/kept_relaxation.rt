@@ -57,13 +57,13 @@ impl KeptRelaxation {
         ensures prepared { IfOk result (λ r. IsRelaxationOf problem.now (take cuts book.now.cuts) r) }
         ensures none { self.new ≡ None }
     {
-        let last = self.last.take();
-        if let Some(relaxation) = last {
-            if relaxation.cuts() == cuts {
-                return Ok(relaxation);
-            }
+        let Some(mut relaxation) = self.last.take() else {
+            return Relaxation::new(alloc, problem, book, cuts);
+        };
+        if relaxation.cuts() != cuts {
+            relaxation.renew(alloc, problem, book, cuts)?;
         }
-        Relaxation::new(alloc, problem, book, cuts)
+        Ok(relaxation)
     }
 
     /// Whether the run with the first cuts over a box is cramped after so many pivots, as `Relaxation::is_cramped_after` says. The one error is want of

@@ -1,6 +1,6 @@
 //! The relaxation of a problem and cuts, over many boxes.
 
-ghost use Rattle.std.specs.Prelude.{◌≡◌, ◌↔◌, ◌<◌, ◌≤◌, IsTrue, IfOk, IfSome, Some, length, take};
+ghost use Rattle.std.specs.Prelude.{◌≡◌, ◌↔◌, ◌<◌, ◌≤◌, IsTrue, IfOk, IfSome, OnErr, OnOk, Some, length, take};
 ghost use Rattle.dual_simplex.specs.Answers.{linear_program, run, HasPivots, answer};
 ghost use Rattle.dual_simplex.specs.Ends.{IsSolution};
 ghost use Rattle.dual_simplex.specs.Prepared.{IsIntegerProgramOf, IsRelaxationOf};
@@ -118,6 +118,44 @@ impl Relaxation {
             program,
             scaled,
         })
+    }
+
+    /// Takes over what runs over boxes left in another relaxation, as far as it holds here (docs/DECISIONS.md, entry 102).
+    fn take_kept(&mut self, alloc: Global, other: &mut Relaxation)
+        ensures same { self.new ≡ self.old }
+        ensures other { other.new ≡ other.old }
+    {
+        if let Some(program) = &mut self.program {
+            if let Some(last) = &mut other.program {
+                program.take_kept(alloc, last);
+            }
+        }
+        if let Some(scaled) = &mut self.scaled {
+            if let Some(last) = &mut other.scaled {
+                scaled.take_kept(alloc, last);
+            }
+        }
+    }
+
+    /// Becomes the relaxation of the problem's rows and the first cuts, as `new` prepares it. What runs over boxes left goes on to it, where its first
+    /// rows are those that it had. The one error is want of memory, after which it is as before.
+    pub fn renew(
+        &mut self,
+        alloc: Global,
+        problem: &Problem,
+        book: &Book,
+        cuts: usize,
+    ) -> Result<(), AllocError>
+        requires few { cuts ≤ length book.now.cuts }
+        requires numbered { cuts < most_numbered_cuts }
+        ensures cuts { OnOk result (self.new.cuts ≡ cuts) }
+        ensures prepared { OnOk result (IsRelaxationOf problem.now (take cuts book.now.cuts) self.new) }
+        ensures failed { OnErr result (self.new ≡ self.old) }
+    {
+        let mut next = Relaxation::new(alloc, problem, book, cuts)?;
+        next.take_kept(alloc, self);
+        *self = next;
+        Ok(())
     }
 
     /// What the run answers over a box that starts on the whole numbers of the scaled program; none where there is no such start. The one error is

@@ -14,12 +14,23 @@ use tableau::LinearProgram;
 const BY_HAND: &[u8] =
     b"ROWS\n N o\n L r\n L s\nCOLUMNS\n m 'MARKER' 'INTORG'\n x o -3 r 2\n x s 1\n y o -4 r 1\n y s 2\nRHS\n r 4 s 6\nBOUNDS\n UP x 3\n UP y 3\nENDATA\n";
 
+/// The same with a further row, x + y <= 3, as a cut puts it behind the others.
+const WITH_A_CUT: &[u8] =
+    b"ROWS\n N o\n L r\n L s\n L t\nCOLUMNS\n m 'MARKER' 'INTORG'\n x o -3 r 2\n x s 1 t 1\n y o -4 r 1\n y s 2 t 1\nRHS\n r 4 s 6\n t 3\nBOUNDS\n UP x 3\n UP y 3\nENDATA\n";
+
+/// The same but for a row before it, x + 3y <= 6.
+const WITH_ANOTHER_ROW: &[u8] =
+    b"ROWS\n N o\n L r\n L s\n L t\nCOLUMNS\n m 'MARKER' 'INTORG'\n x o -3 r 2\n x s 1 t 1\n y o -4 r 1\n y s 3 t 1\nRHS\n r 4 s 6\n t 3\nBOUNDS\n UP x 3\n UP y 3\nENDATA\n";
+
 /// Bounds of x: its box thrice, of which the first two runs keep no dictionaries, those of its children, its box once more. All pivots to kept
 /// dictionaries are those of noted edges.
 const CHILDREN: [(i64, i64); 6] = [(0, 3), (0, 3), (0, 3), (0, 0), (1, 3), (0, 3)];
 
 /// Bounds of x with which the fourth run comes to the basis of the third by other pivots. So no edge to it is noted, and it is found by its basis.
 const SAME_BASIS: [(i64, i64); 4] = [(0, 3), (0, 3), (1, 1), (1, 3)];
+
+/// The box of x.
+const BOX: [(i64, i64); 1] = [(0, 3)];
 
 /// Bounds of x for runs whose tableaus aren't made. The first two keep no dictionaries.
 const ENDS: [(i64, i64); 4] = [(0, 3), (0, 3), (0, 3), (1, 3)];
@@ -79,9 +90,9 @@ fn show_numbers<R: Print + Alloc<A = Global>>(
     Ok(show_final(rt, numbers)?)
 }
 
-/// The program by hand on whole numbers.
-fn program_by_hand(alloc: Global) -> Result<IntegerProgram> {
-    let problem = problem_of(alloc, BY_HAND)?;
+/// The program of a model on whole numbers.
+fn program_of(alloc: Global, model: &[u8]) -> Result<IntegerProgram> {
+    let problem = problem_of(alloc, model)?;
     let whole = LinearProgram::of(alloc, &problem, problem.root())?;
     match IntegerProgram::of(alloc, &whole)? {
         Some(program) => Ok(program),
@@ -89,18 +100,45 @@ fn program_by_hand(alloc: Global) -> Result<IntegerProgram> {
     }
 }
 
-/// Prints runs over these bounds of x, which share dictionaries.
-fn show_runs<R: Print + Alloc<A = Global>>(rt: &R, bounds: &[(i64, i64)]) -> Result<()> {
-    let mut program = program_by_hand(rt.alloc())?;
+/// Prints runs of a program over these bounds of x.
+fn show_each<R: Print + Alloc<A = Global>>(
+    rt: &R,
+    program: &mut IntegerProgram,
+    bounds: &[(i64, i64)],
+) -> Result<()> {
     for (low, high) in bounds {
-        show_run(rt, &mut program, *low, *high)?;
+        show_run(rt, program, *low, *high)?;
     }
     Ok(())
 }
 
+/// Prints runs over these bounds of x, which share dictionaries.
+fn show_runs<R: Print + Alloc<A = Global>>(rt: &R, bounds: &[(i64, i64)]) -> Result<()> {
+    let mut program = program_of(rt.alloc(), BY_HAND)?;
+    show_each(rt, &mut program, bounds)
+}
+
+/// Prints runs of the program of a model, which takes over what runs of another one left, if it may.
+fn show_taken<R: Print + Alloc<A = Global>>(
+    rt: &R,
+    model: &[u8],
+    first: &mut IntegerProgram,
+) -> Result<()> {
+    let mut program = program_of(rt.alloc(), model)?;
+    program.take_kept(rt.alloc(), first);
+    show_each(rt, &mut program, &BOX)
+}
+
+/// Prints runs of the program by hand, and those of the program of a model that may take over what they left.
+fn show_further<R: Print + Alloc<A = Global>>(rt: &R, model: &[u8]) -> Result<()> {
+    let mut first = program_of(rt.alloc(), BY_HAND)?;
+    show_each(rt, &mut first, &CHILDREN)?;
+    show_taken(rt, model, &mut first)
+}
+
 /// Prints the numbers at the ends of such runs.
 fn show_all_numbers<R: Print + Alloc<A = Global>>(rt: &R, bounds: &[(i64, i64)]) -> Result<()> {
-    let mut program = program_by_hand(rt.alloc())?;
+    let mut program = program_of(rt.alloc(), BY_HAND)?;
     for (low, high) in bounds {
         show_numbers(rt, &mut program, *low, *high)?;
     }
@@ -112,5 +150,9 @@ pub(crate) fn show<R: Print + Alloc<A = Global>>(rt: &R) -> Result<()> {
     show_runs(rt, &CHILDREN)?;
     println!(rt; "a program of its own, of the same rows")?;
     show_runs(rt, &SAME_BASIS)?;
+    println!(rt; "a program with a further row goes on with what these runs leave")?;
+    show_further(rt, WITH_A_CUT)?;
+    println!(rt; "one with another row before it doesn't")?;
+    show_further(rt, WITH_ANOTHER_ROW)?;
     show_all_numbers(rt, &ENDS)
 }
