@@ -17,6 +17,7 @@ mod divisor;
 mod elimination;
 mod entering;
 mod exits;
+mod further_rows;
 mod final_numbers;
 mod integer_bounds;
 mod integer_program;

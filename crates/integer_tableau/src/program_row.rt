@@ -63,6 +63,22 @@ fn greatest_size(entries: &[ProgramEntry]) -> u64
     size
 }
 
+/// Whether both are the same entries.
+fn are_same(own: &[ProgramEntry], others: &[ProgramEntry]) -> bool
+    ensures { IsTrue result → own.now ≡ others.now }
+{
+    if own.len() != others.len() {
+        return false;
+    }
+    for (index, entry) in own.iter().enumerate() {
+        let other = &others[index];
+        if entry.place != other.place || entry.number != other.number {
+            return false;
+        }
+    }
+    true
+}
+
 impl ProgramRow {
     /// The row of so many coefficients, those of these entries, and 0 at the other places.
     pub(crate) fn make(width: usize, entries: Vec<ProgramEntry>) -> ProgramRow
@@ -91,6 +107,13 @@ impl ProgramRow {
         ensures { IfSome result (λ t. t ≡ total_size self.now) }
     {
         self.weight
+    }
+
+    /// Whether another row has the same coefficients, each at the same place.
+    pub(crate) fn is_same(&self, other: &ProgramRow) -> bool
+        ensures { IsTrue result → self.now ≡ other.now }
+    {
+        self.width == other.width && are_same(&self.entries, &other.entries)
     }
 
     /// Whether each coefficient is below `SIZE_LIMIT` in size.
