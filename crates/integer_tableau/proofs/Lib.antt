@@ -83,3 +83,5 @@ mod ColumnSums
 mod DroppedColumns
 mod FinalEnds
 mod NamedCoefficients
+mod FurtherSums
+mod FurtherRows
