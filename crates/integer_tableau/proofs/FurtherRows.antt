@@ -42,35 +42,22 @@ use Rattle.integer_tableau.specs.declared.integer_bounds.IntegerBounds.{IntegerB
 use Rattle.integer_tableau.specs.declared.position.Position.{Position}
 use Rattle.integer_tableau.specs.declared.position.Position.TheVariants.{InBasis, InColumn}
 
--- ---- sizes
--- no number of the rows is greater, and not the denominator
-abbrev pub IsWithinSize : ℕ → KeptDictionary → Type 0
-IsWithinSize size d = (nat_abs d.denominator ≤ size) × ((v : ℕ) → v < length d.rows → IsWithin size (get_or d.rows v []))
-
-pub all_within_size : (i : Inside) (k : KeptDictionaries) → view_inside i ≡ k → All (IsInLists i.width i.numerators.items i.basic_columns.items i.nonbasic.items) i.all.items → (size : ℕ)
-    → All (λ (d : Dictionary). (d.size ≤ size) × (nat_abs d.divisor.number ≤ size)) i.all.items → All (IsWithinSize size) k.all
-all_within_size i k is there size small =
-    subst (λ (k : KeptDictionaries). All (IsWithinSize size) k.all) is (All-map (IsWithinSize size) (kept_inside i) i.all.items (λ p d l. one (get_or i.all.items p d) (there p d l) (small p d l)))
-  where
-    one : (d : Dictionary) → IsInLists i.width i.numerators.items i.basic_columns.items i.nonbasic.items d → (d.size ≤ size) × (nat_abs d.divisor.number ≤ size) → IsWithinSize size (kept_inside i d)
-    one d h s = (s.1, λ v l. rows_each size i.width _ (rows_of i.width i.numerators.items d) (within_weaker d.size size (rows_of i.width i.numerators.items d) s.0 (rows_within i.width i.numerators.items d h.within)) v l)
-
 -- ---- more basic variables behind all
-longer_position : (ss : List Position) (n v : ℕ) → get_or (ss ++ replicate n InBasis) v InBasis ≡ get_or ss v InBasis
+pub longer_position : (ss : List Position) (n v : ℕ) → get_or (ss ++ replicate n InBasis) v InBasis ≡ get_or ss v InBasis
 longer_position [] n v = rows_in_basis n v
 longer_position (s ∷ ss) n zero = refl
 longer_position (s ∷ ss) n (suc v) = longer_position ss n v
 
-longer_many : (ss : List Position) (n : ℕ) → length (ss ++ replicate n InBasis) ≡ length ss + n
+pub longer_many : (ss : List Position) (n : ℕ) → length (ss ++ replicate n InBasis) ≡ length ss + n
 longer_many ss n = length-append ss (replicate n InBasis) ∙ ap (λ k. length ss + k) (length-replicate n InBasis)
 
-longer_nonbasic : (ss : List Position) (n : ℕ) (nonbasic : List ℕ) → AreNonbasic ss nonbasic → AreNonbasic (ss ++ replicate n InBasis) nonbasic
+pub longer_nonbasic : (ss : List Position) (n : ℕ) (nonbasic : List ℕ) → AreNonbasic ss nonbasic → AreNonbasic (ss ++ replicate n InBasis) nonbasic
 longer_nonbasic ss n nonbasic h = record {
   there = λ k l. longer_position ss n (get_or nonbasic k 0) ∙ h.there k l;
   all = λ v k e. h.all v k (sym (longer_position ss n v) ∙ e);
 }
 
-longer_basic : (i n : ℕ) (ss ts : List Position) → n ≤ length ss → basic_from i n (ss ++ ts) ≡ basic_from i n ss
+pub longer_basic : (i n : ℕ) (ss ts : List Position) → n ≤ length ss → basic_from i n (ss ++ ts) ≡ basic_from i n ss
 longer_basic i zero ss ts l = refl
 longer_basic i (suc n) [] ts l = absurd (omega arith)
 longer_basic i (suc n) (InBasis ∷ ss) ts l = ap (λ js. i ∷ js) (longer_basic (suc i) n ss ts (omega arith))
@@ -198,6 +185,10 @@ module _ (ps further : List (List ℤ)) (m : IntegerDictionary) (many : length m
 
   old_row : (v : ℕ) → v < n → get_or (all_rows all longer variables) v [] ≡ get_or (all_rows ps m many) v []
   old_row v l = ap (λ ls. get_or ls v []) rows_longer ∙ get_or_append_left (all_rows ps m many) (map made further) [] v (omega (arith, l, as_many ps m many))
+
+  pub row_stays : (v : ℕ) → v < length m.positions
+      → get_or (expanded_rows m.denominator (ps ++ further) (m.positions ++ replicate (length further) InBasis) m.rows) v [] ≡ get_or (expanded_rows m.denominator ps m.positions m.rows) v []
+  row_stays = old_row
 
   new_row : (j : ℕ) → j < length further → get_or (all_rows all longer variables) (n + j) [] ≡ made (get_or further j [])
   new_row j l =

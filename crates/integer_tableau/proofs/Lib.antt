@@ -85,3 +85,4 @@ mod FinalEnds
 mod NamedCoefficients
 mod FurtherSums
 mod FurtherRows
+mod FurtherKept

@@ -2,7 +2,7 @@ use Rattle.std.proofs.Common.{◌≡◌, ◌<◌, ◌≤◌, ◌∙◌, arith, r
 use Rattle.std.specs.Prelude.{All, List}
 use Rattle.std.proofs.lemmas.List.{take_all}
 use Rattle.std.proofs.lemmas.List.Elements.{All-get_or, All-more, All-weaker}
-use Rattle.integer_tableau.proofs.FurtherRows.{IsWithinSize, all_within_size}
+use Rattle.integer_tableau.proofs.FurtherKept.{IsWithinSize, all_within_size}
 use Rattle.integer_tableau.specs.declared.dictionary.Dictionary.{Dictionary}
 use Rattle.integer_tableau.proofs.dictionary.Dictionaries.greatest_size.Goals as goal
 use Rattle.integer_tableau.proofs.dictionary.Dictionaries.greatest_size.Goals.{After-loop-own}
