@@ -11,11 +11,10 @@ use Rattle.integer_tableau.proofs.ExitViews.{kept_inside, view_inside}
 use Rattle.integer_tableau.proofs.FurtherRows.{longer_basic, longer_many, longer_nonbasic, longer_position, row_stays, stored_longer}
 use Rattle.integer_tableau.proofs.KeptSizes.{rows_each}
 use Rattle.integer_tableau.specs.Arena.{positions_by}
-use Rattle.integer_tableau.specs.Combined.{combined_row}
 use Rattle.integer_tableau.specs.Exits.{AreFirstEdges}
 use Rattle.integer_tableau.specs.IntegerDictionary.{ArePositionsBehind}
 use Rattle.integer_tableau.specs.IntegerProgram.{CanStart}
-use Rattle.integer_tableau.specs.Kept.{AreKept, HasExits, IsExitOf, IsInLists, IsKept, IsStartDictionary, KeptDictionaries, KeptDictionary, Leads, dictionary_in, edges_of, kept_at, kept_in, row_in, rows_of}
+use Rattle.integer_tableau.specs.Kept.{AreKept, HasExits, IsExitOf, IsInLists, IsKept, IsStartDictionary, KeptDictionaries, KeptDictionary, Leads, dictionary_in, edges_of, kept_at, kept_in, rows_of}
 use Rattle.integer_tableau.specs.Numbers.{IsWithin, total_size}
 use Rattle.integer_tableau.specs.Positions.{AreNonbasic}
 use Rattle.integer_tableau.specs.Range.{size_limit}
@@ -26,7 +25,7 @@ use Rattle.integer_tableau.specs.declared.exits.Edge.{Edge}
 use Rattle.integer_tableau.specs.declared.exits.Exit.{Exit}
 use Rattle.integer_tableau.specs.declared.integer_bounds.IntegerBounds.{IntegerBounds}
 use Rattle.integer_tableau.specs.declared.position.Position.{Position}
-use Rattle.integer_tableau.specs.declared.position.Position.TheVariants.{InBasis, InColumn}
+use Rattle.integer_tableau.specs.declared.position.Position.TheVariants.{InBasis}
 
 -- ---- sizes
 -- no number of the rows is greater, and not the denominator

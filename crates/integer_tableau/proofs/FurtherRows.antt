@@ -1,28 +1,21 @@
 -- A dictionary of a linear program is one of the linear program with further rows: the variable of each further row is basic.
-use Rattle.std.proofs.Common.{◌≡◌, ◌≢◌, ℕ, zero, suc, ◌+◌, ◌-◌, ◌*◌, ◌<◌, ◌≤◌, arith, refl, ap, sym, subst, ◌∙◌, inl, inr, false, List, [], ◌∷◌, ◌++◌, length, get_or, take, drop, map, replicate, append_assoc}
-use Rattle.std.specs.Prelude.{ℤ, pos, nat_abs, ◌+ℤ◌, ◌*ℤ◌, All, ◌⊎◌}
+use Rattle.std.proofs.Common.{◌≡◌, ℕ, zero, suc, ◌+◌, ◌-◌, ◌<◌, ◌≤◌, arith, refl, ap, sym, subst, ◌∙◌, inl, inr, false, List, [], ◌∷◌, ◌++◌, length, get_or, take, drop, map, replicate, append_assoc}
+use Rattle.std.specs.Prelude.{ℤ, ◌+ℤ◌, ◌*ℤ◌}
 use Rattle.std.proofs.lemmas.Bool.{cases_lt}
-use Rattle.std.proofs.lemmas.List.{drop-append-le, get_or-append-add, get_or-append_right, get_or-map, get_or-take, get_or_append_left, get_or_default, get_or_past, length-append, length-drop, length-map, length-replicate, length-take-le, map-append, take-append-drop}
-use Rattle.std.proofs.lemmas.List.Elements.{All-map, All-weaker}
+use Rattle.std.proofs.lemmas.List.{drop-append-le, get_or-append-add, get_or-map, get_or-take, get_or_append_left, get_or_past, length-append, length-drop, length-map, length-replicate, length-take-le, map-append}
 use Rattle.fraction.specs.Lemmas.Bounds.{dot_value}
 use Rattle.fraction.specs.Rational.{ℚ, whole, ◌*ℚ◌, ◌+ℚ◌}
 use Rattle.tableau.specs.Elimination.{entry, zero_ℚ}
-use Rattle.tableau.specs.Invariants.{HasSameObjective, HasSameSolutions, IsCanonical, IsCanonicalRow, IsNonbasic, Solves, SolvesRows}
+use Rattle.tableau.specs.Invariants.{IsCanonical, IsCanonicalRow, IsNonbasic, Solves, SolvesRows}
 use Rattle.tableau.specs.Lemmas.Places.{not_both_statuses}
 use Rattle.tableau.specs.Lemmas.Started.{dot-padded}
-use Rattle.tableau.specs.Lemmas.Sums.{dot-short}
-use Rattle.tableau.specs.LinearProgram.{LinearProgram}
 use Rattle.tableau.specs.Start.{padded}
 use Rattle.tableau.specs.Tableau.{Tableau, row_of, status_of}
 use Rattle.tableau.specs.declared.status.BasisStatus.TheVariants.{Basic}
 use Rattle.integer_tableau.proofs.AllRows.{get_or-rows_of, length-rows_of}
-use Rattle.integer_tableau.proofs.Arenas.{positions_are, positions_many, within_weaker}
-use Rattle.integer_tableau.proofs.Behind.{rows_within}
-use Rattle.integer_tableau.proofs.Combining.{combination_small, length-numbers_from}
-use Rattle.integer_tableau.proofs.ExitViews.{kept_inside, view_inside}
+use Rattle.integer_tableau.proofs.Combining.{length-numbers_from}
 use Rattle.integer_tableau.proofs.Expanded.{row_of_column, rows_many, which}
 use Rattle.integer_tableau.proofs.FurtherSums.{row_says}
-use Rattle.integer_tableau.proofs.KeptSizes.{rows_each}
 use Rattle.integer_tableau.proofs.Starting.{rows_in_basis}
 use Rattle.integer_tableau.proofs.Statuses.{basic_position, basic_status, get_or-statuses}
 use Rattle.integer_tableau.specs.BasicColumns.{basic_from}
@@ -32,12 +25,9 @@ use Rattle.integer_tableau.specs.Dictionary.{IsDictionaryOf}
 use Rattle.integer_tableau.specs.IntegerDictionary.{IntegerDictionary, IsCompactDictionary, IsStored, fraction_dictionary, position_of, program_of}
 use Rattle.integer_tableau.specs.IntegerProgram.{CanStart}
 use Rattle.integer_tableau.specs.IntegerTableau.{row_of_position, status}
-use Rattle.integer_tableau.specs.Kept.{IsInLists, IsKept, KeptDictionaries, KeptDictionary, dictionary_in, kept_in, rows_of}
-use Rattle.integer_tableau.specs.Numbers.{IsWithin, total_size}
-use Rattle.integer_tableau.specs.Positions.{AreNonbasic, IsColumnOf, coefficient, coefficients}
+use Rattle.integer_tableau.specs.Numbers.{IsWithin}
+use Rattle.integer_tableau.specs.Positions.{AreNonbasic, coefficient, coefficients}
 use Rattle.integer_tableau.specs.Range.{size_limit}
-use Rattle.integer_tableau.specs.declared.dictionary.Dictionaries.TheInside.{Inside}
-use Rattle.integer_tableau.specs.declared.dictionary.Dictionary.{Dictionary}
 use Rattle.integer_tableau.specs.declared.integer_bounds.IntegerBounds.{IntegerBounds}
 use Rattle.integer_tableau.specs.declared.position.Position.{Position}
 use Rattle.integer_tableau.specs.declared.position.Position.TheVariants.{InBasis, InColumn}

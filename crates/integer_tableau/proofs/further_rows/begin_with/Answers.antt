@@ -1,4 +1,4 @@
-use Rattle.std.proofs.Common.{◌≡◌, ◌++◌, ◌∙◌, ap, sym, drop}
+use Rattle.std.proofs.Common.{◌++◌, ◌∙◌, ap, sym, drop}
 use Rattle.std.specs.Prelude.{List, ℤ}
 use Rattle.std.proofs.lemmas.List.{take-append-drop, take_all}
 use Rattle.integer_tableau.proofs.further_rows.begin_with.Goals as goal

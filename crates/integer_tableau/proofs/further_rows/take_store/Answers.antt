@@ -1,4 +1,4 @@
-use Rattle.std.proofs.Common.{◌≡◌, sym, subst}
+use Rattle.std.proofs.Common.{sym, subst}
 use Rattle.integer_tableau.specs.Kept.{AreKept}
 use Rattle.integer_tableau.specs.declared.dictionary_store.DictionaryStore.{DictionaryStore}
 use Rattle.integer_tableau.proofs.further_rows.take_store.Goals as goal

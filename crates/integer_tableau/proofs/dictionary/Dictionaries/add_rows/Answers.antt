@@ -1,4 +1,4 @@
-use Rattle.std.proofs.Common.{◌≡◌, ◌<◌, ◌+◌, ◌*◌, ◌∙◌, ap, sym, subst, length}
+use Rattle.std.proofs.Common.{◌<◌, ◌+◌, ◌*◌, ◌∙◌, ap, sym, subst}
 use Rattle.integer_tableau.proofs.FurtherKept.{each_within_size, further_kept}
 use Rattle.integer_tableau.proofs.dictionary.Dictionaries.add_rows.Goals as goal
 

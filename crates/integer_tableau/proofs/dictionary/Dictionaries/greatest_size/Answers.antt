@@ -1,4 +1,4 @@
-use Rattle.std.proofs.Common.{◌≡◌, ◌<◌, ◌≤◌, ◌∙◌, arith, rules, ap, sym, subst, get_or, length, nat_abs, take}
+use Rattle.std.proofs.Common.{◌≤◌, ◌∙◌, arith, rules, ap, subst, nat_abs, take}
 use Rattle.std.specs.Prelude.{All, List}
 use Rattle.std.proofs.lemmas.List.{take_all}
 use Rattle.std.proofs.lemmas.List.Elements.{All-get_or, All-more, All-weaker}

@@ -1,4 +1,4 @@
-use Rattle.std.proofs.Common.{◌≤◌, ◌+◌, nat_abs, take}
+use Rattle.std.proofs.Common.{◌≤◌, nat_abs, take}
 use Rattle.std.specs.Prelude.{All}
 use Rattle.integer_tableau.specs.declared.dictionary.Dictionary.{Dictionary}
 use Rattle.integer_tableau.proofs.dictionary.Dictionaries.greatest_size.Given as goal
