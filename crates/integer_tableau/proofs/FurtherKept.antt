@@ -139,10 +139,12 @@ module _ (ps further : List (List ℤ)) (weight weight' : ℕ) (costs : List ℤ
         let a = lead t in
         let there : e.from < length k.all = from_there a.1 in
         let old : KeptDictionary = kept_at k.all e.from in
-        let target : KeptDictionary = kept_at k.all e.target in
-        (omega (arith, a.0, now_many), subst (λ (ss : List Position). ArePositionsBehind e.leaving e.entering ss (kept_at now e.target).positions) (sym (ap (λ (d : KeptDictionary). d.positions) (now_at e.from there)))
-        (subst (λ (ss : List Position). ArePositionsBehind e.leaving e.entering (old.positions ++ replicate more InBasis) ss) (sym (ap (λ (d : KeptDictionary). d.positions) (now_at e.target a.0)))
-        (behind_longer e.leaving e.entering more old.positions target.positions a.1)))
+        let target : KeptDictionary = kept_at k.all e.target in (
+          omega (arith, a.0, now_many),
+          subst (λ (ss : List Position). ArePositionsBehind e.leaving e.entering ss (kept_at now e.target).positions) (sym (ap (λ (d : KeptDictionary). d.positions) (now_at e.from there)))
+              (subst (λ (ss : List Position). ArePositionsBehind e.leaving e.entering (old.positions ++ replicate more InBasis) ss) (sym (ap (λ (d : KeptDictionary). d.positions) (now_at e.target a.0)))
+              (behind_longer e.leaving e.entering more old.positions target.positions a.1)),
+        )
       where
         from_there : ArePositionsBehind e.leaving e.entering (kept_at k.all e.from).positions (kept_at k.all e.target).positions → e.from < length k.all
         from_there b = elim (cases_lt e.from (length k.all)) [
@@ -156,8 +158,11 @@ module _ (ps further : List (List ℤ)) (weight weight' : ℕ) (costs : List ℤ
       first = first_longer k.all h.first;
       has_exits = λ p l. exits_stay p (omega (arith, l, now_many));
       exits = All-weaker (λ (x : Exit). (x.from < length k.all) × IsExitOf ps k.edges (kept_at k.all x.from) x) (λ (x : Exit). (x.from < length now) × IsExitOf (ps ++ further) k.edges (kept_at now x.from) x)
-          (λ x n. (omega (arith, n.0, now_many), subst (λ d. IsExitOf (ps ++ further) k.edges d x) (sym (now_at x.from n.0))
-          (exit_longer k.edges (kept_at k.all x.from) x (All-get_or (IsKept ps weight costs) k.all x.from _ n.0 h.each) n.1))) k.exits h.exits;
+          (λ x n. (
+            omega (arith, n.0, now_many),
+            subst (λ d. IsExitOf (ps ++ further) k.edges d x) (sym (now_at x.from n.0))
+                (exit_longer k.edges (kept_at k.all x.from) x (All-get_or (IsKept ps weight costs) k.all x.from _ n.0 h.each) n.1),
+          )) k.exits h.exits;
       leads = All-weaker (Leads k.all) (Leads now) leads_longer k.edges h.leads;
     }
 

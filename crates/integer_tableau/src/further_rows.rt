@@ -1,6 +1,6 @@
 // What runs leave for later ones goes on to a linear program with further rows.
 
-ghost use Rattle.std.specs.Prelude.{◌≡◌, ◌≤◌, ◌<◌, ◌+◌, ◌^◌, ◌++◌, ℕ, ℤ, List, length, nat_abs, slice_index_or, IsTrue, []};
+ghost use Rattle.std.specs.Prelude.{◌≡◌, ◌≤◌, ◌<◌, ◌++◌, ℕ, ℤ, List, length, nat_abs, slice_index_or, IsTrue, []};
 ghost use Rattle.integer_tableau.specs.IntegerProgram.{CanStart};
 ghost use Rattle.integer_tableau.specs.Kept.{AreKept, kept_at};
 ghost use Rattle.integer_tableau.specs.Numbers.{IsWithin};
@@ -97,12 +97,6 @@ impl IntegerProgram {
             return;
         }
         let more = self.rows.len() - other.rows.len();
-        take_store(
-            alloc,
-            &mut self.store,
-            &mut other.store,
-            more,
-            self.weight,
-        );
+        take_store(alloc, &mut self.store, &mut other.store, more, self.weight);
     }
 }

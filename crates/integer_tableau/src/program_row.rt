@@ -9,7 +9,7 @@ use crate::range::SIZE_LIMIT;
 use std::marker::Model;
 
 /// A coefficient of a row that isn't 0, with its place.
-#[derive(Clone, Copy)]
+#[derive(Clone, Copy, PartialEq)]
 pub(crate) struct ProgramEntry {
     /// The column.
     pub(crate) place: usize,
@@ -63,22 +63,6 @@ fn greatest_size(entries: &[ProgramEntry]) -> u64
     size
 }
 
-/// Whether both are the same entries.
-fn are_same(own: &[ProgramEntry], others: &[ProgramEntry]) -> bool
-    ensures { IsTrue result → own.now ≡ others.now }
-{
-    if own.len() != others.len() {
-        return false;
-    }
-    for (index, entry) in own.iter().enumerate() {
-        let other = &others[index];
-        if entry.place != other.place || entry.number != other.number {
-            return false;
-        }
-    }
-    true
-}
-
 impl ProgramRow {
     /// The row of so many coefficients, those of these entries, and 0 at the other places.
     pub(crate) fn make(width: usize, entries: Vec<ProgramEntry>) -> ProgramRow
@@ -113,7 +97,7 @@ impl ProgramRow {
     pub(crate) fn is_same(&self, other: &ProgramRow) -> bool
         ensures { IsTrue result → self.now ≡ other.now }
     {
-        self.width == other.width && are_same(&self.entries, &other.entries)
+        self.width == other.width && self.entries == other.entries
     }
 
     /// Whether each coefficient is below `SIZE_LIMIT` in size.

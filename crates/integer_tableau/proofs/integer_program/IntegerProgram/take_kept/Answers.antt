@@ -15,14 +15,13 @@ invariant_of-self c =
     let further : List (List ℤ) = begun.0 in
     let rows_are : rows ≡ first ++ further = sym c.deref.ensures.value ∙ begun.1 ∙ ap (λ (xs : List (List ℤ)). xs ++ further) c.deref-else-not-are_same.ensures.value in
     let costs_are : own.costs ≡ other.costs = sym c.numerators.ensures ∙ c.are_same.ensures c.if-not-are_same.false ∙ c.numerators-2.ensures in
-    let many : length further ≡ c.len.result - c.len-2.result = omega (arith, c.len.ensures, c.len-2.ensures, ap length rows_are, length-append first further) in
-    (
+    let many : length further ≡ c.len.result - c.len-2.result = omega (arith, c.len.ensures, c.len-2.ensures, ap length rows_are, length-append first further) in (
       c.self.invariant.0,
       subst (λ (ps : List (List ℤ)). AreKept ps own.weight own.costs c.take_store.new.own.kept) (sym rows_are)
-      (c.take_store.ensures.own first further other.weight own.costs own.bounds.items many
-      (subst (λ (costs : List ℤ). AreKept first other.weight costs other.store.kept) (sym costs_are) c.other.invariant.1)
-      (subst (λ (ps : List (List ℤ)). CanStart ps own.weight own.costs own.bounds.items) rows_are c.self.invariant.0)
-      (subst (λ (ps : List (List ℤ)). AreKept ps own.weight own.costs own.store.kept) rows_are c.self.invariant.1)),
+          (c.take_store.ensures.own first further other.weight own.costs own.bounds.items many
+          (subst (λ (costs : List ℤ). AreKept first other.weight costs other.store.kept) (sym costs_are) c.other.invariant.1)
+          (subst (λ (ps : List (List ℤ)). CanStart ps own.weight own.costs own.bounds.items) rows_are c.self.invariant.0)
+          (subst (λ (ps : List (List ℤ)). AreKept ps own.weight own.costs own.store.kept) rows_are c.self.invariant.1)),
       c.self.invariant.2,
       c.self.invariant.3,
     )
