@@ -16,7 +16,7 @@ row_if_there most width numbers w None = λ k. omega arith
 row_if_there most width numbers w (Some p) = within_piece most (p * width) (p * width + width) numbers w
 
 -- each row is within what all numbers are
-rows_each : (most width : ℕ) (js : List ℕ) (numbers : List ℤ) → IsWithin most numbers → (v : ℕ) → v < length (rows_by width js numbers) → IsWithin most (get_or (rows_by width js numbers) v [])
+pub rows_each : (most width : ℕ) (js : List ℕ) (numbers : List ℤ) → IsWithin most numbers → (v : ℕ) → v < length (rows_by width js numbers) → IsWithin most (get_or (rows_by width js numbers) v [])
 rows_each most width js numbers w v l =
     subst (IsWithin most) (sym (row_at width js numbers v (omega (arith, l, rows_many width js numbers)))) (row_if_there most width numbers w (position (nat_eq v) js))
 

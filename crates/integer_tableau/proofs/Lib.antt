@@ -83,3 +83,6 @@ mod ColumnSums
 mod DroppedColumns
 mod FinalEnds
 mod NamedCoefficients
+mod FurtherSums
+mod FurtherRows
+mod FurtherKept

@@ -18,6 +18,7 @@ mod elimination;
 mod entering;
 mod exits;
 mod final_numbers;
+mod further_rows;
 mod integer_bounds;
 mod integer_program;
 mod integer_row;

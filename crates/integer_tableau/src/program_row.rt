@@ -9,7 +9,7 @@ use crate::range::SIZE_LIMIT;
 use std::marker::Model;
 
 /// A coefficient of a row that isn't 0, with its place.
-#[derive(Clone, Copy)]
+#[derive(Clone, Copy, PartialEq)]
 pub(crate) struct ProgramEntry {
     /// The column.
     pub(crate) place: usize,
@@ -91,6 +91,13 @@ impl ProgramRow {
         ensures { IfSome result (λ t. t ≡ total_size self.now) }
     {
         self.weight
+    }
+
+    /// Whether another row has the same coefficients, each at the same place.
+    pub(crate) fn is_same(&self, other: &ProgramRow) -> bool
+        ensures { IsTrue result → self.now ≡ other.now }
+    {
+        self.width == other.width && self.entries == other.entries
     }
 
     /// Whether each coefficient is below `SIZE_LIMIT` in size.
