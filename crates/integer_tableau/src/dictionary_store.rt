@@ -30,14 +30,12 @@ const MOST_WORDS: usize = 1 << 21;
 /// How many dictionaries there are at most.
 const MOST_DICTIONARIES: usize = 1 << 14;
 
-/// How much of the budget a new dictionary takes. A step to a dictionary that is kept already adds 1.
-const COST_OF_NEW: u32 = 3;
-
 /// How many runs go without a new store: where a linear program gets a cut after few runs, a store doesn't pay.
 const FIRST_RUNS: u32 = 2;
 
-/// The budget of a new store, and of one that was suspended.
-const FIRST_BUDGET: u32 = 256 * COST_OF_NEW;
+/// The budget of a new store, and of one that was suspended: a new dictionary takes 1 of it, and a step to one that is kept already adds 1
+/// (docs/DECISIONS.md, entry 103).
+const FIRST_BUDGET: u32 = 768;
 
 /// The greatest budget.
 const MOST_BUDGET: u32 = 1 << 13;
@@ -212,7 +210,7 @@ impl DictionaryStore {
         ensures kept { self.new.kept ≡ self.old.kept }
         ensures row { self.new.row ≡ self.old.row }
     {
-        self.budget = self.budget.saturating_sub(COST_OF_NEW);
+        self.budget = self.budget.saturating_sub(1);
         if self.budget == 0 {
             self.budget = FIRST_BUDGET;
             self.suspended_runs = self.next_suspension;
