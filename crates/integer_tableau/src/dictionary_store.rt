@@ -140,7 +140,7 @@ impl DictionaryStore {
 
     /// Whether the dictionaries may take more words than now: so many steps went to one that was kept already that it is worth it.
     fn may_grow(&self) -> bool {
-        self.budget >= MOST_BUDGET / 2
+        self.budget >= MOST_BUDGET
             && self.limit < MOST_WORDS
             && self.kept.count() < MOST_DICTIONARIES
     }
