@@ -1,6 +1,6 @@
 //! What the tableau that a run left says of one variable.
 
-ghost use Rattle.std.specs.Prelude.{◌≡◌, ◌<◌, length, IfOk};
+ghost use Rattle.std.specs.Prelude.{◌≡◌, ◌<◌, ◌≤◌, length, drop, IfOk};
 ghost use Rattle.tableau.specs.Tableau.{status_of, row_of};
 
 use crate::final_tableau::{FinalTableau, Form};
@@ -21,15 +21,21 @@ impl FinalTableau {
         }
     }
 
-    /// The coefficients of all variables in the row of a basic variable; none for another one. The one error is want of memory.
-    pub fn coefficients(&self, alloc: Global, variable: usize) -> Result<Vec<Frac>, AllocError>
-        requires { variable < length self.now.statuses }
-        ensures { IfOk result (λ v. v.items ≡ row_of self.now variable) }
+    /// The coefficients of the variables from `first` on in the row of a basic variable; none for another one. The one error is want of memory.
+    pub fn coefficients_from(
+        &self,
+        alloc: Global,
+        variable: usize,
+        first: usize,
+    ) -> Result<Vec<Frac>, AllocError>
+        requires variable_there { variable < length self.now.statuses }
+        requires first_there { first ≤ length self.now.statuses }
+        ensures { IfOk result (λ v. v.items ≡ drop first (row_of self.now variable)) }
     {
         match &self.form {
-            Form::Integers(tableau) => tableau.coefficients(alloc, variable),
-            Form::Scaled(tableau) => tableau.coefficients(alloc, variable),
-            Form::Fractions(tableau) => tableau.coefficients(alloc, variable),
+            Form::Integers(tableau) => tableau.coefficients_from(alloc, variable, first),
+            Form::Scaled(tableau) => tableau.coefficients_from(alloc, variable, first),
+            Form::Fractions(tableau) => tableau.coefficients_from(alloc, variable, first),
         }
     }
 }

@@ -1,10 +1,11 @@
 -- A candidate gives the row that the numbers of its rows and cuts tell, if it gives one.
-use Rattle.std.proofs.Common.{◌≡◌, ℕ, zero, suc, ◌+◌, ◌*◌, ◌<◌, ◌≤◌, arith, refl, ap, sym, ◌∙◌, subst, Bool, true, false, Option, Some, None, List, [], ◌∷◌, ◌++◌, length, map}
+use Rattle.std.proofs.Common.{◌≡◌, ℕ, zero, suc, ◌+◌, ◌*◌, ◌<◌, ◌≤◌, arith, refl, ap, sym, ◌∙◌, subst, Bool, true, false, Option, Some, None, List, [], ◌∷◌, ◌++◌, length, map, drop}
 use Rattle.std.specs.Prelude.{ℤ, pos, if◌then◌else◌, eqb, slice_index_or, option_map}
 use Rattle.std.specs.Ordering.{int_eq}
 use Rattle.std.specs.Option.{option_and_then}
 use Rattle.std.proofs.lemmas.Int.{ints}
 use Rattle.std.proofs.lemmas.Bool.{eqb-true}
+use Rattle.std.proofs.lemmas.List.{get_or-drop}
 use Rattle.fraction.specs.Rational.{ℚ, whole, frac, floor, ceil, ◌+ℚ◌, ◌*ℚ◌, neg_ℚ}
 use Rattle.fraction.specs.Checked.{sub_checked}
 use Rattle.fraction.specs.Lemmas.Rational.{ℚ_is, +ℚ_assoc, +ℚ_comm, zero-+ℚ, zero-*ℚ, one-*ℚ, neg-+ℚ, *ℚ_comm}
@@ -30,10 +31,11 @@ use Rattle.derivation_book.specs.Lemmas.Price.{has_sums}
 use Rattle.derivation_book.specs.Lemmas.Rounded.{made_from}
 use Rattle.tableau.specs.declared.status.BasisStatus.{BasisStatus}
 use Rattle.tableau.specs.declared.status.BasisStatus.TheVariants.{Basic, AtLower, AtUpper}
+use Rattle.tableau.specs.Elimination.{zero_ℚ}
 use Rattle.tableau.specs.Multipliers.{with_multiplier}
 use Rattle.tableau.specs.Tableau.{Tableau, row_of, status_of}
 use Rattle.gomory_cuts.specs.declared.sign.Sign.{Sign}
-use Rattle.gomory_cuts.specs.Multipliers.{row_multipliers, is_at_upper, filling, bound_number, fillings, filled}
+use Rattle.gomory_cuts.specs.Multipliers.{multiplier, row_multipliers, is_at_upper, filling, bound_number, fillings, filled}
 use Rattle.gomory_cuts.specs.Separation.{is_violated, if_violated, cut_at}
 use Rattle.gomory_cuts.proofs.Rounding.{floor_of_whole, ceil_of_whole}
 use Rattle.gomory_cuts.specs.Candidate.{whole_to, bound_at, whole_columns, side_with, filled_side, candidate}
@@ -243,11 +245,26 @@ refused p cuts t x us vs q e h = at (filled p cuts t us vs) refl
     at None f = refl
     at (Some mult) f = at_row mult f (rounded_row p cuts mult) refl
 
--- a candidate, by the multipliers of its rows and of its cuts
-pub from_plain : (p : Problem) (cuts : List Cut) (t : Tableau) (x : List ℚ) (j : ℕ) (s : Sign) (row : List ℚ) (o r : Option (List (ℕ × ℚ))) → row ≡ row_of t j
-    → o ≡ row_multipliers s row (length p.spans) 0 p.rows → r ≡ row_multipliers s row (length p.spans + length p.rows) (first_cut p) (map (λ (c : Cut). c.row) cuts)
+-- ---- the multipliers
+-- what stands behind the first n gives the multipliers that the whole row gives
+rest_multipliers : (s : Sign) (n : ℕ) (row : List ℚ) (v k : ℕ) (rs : List Row) → row_multipliers s (drop n row) v k rs ≡ row_multipliers s row (n + v) k rs
+rest_multipliers s n row v k [] = refl
+rest_multipliers s n row v k (r ∷ rs) = λ i.
+    option_and_then (λ u. option_map (with_multiplier k u) ((rest_multipliers s n row (v + 1) (k + 1) rs
+    ∙ ap (λ w. row_multipliers s row w (k + 1) rs) (let z : n + (v + 1) ≡ n + v + 1 = omega arith in z)) i)) (multiplier s r.sense (get_or-drop n row v zero_ℚ i))
+
+-- a candidate, by the multipliers of its rows and of its cuts, from what stands behind the columns in column j's row
+pub from_plain : (p : Problem) (cuts : List Cut) (t : Tableau) (x : List ℚ) (j : ℕ) (s : Sign) (rest : List ℚ) (o r : Option (List (ℕ × ℚ))) → rest ≡ drop (length p.spans) (row_of t j)
+    → o ≡ row_multipliers s rest 0 0 p.rows → r ≡ row_multipliers s rest (length p.rows) (first_cut p) (map (λ (c : Cut). c.row) cuts)
     → cut_at p cuts t x j s ≡ option_and_then (if_violated p cuts x) (option_and_then (λ us. option_and_then (λ vs. filled p cuts t us vs) r) o)
-from_plain p cuts t x j s row o r is e f =
-    sym ((λ i. option_and_then (if_violated p cuts x) (option_and_then (λ us. option_and_then (λ vs. filled p cuts t us vs) (f i)) (e i)))
-    ∙ ap (λ row. option_and_then (if_violated p cuts x)
-    (option_and_then (λ us. option_and_then (λ vs. filled p cuts t us vs) (row_multipliers s row (length p.spans + length p.rows) (first_cut p) (map (λ (c : Cut). c.row) cuts))) (row_multipliers s row (length p.spans) 0 p.rows))) is)
+from_plain p cuts t x j s rest o r is e f =
+    sym (λ i. option_and_then (if_violated p cuts x) (option_and_then (λ us. option_and_then (λ vs. filled p cuts t us vs) (of_cuts i)) (of_rows i)))
+  where
+    from_row : (v k : ℕ) (rs : List Row) → row_multipliers s rest v k rs ≡ row_multipliers s (row_of t j) (length p.spans + v) k rs
+    from_row v k rs = ap (λ row. row_multipliers s row v k rs) is ∙ rest_multipliers s (length p.spans) (row_of t j) v k rs
+
+    of_rows : o ≡ row_multipliers s (row_of t j) (length p.spans) 0 p.rows
+    of_rows = e ∙ from_row 0 0 p.rows ∙ ap (λ v. row_multipliers s (row_of t j) v 0 p.rows) (let z : length p.spans + 0 ≡ length p.spans = omega arith in z)
+
+    of_cuts : r ≡ row_multipliers s (row_of t j) (length p.spans + length p.rows) (first_cut p) (map (λ (c : Cut). c.row) cuts)
+    of_cuts = f ∙ from_row (length p.rows) (first_cut p) (map (λ (c : Cut). c.row) cuts)

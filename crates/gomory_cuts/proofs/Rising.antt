@@ -97,11 +97,11 @@ pub record ArePlain (p : Problem) (cuts : List Cut) (us vs : List (ℕ × ℚ)) 
   pub rows : AreBetween 0 (length p.rows) us
   pub cuts_are : AreBetween (first_cut p) (first_cut p + length cuts) vs
 
-pub are_plain : (p : Problem) (cuts : List Cut) (s : Sign) (row : List ℚ) (us vs : List (ℕ × ℚ)) → row_multipliers s row (length p.spans) 0 p.rows ≡ Some us
-    → row_multipliers s row (length p.spans + length p.rows) (first_cut p) (map (λ (c : Cut). c.row) cuts) ≡ Some vs → ArePlain p cuts us vs
-are_plain p cuts s row us vs e f = record {
-  rows = rows_between s row (length p.spans) 0 (length p.rows) p.rows us e (omega arith);
-  cuts_are = rows_between s row (length p.spans + length p.rows) (first_cut p) (first_cut p + length cuts) (cut_rows cuts) vs f (omega (arith, length-map cuts (λ (c : Cut). c.row)));
+pub are_plain : (p : Problem) (cuts : List Cut) (s : Sign) (row : List ℚ) (v w : ℕ) (us vs : List (ℕ × ℚ)) → row_multipliers s row v 0 p.rows ≡ Some us
+    → row_multipliers s row w (first_cut p) (map (λ (c : Cut). c.row) cuts) ≡ Some vs → ArePlain p cuts us vs
+are_plain p cuts s row v w us vs e f = record {
+  rows = rows_between s row v 0 (length p.rows) p.rows us e (omega arith);
+  cuts_are = rows_between s row w (first_cut p) (first_cut p + length cuts) (cut_rows cuts) vs f (omega (arith, length-map cuts (λ (c : Cut). c.row)));
 }
 
 -- they name known rows
@@ -132,4 +132,4 @@ gomory_between p cuts t s j ms e =
     let n = length p.spans in
     let a = was_some (λ us. option_and_then (λ vs. filled p cuts t us vs) (row_multipliers s (row_of t j) (length p.spans + length p.rows) (first_cut p) (cut_rows cuts))) (row_multipliers s (row_of t j) (length p.spans) 0 p.rows) ms e in
     let b = was_some (λ vs. filled p cuts t a.0 vs) (row_multipliers s (row_of t j) (length p.spans + length p.rows) (first_cut p) (cut_rows cuts)) ms a.2 in
-    filled_between p cuts t a.0 b.0 ms (are_plain p cuts s (row_of t j) a.0 b.0 a.1 b.1) b.2
+    filled_between p cuts t a.0 b.0 ms (are_plain p cuts s (row_of t j) n (n + length p.rows) a.0 b.0 a.1 b.1) b.2

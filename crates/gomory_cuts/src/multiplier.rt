@@ -81,20 +81,20 @@ pub(crate) fn push_multiplier(
     Ok(())
 }
 
-/// The multipliers of the problem's rows from a row of the tableau; none exactly where one is cramped. The one error is want of memory.
+/// The multipliers of the problem's rows from what stands behind the columns in a row of the tableau; none exactly where one is cramped. The one error
+/// is want of memory.
 pub(crate) fn of_rows(
     alloc: Global,
     problem: &Problem,
     sign: Sign,
-    row: &[Frac],
+    rest: &[Frac],
 ) -> Result<Option<Terms>, AllocError>
-    ensures { IfOk result (λ o. o ≡ row_multipliers sign row.now (length problem.now.spans) 0 problem.now.rows) }
+    ensures { IfOk result (λ o. o ≡ row_multipliers sign rest.now 0 0 problem.now.rows) }
 {
     problem.limits_hold();
-    let first = problem.columns();
     let mut multipliers = Terms::with_capacity(alloc, problem.rows())?;
     for index in 0..problem.rows() {
-        match multiplier(sign, problem.row(index).sense, entry(row, first + index)) {
+        match multiplier(sign, problem.row(index).sense, entry(rest, index)) {
             Some(factor) => push_multiplier(&mut multipliers, index as u32, factor)?,
             None => return Ok(None),
         }
@@ -102,23 +102,24 @@ pub(crate) fn of_rows(
     Ok(Some(multipliers))
 }
 
-/// The multipliers of a book's cuts from a row of the tableau; none exactly where one is cramped. The one error is want of memory.
+/// The multipliers of a book's cuts from what stands behind the columns in a row of the tableau; none exactly where one is cramped. The one error is
+/// want of memory.
 pub(crate) fn of_cuts(
     alloc: Global,
     problem: &Problem,
     book: &Book,
     sign: Sign,
-    row: &[Frac],
+    rest: &[Frac],
 ) -> Result<Option<Terms>, AllocError>
     requires { length book.now.cuts < most_numbered_cuts }
-    ensures { IfOk result (λ o. o ≡ row_multipliers sign row.now (length problem.now.spans + length problem.now.rows) (first_cut problem.now) (map (λ (c : Cut). c.row) book.now.cuts)) }
+    ensures { IfOk result (λ o. o ≡ row_multipliers sign rest.now (length problem.now.rows) (first_cut problem.now) (map (λ (c : Cut). c.row) book.now.cuts)) }
 {
     problem.limits_hold();
-    let variable = problem.columns() + problem.rows();
-    let number = problem.rows() + 2 * problem.columns();
+    let variable = problem.rows();
+    let number = variable + 2 * problem.columns();
     let mut multipliers = Terms::with_capacity(alloc, book.len())?;
     for index in 0..book.len() {
-        match multiplier(sign, book.cut(index).sense, entry(row, variable + index)) {
+        match multiplier(sign, book.cut(index).sense, entry(rest, variable + index)) {
             Some(factor) => push_multiplier(&mut multipliers, (number + index) as u32, factor)?,
             None => return Ok(None),
         }

@@ -1,6 +1,6 @@
 //! The cuts that separate a point.
 
-ghost use Rattle.std.specs.Prelude.{◌≡◌, ◌<◌, ◌≤◌, ◌++◌, ◌∷◌, ◌&&◌, nat_eq, IfOk, OnOk, List, Option, length, take};
+ghost use Rattle.std.specs.Prelude.{◌≡◌, ◌<◌, ◌≤◌, ◌++◌, ◌∷◌, ◌&&◌, nat_eq, IfOk, OnOk, List, Option, length, drop, take};
 ghost use Rattle.std.specs.Ordering.{int_eq};
 ghost use Rattle.problem.specs.Linear.{Multipliers};
 ghost use Rattle.tableau.specs.Tableau.{row_of};
@@ -24,8 +24,8 @@ use tableau::BasisStatus;
 /// How many cuts are separated at most.
 const MOST_SEPARATED: usize = 4;
 
-/// The multipliers of the cut that a column's row, which is given, gives with a sign; none exactly where a step is cramped, or the point violates no
-/// such cut. The one error is want of memory.
+/// The multipliers of the cut that a column's row gives with a sign; none exactly where a step is cramped, or the point violates no such cut. Of the row,
+/// what stands behind the columns is given. The one error is want of memory.
 fn cut_at(
     alloc: Global,
     tableau: &FinalTableau,
@@ -33,18 +33,18 @@ fn cut_at(
     book: &Book,
     point: &PointSums,
     column: usize,
-    row: &[Frac],
+    rest: &[Frac],
     sign: Sign,
 ) -> Result<Option<Mult>, AllocError>
     requires few { length book.now.cuts < most_numbered_cuts }
     requires columns { length problem.now.spans ≤ length tableau.now.statuses }
-    requires row { row.now ≡ row_of tableau.now column }
+    requires rest { rest.now ≡ drop (length problem.now.spans) (row_of tableau.now column) }
     ensures { IfOk result (λ o. o ≡ cut_at problem.now book.now.cuts tableau.now point.now column sign) }
 {
-    let Some(of_rows) = of_rows(alloc, problem, sign, row)? else {
+    let Some(of_rows) = of_rows(alloc, problem, sign, rest)? else {
         return Ok(None);
     };
-    let Some(of_cuts) = of_cuts(alloc, problem, book, sign, row)? else {
+    let Some(of_cuts) = of_cuts(alloc, problem, book, sign, rest)? else {
         return Ok(None);
     };
     // Deep in a tree 99 of 100 candidates are refused.
@@ -116,13 +116,13 @@ fn add_cut(
     book: &Book,
     point: &PointSums,
     column: usize,
-    row: &[Frac],
+    rest: &[Frac],
     sign: Sign,
     found: &mut Vec<Mult>,
 ) -> Result<(), AllocError>
     requires few { length book.now.cuts < most_numbered_cuts }
     requires columns { length problem.now.spans ≤ length tableau.now.statuses }
-    requires row { row.now ≡ row_of tableau.now column }
+    requires rest { rest.now ≡ drop (length problem.now.spans) (row_of tableau.now column) }
     requires few_found { length found.old.items ≤ most_separated }
     ensures value { OnOk result ((rest : List (Option Multipliers)) → take most_separated (with_cuts found.new.items rest) ≡ take most_separated (with_cuts found.old.items (cut_at problem.now book.now.cuts tableau.now point.now column sign ∷ rest))) }
     ensures few_found { OnOk result (length found.new.items ≤ most_separated) }
@@ -130,7 +130,7 @@ fn add_cut(
     if found.len() == MOST_SEPARATED {
         return Ok(());
     }
-    if let Some(mult) = cut_at(alloc, tableau, problem, book, point, column, row, sign)? {
+    if let Some(mult) = cut_at(alloc, tableau, problem, book, point, column, rest, sign)? {
         if !is_found(&mult, found) {
             found.push(mult)?;
         }
@@ -146,12 +146,12 @@ fn add_cuts_of_row(
     book: &Book,
     point: &PointSums,
     column: usize,
-    row: &[Frac],
+    rest: &[Frac],
     found: &mut Vec<Mult>,
 ) -> Result<(), AllocError>
     requires few { length book.now.cuts < most_numbered_cuts }
     requires columns { length problem.now.spans ≤ length tableau.now.statuses }
-    requires row { row.now ≡ row_of tableau.now column }
+    requires rest { rest.now ≡ drop (length problem.now.spans) (row_of tableau.now column) }
     requires few_found { length found.old.items ≤ most_separated }
     ensures value { OnOk result ((rest : List (Option Multipliers)) → take most_separated (with_cuts found.new.items rest) ≡ take most_separated (with_cuts found.old.items (cut_at problem.now book.now.cuts tableau.now point.now column Plus ∷ cut_at problem.now book.now.cuts tableau.now point.now column Minus ∷ rest))) }
     ensures few_found { OnOk result (length found.new.items ≤ most_separated) }
@@ -163,7 +163,7 @@ fn add_cuts_of_row(
         book,
         point,
         column,
-        row,
+        rest,
         Sign::Plus,
         found,
     )?;
@@ -174,7 +174,7 @@ fn add_cuts_of_row(
         book,
         point,
         column,
-        row,
+        rest,
         Sign::Minus,
         found,
     )?;
@@ -205,8 +205,8 @@ fn add_cuts(
     if found.len() == MOST_SEPARATED || !is_fractional(tableau, point, column) {
         return Ok(());
     }
-    let row = tableau.coefficients(alloc, column)?;
-    add_cuts_of_row(alloc, tableau, problem, book, sums, column, &row, found)?;
+    let rest = tableau.coefficients_from(alloc, column, problem.columns())?;
+    add_cuts_of_row(alloc, tableau, problem, book, sums, column, &rest, found)?;
     Ok(())
 }
 

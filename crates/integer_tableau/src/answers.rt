@@ -232,33 +232,33 @@ impl IntegerTableau {
         )
     }
 
-    /// The coefficients of the variables from `first` on in the row of a variable. The one error is want of memory.
-    pub(crate) fn coefficients_of(
+    /// The coefficients of the variables from `first` on in the row of a basic variable; none for another one. The one error is want of memory.
+    pub fn coefficients_from(
         &self,
         alloc: Global,
-        row: usize,
+        variable: usize,
         first: usize,
     ) -> Result<Vec<Frac>, AllocError>
-        requires row_there { row < length self.now.statuses }
+        requires variable_there { variable < length self.now.statuses }
         requires first_there { first ≤ length self.now.statuses }
-        ensures { IfOk result (λ v. v.items ≡ drop first (row_of self.now row)) }
+        ensures { IfOk result (λ v. v.items ≡ drop first (row_of self.now variable)) }
     {
-        let Position::InBasis = self.positions[row] else {
+        let Position::InBasis = self.positions[variable] else {
             return Ok(Vec::new(alloc));
         };
         let columns = self.rows.len();
-        if row < columns {
+        if variable < columns {
             coefficients(
                 alloc,
                 &self.positions[first..],
-                self.rows[row].numerators(),
+                self.rows[variable].numerators(),
                 self.denominator,
             )
         } else {
             combined_coefficients(
                 alloc,
                 first,
-                self.fixed.row(row - columns),
+                self.fixed.row(variable - columns),
                 &self.positions,
                 &self.rows,
                 self.denominator,
@@ -274,7 +274,7 @@ impl IntegerTableau {
     {
         let direction = self.direction_of(row);
         let columns = self.rows.len();
-        let mut multipliers = self.coefficients_of(alloc, row, columns)?;
+        let mut multipliers = self.coefficients_from(alloc, row, columns)?;
         let place = if row < columns {
             self.positions.len()
         } else {

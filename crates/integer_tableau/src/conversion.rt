@@ -50,9 +50,11 @@ fn whole_numbers(alloc: Global, numbers: &[i64]) -> Result<Vec<Frac>, AllocError
 }
 
 impl IntegerTableau {
-    /// There are no more columns than variables, and no row has more coefficients. This computes nothing: its contract is for callers' proofs.
+    /// There are no more columns than variables, and no row has more coefficients; a number of 64 bits counts them. This computes nothing: its
+    /// contract is for callers' proofs.
     pub fn sizes_hold(&self)
         ensures columns { self.now.columns ≤ length self.now.statuses }
+        ensures few { length self.now.statuses < 2 ^ 64 }
         ensures rows { (i : ℕ) → i < length self.now.statuses → length (row_of self.now i) ≤ length self.now.statuses }
     {
         let _pivots = self.pivots;
@@ -122,7 +124,7 @@ impl IntegerTableau {
     {
         let mut rows = TableauRows::new(alloc);
         for variable in 0..self.positions.len() {
-            let row = self.coefficients(alloc, variable)?;
+            let row = self.coefficients_from(alloc, variable, 0)?;
             rows.push(alloc, &row)?;
         }
         Ok(rows)

@@ -1,13 +1,11 @@
 // What a tableau says of one variable.
 
-ghost use Rattle.std.specs.Prelude.{◌≡◌, ◌<◌, length, IfOk};
-ghost use Rattle.tableau.specs.Tableau.{status_of, row_of};
+ghost use Rattle.std.specs.Prelude.{◌≡◌, ◌<◌, length};
+ghost use Rattle.tableau.specs.Tableau.{status_of};
 ghost use Rattle.integer_tableau.specs.IntegerTableau.{status};
 
 use crate::integer_tableau::IntegerTableau;
 use crate::position::Position;
-use fraction::Frac;
-use std::alloc::{AllocError, Global};
 use tableau::BasisStatus;
 
 /// Whether a variable at this position is basic, or else at which of its bounds it is.
@@ -33,13 +31,5 @@ impl IntegerTableau {
         ensures { result ≡ status_of self.now variable }
     {
         status(self.positions[variable], self.at_upper[variable])
-    }
-
-    /// The coefficients of all variables in the row of a basic variable; none for another one. The one error is want of memory.
-    pub fn coefficients(&self, alloc: Global, variable: usize) -> Result<Vec<Frac>, AllocError>
-        requires { variable < length self.now.statuses }
-        ensures { IfOk result (λ v. v.items ≡ row_of self.now variable) }
-    {
-        self.coefficients_of(alloc, variable, 0)
     }
 }

@@ -14,7 +14,7 @@ use Rattle.scaled_program.proofs.Places.{place_unscaled, row_unscaled}
 use Rattle.scaled_program.proofs.Pivots.{pivoted_columns}
 use Rattle.scaled_program.proofs.Runs.{asked_pivot}
 use Rattle.scaled_program.proofs.AnswersRead.{costs_multipliers, point_unscaled, row_multipliers_unscaled}
-use Rattle.scaled_program.proofs.NumbersRead.{rows_alone, small_drop, small_multipliers}
+use Rattle.scaled_program.proofs.NumbersRead.{drop_unscaled, rows_alone, small_drop, small_multipliers}
 use Rattle.tableau.specs.Multipliers.{direction_of, mult_of_cost, mult_of_row, numbered, point_of, row_multipliers}
 use Rattle.tableau.specs.Pivot.{pivoted}
 use Rattle.tableau.specs.Place.{place}
@@ -100,6 +100,8 @@ module _ (greatest : ℕ) (scales : List ℕ) (costs : ℕ) (h : AreScalesTo gre
       ∙ sym (row_multipliers_unscaled (scale_at t.columns scales) costs t r (scale_is greatest scales costs h t.columns r).0)
       ∙ ap (λ w. mult_of_row w r) view
 
-  pub coefficients_from_code : (i unit : ℕ) (xs : List ℚ) → unit ≡ scale_at t.columns scales i → xs ≡ unscaled_row (scale_at t.columns scales) unit 0 (row_of t i) → xs ≡ row_of v i
-  coefficients_from_code i unit xs u e =
-      e ∙ ap (λ k. unscaled_row (scale_at t.columns scales) k 0 (row_of t i)) u ∙ sym (row_unscaled (scale_at t.columns scales) t.rows i) ∙ ap (λ w. row_of w i) view
+  pub coefficients_from_code : (i first unit : ℕ) (xs : List ℚ) → unit ≡ scale_at t.columns scales i → xs ≡ unscaled_row (scale_at t.columns scales) unit first (drop first (row_of t i)) → xs ≡ drop first (row_of v i)
+  coefficients_from_code i first unit xs u e =
+      e
+      ∙ sym (drop_unscaled (scale_at t.columns scales) unit first (row_of t i))
+      ∙ ap (drop first) (ap (λ k. unscaled_row (scale_at t.columns scales) k 0 (row_of t i)) u ∙ sym (row_unscaled (scale_at t.columns scales) t.rows i) ∙ ap (λ w. row_of w i) view)

@@ -33,16 +33,29 @@ module _ (d k : ℕ) (x : ℚ) (o : 0 < d) (l : d * k < size_limit) (h : IsOver 
       omega (arith, l, mul-le-mul n lb)
 
 -- ---- a list, from its front
+pub one_more_from : {A B : Type 0} (f : ℕ → A → B) (first : ℕ) (all : List B) (xs : List A) (i : ℕ) (y : B) (d : A) → i < length xs → all ≡ map_from f first (take i xs)
+    → y ≡ f (first + i) (get_or xs i d) → all ++ (y ∷ []) ≡ map_from f first (take (i + 1) xs)
+one_more_from f first all xs i y d l h e =
+    (λ t. h t ++ (e t ∷ []))
+    ∙ ap (λ k. map_from f first (take i xs) ++ (f k (get_or xs i d) ∷ [])) many
+    ∙ sym (append-map_from f first (take i xs) (get_or xs i d ∷ []))
+    ∙ ap (map_from f first) (sym (take_more xs i d l))
+  where
+    many : first + i ≡ first + length (take i xs)
+    many = omega (arith, l, length-take i xs)
+
 pub one_more : {A B : Type 0} (f : ℕ → A → B) (all : List B) (xs : List A) (i : ℕ) (y : B) (d : A) → i < length xs → all ≡ map_from f 0 (take i xs) → y ≡ f i (get_or xs i d)
     → all ++ (y ∷ []) ≡ map_from f 0 (take (i + 1) xs)
-one_more f all xs i y d l h e =
-    (λ t. h t ++ (e t ∷ []))
-    ∙ ap (λ k. map_from f 0 (take i xs) ++ (f k (get_or xs i d) ∷ [])) many
-    ∙ sym (append-map_from f 0 (take i xs) (get_or xs i d ∷ []))
-    ∙ ap (map_from f 0) (sym (take_more xs i d l))
-  where
-    many : i ≡ 0 + length (take i xs)
-    many = omega (arith, l, length-take i xs)
+one_more f all xs i y d l h e = one_more_from f 0 all xs i y d l h (e ∙ ap (λ k. f k (get_or xs i d)) (let z : i ≡ 0 + i = omega arith in z))
+
+-- what is read of the numbers behind the first ones
+drop_mapped : {A B : Type 0} (f : ℕ → A → B) (i n : ℕ) (xs : List A) → drop n (map_from f i xs) ≡ map_from f (i + n) (drop n xs)
+drop_mapped f i zero xs = ap (λ k. map_from f k xs) (let z : i ≡ i + 0 = omega arith in z)
+drop_mapped f i (suc n) [] = refl
+drop_mapped f i (suc n) (x ∷ xs) = drop_mapped f (i + 1) n xs ∙ ap (λ k. map_from f k (drop n xs)) (let z : i + 1 + n ≡ i + suc n = omega arith in z)
+
+pub drop_unscaled : (σ : ℕ → ℕ) (unit first : ℕ) (row : List ℚ) → drop first (unscaled_row σ unit 0 row) ≡ unscaled_row σ unit first (drop first row)
+drop_unscaled σ unit first row = drop_mapped (λ j x. scaled_by (σ j) unit x) 0 first row ∙ ap (λ k. unscaled_row σ unit k (drop first row)) (let z : 0 + first ≡ first = omega arith in z)
 
 -- ---- the rows' variables alone
 scale_same : (n : ℕ) (scales : List ℕ) (j : ℕ) → scale_at 0 scales j ≡ scale_at n scales (n + j)

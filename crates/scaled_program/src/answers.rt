@@ -23,7 +23,7 @@ impl ScaledTableau {
         ensures { IfOk result (λ m. m ≡ mult_of_cost self.now) }
     {
         let scaled = self.tableau.cost_multipliers(alloc)?;
-        let multipliers = unscaled_row(alloc, &scaled, 0, &self.scales, self.scales.costs)?;
+        let multipliers = unscaled_row(alloc, &scaled, 0, 0, &self.scales, self.scales.costs)?;
         named_multipliers(alloc, self.tableau.numbers(), 0, &multipliers)
     }
 
@@ -35,7 +35,7 @@ impl ScaledTableau {
     {
         let unit = self.scales.of(row, self.tableau.columns());
         let scaled = self.tableau.row_multipliers(alloc, row)?;
-        let multipliers = unscaled_row(alloc, &scaled, 0, &self.scales, unit)?;
+        let multipliers = unscaled_row(alloc, &scaled, 0, 0, &self.scales, unit)?;
         named_multipliers(alloc, self.tableau.numbers(), 0, &multipliers)
     }
 }

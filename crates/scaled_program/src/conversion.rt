@@ -120,7 +120,7 @@ impl ScaledTableau {
         self.tableau.sizes_hold();
         let mut rows = TableauRows::new(alloc);
         for variable in 0..variables {
-            let row = self.coefficients(alloc, variable)?;
+            let row = self.coefficients_from(alloc, variable, 0)?;
             rows.push(alloc, &row)?;
         }
         Ok(rows)
@@ -132,7 +132,7 @@ impl ScaledTableau {
     {
         let columns = self.tableau.columns();
         let scaled = self.tableau.all_reduced_costs(alloc)?;
-        unscaled_row(alloc, &scaled, columns, &self.scales, self.scales.costs)
+        unscaled_row(alloc, &scaled, 0, columns, &self.scales, self.scales.costs)
     }
 
     /// The same tableau over fractions, from which the run goes on where that on scaled numbers is given up. None where a number is too large for

@@ -1,6 +1,6 @@
 // What a tableau says of one variable.
 
-ghost use Rattle.std.specs.Prelude.{◌≡◌, ◌<◌, length, IfOk};
+ghost use Rattle.std.specs.Prelude.{◌≡◌, ◌<◌, ◌≤◌, length, drop, IfOk};
 ghost use Rattle.tableau.specs.Tableau.{status_of, row_of};
 
 use crate::scaled_tableau::ScaledTableau;
@@ -18,14 +18,21 @@ impl ScaledTableau {
         self.tableau.status(variable)
     }
 
-    /// The coefficients of all variables in the row of a basic variable; none for another one. The one error is want of memory.
-    pub fn coefficients(&self, alloc: Global, variable: usize) -> Result<Vec<Frac>, AllocError>
-        requires { variable < length self.now.statuses }
-        ensures { IfOk result (λ v. v.items ≡ row_of self.now variable) }
+    /// The coefficients of the variables from `first` on in the row of a basic variable; none for another one. The one error is want of memory.
+    pub fn coefficients_from(
+        &self,
+        alloc: Global,
+        variable: usize,
+        first: usize,
+    ) -> Result<Vec<Frac>, AllocError>
+        requires variable_there { variable < length self.now.statuses }
+        requires first_there { first ≤ length self.now.statuses }
+        ensures { IfOk result (λ v. v.items ≡ drop first (row_of self.now variable)) }
     {
+        self.tableau.sizes_hold();
         let columns = self.tableau.columns();
         let unit = self.scales.of(variable, columns);
-        let scaled = self.tableau.coefficients(alloc, variable)?;
-        unscaled_row(alloc, &scaled, columns, &self.scales, unit)
+        let scaled = self.tableau.coefficients_from(alloc, variable, first)?;
+        unscaled_row(alloc, &scaled, first, columns, &self.scales, unit)
     }
 }

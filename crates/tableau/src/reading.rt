@@ -1,6 +1,6 @@
 // What a tableau says of one variable.
 
-ghost use Rattle.std.specs.Prelude.{◌≡◌, ◌<◌, length, IfOk};
+ghost use Rattle.std.specs.Prelude.{◌≡◌, ◌<◌, length, drop, IfOk};
 ghost use Rattle.tableau.specs.Tableau.{status_of, row_of};
 
 use crate::status::BasisStatus;
@@ -17,11 +17,16 @@ impl Tableau {
         self.statuses[variable]
     }
 
-    /// The coefficients of all variables in the row of a basic variable; none for another one. The one error is want of memory.
-    pub fn coefficients(&self, alloc: Global, variable: usize) -> Result<Vec<Frac>, AllocError>
+    /// The coefficients of the variables from `first` on in the row of a basic variable; none for another one. The one error is want of memory.
+    pub fn coefficients_from(
+        &self,
+        alloc: Global,
+        variable: usize,
+        first: usize,
+    ) -> Result<Vec<Frac>, AllocError>
         requires { variable < length self.now.statuses }
-        ensures { IfOk result (λ v. v.items ≡ row_of self.now variable) }
+        ensures { IfOk result (λ v. v.items ≡ drop first (row_of self.now variable)) }
     {
-        self.rows[variable].dense(alloc)
+        self.rows[variable].dense_from(alloc, first)
     }
 }

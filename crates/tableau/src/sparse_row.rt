@@ -173,9 +173,16 @@ impl SparseRow {
     pub(crate) fn dense(&self, alloc: Global) -> Result<Vec<Frac>, AllocError>
         ensures { IfOk result (λ v. v.items ≡ self.now) }
     {
+        self.dense_from(alloc, 0)
+    }
+
+    /// The coefficients of the variables from `first` on. The one error is want of memory.
+    pub(crate) fn dense_from(&self, alloc: Global, first: usize) -> Result<Vec<Frac>, AllocError>
+        ensures { IfOk result (λ v. v.items ≡ drop first self.now) }
+    {
         let width = self.width();
-        let mut coefficients = Vec::with_capacity(alloc, width)?;
-        for variable in 0..width {
+        let mut coefficients = Vec::with_capacity(alloc, width.saturating_sub(first))?;
+        for variable in first..width {
             coefficients.push(self.coefficient(variable))?;
         }
         Ok(coefficients)

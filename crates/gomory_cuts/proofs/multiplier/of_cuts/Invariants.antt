@@ -6,5 +6,5 @@ use Rattle.gomory_cuts.proofs.multiplier.of_cuts.Given as goal
 
 abbrev pub invariant-loop-index : goal.invariant-loop-index
 invariant-loop-index l =
-    row_multipliers l.sign l.row l.variable l.number (map (λ (c : Cut). c.row) l.book.cuts)
-    ≡ option_map (λ us. l.multipliers ++ us) (row_multipliers l.sign l.row (l.variable + l.index) (l.number + l.index) (drop l.index (map (λ (c : Cut). c.row) l.book.cuts)))
+    row_multipliers l.sign l.rest l.variable l.number (map (λ (c : Cut). c.row) l.book.cuts)
+    ≡ option_map (λ us. l.multipliers ++ us) (row_multipliers l.sign l.rest (l.variable + l.index) (l.number + l.index) (drop l.index (map (λ (c : Cut). c.row) l.book.cuts)))

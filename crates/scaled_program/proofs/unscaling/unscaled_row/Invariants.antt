@@ -3,4 +3,4 @@ use Rattle.integer_tableau.specs.Scales.{scale_at, unscaled_row}
 use Rattle.scaled_program.proofs.unscaling.unscaled_row.Given as goal
 
 abbrev pub invariant-loop-i : goal.invariant-loop-i
-invariant-loop-i l = l.all.items ≡ unscaled_row (scale_at l.columns l.scales.rows.items.value.items) l.unit 0 (take l.i l.numbers)
+invariant-loop-i l = l.all.items ≡ unscaled_row (scale_at l.columns l.scales.rows.items.value.items) l.unit l.first (take l.i l.numbers)

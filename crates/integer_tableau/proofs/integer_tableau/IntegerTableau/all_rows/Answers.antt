@@ -3,8 +3,8 @@ use Rattle.integer_tableau.proofs.Answering.{row_short}
 use Rattle.integer_tableau.proofs.ToFractions.{one_more, no_more, statuses_many, rows_many}
 use Rattle.integer_tableau.proofs.integer_tableau.IntegerTableau.all_rows.Goals as goal
 
-pub coefficients-requires : goal.coefficients-requires
-coefficients-requires c = omega (arith, c.loop-variable-test.true, statuses_many _ _ _ _ _ _ c.args.self.now c.self.invariant.0 c.self.view_is refl, c.self.inside.positions.ok)
+pub coefficients_from-requires-clause-variable_there : goal.coefficients_from-requires-clause-variable_there
+coefficients_from-requires-clause-variable_there c = omega (arith, c.loop-variable-test.true, statuses_many _ _ _ _ _ _ c.args.self.now c.self.invariant.0 c.self.view_is refl, c.self.inside.positions.ok)
 
 pub push-requires : goal.push-requires
 push-requires c =

@@ -7,8 +7,8 @@ use Rattle.tableau.specs.Tableau.{row_of}
 use Rattle.integer_tableau.proofs.integer_tableau.IntegerTableau.row_multipliers.Goals as goal
 use Rattle.integer_tableau.proofs.integer_tableau.IntegerTableau.row_multipliers.Goals.{then-row-columns, else-row-columns}
 
-pub coefficients_of-requires-clause-first_there : goal.coefficients_of-requires-clause-first_there
-coefficients_of-requires-clause-first_there c =
+pub coefficients_from-requires-clause-first_there : goal.coefficients_from-requires-clause-first_there
+coefficients_from-requires-clause-first_there c =
     omega (arith, c.len-columns.ensures, c.self.inside.rows.ok, c.self.invariant.0.variables, statuses_as_many _ _ _ _ _ _ c.args.self.now c.self.invariant.0 c.self.view_is)
 
 pub returns : goal.returns

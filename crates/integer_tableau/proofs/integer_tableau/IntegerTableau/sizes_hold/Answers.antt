@@ -13,3 +13,8 @@ pub returns-clause-rows : goal.returns-clause-rows
 returns-clause-rows c = λ i l.
     let here = statuses_many _ _ _ _ _ _ c.args.self.now c.self.invariant.0 c.self.view_is refl in
     omega (arith, l, here, row_short _ _ _ _ _ _ c.args.self.now c.self.invariant.0 c.self.view_is refl i (omega (arith, l, here)))
+
+pub returns-clause-few : goal.returns-clause-few
+returns-clause-few c =
+    let here = statuses_many _ _ _ _ _ _ c.args.self.now c.self.invariant.0 c.self.view_is refl in
+    omega (arith, here, c.self.inside.positions.ok)
