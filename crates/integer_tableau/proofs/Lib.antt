@@ -18,6 +18,7 @@ mod KeptSizes
 mod SameBasis
 mod Turns
 mod Requests
+mod Refilled
 mod KeptViews
 mod KeptSums
 mod KeptRows

@@ -1,7 +1,8 @@
 // Basic solutions: what a tableau has beside its dictionary.
 
-ghost use Rattle.std.specs.Prelude.{◌≡◌, ◌<◌, ◌+◌, ℕ, ℤ, List, length, slice_index_or, IfOk, IfSome};
-ghost use Rattle.integer_tableau.specs.Exits.{IsOnceEach, are_free};
+ghost use Rattle.std.specs.Prelude.{◌≡◌, ◌<◌, ◌≤◌, ◌++◌, ℕ, ℤ, List, drop, length, map, slice_index_or, true, IfOk, IfSome};
+ghost use Rattle.integer_tableau.specs.Exits.{IsOnceEach};
+ghost use Rattle.integer_tableau.specs.IntegerProgram.{column_bounds};
 ghost use Rattle.integer_tableau.specs.Kept.{IsAt, IsKept, IsStartSolution, kept_at, view_of};
 ghost use Rattle.integer_tableau.specs.Positions.{AreNonbasic};
 ghost use Rattle.integer_tableau.specs.RowSums.{AreColumnsOf, AreColumnSums};
@@ -14,11 +15,14 @@ use crate::integer_tableau::{Fixed, IntegerTableau};
 use crate::pivot::is_near;
 use crate::position::Position;
 use crate::program_row::ProgramRow;
-use crate::start::{
-    empty_rows, has_room, reach_of, start_at_upper, start_numbers, start_positions,
+use crate::start::{empty_rows, has_room, reach_of};
+use crate::start_lists::{
+    put_at_upper, put_bounds, put_free, put_numbers, put_positions, put_zeros,
 };
 use crate::start_sums::StartSums;
+use problem_box::IntBox;
 use std::alloc::{AllocError, Global};
+use std::mem;
 use std::rc::RcSlice;
 
 /// A basic solution: a tableau but for its dictionary, which it shares with others.
@@ -50,17 +54,6 @@ struct TableauParts {
     rows: Vec<IntegerRow>,
     reduced_costs: IntegerRow,
     basic_columns: Vec<usize>,
-}
-
-/// Which variables aren't fixed at these bounds. The one error is want of memory.
-fn free_of(alloc: Global, bounds: &[IntegerBounds]) -> Result<Vec<bool>, AllocError>
-    ensures { IfOk result (λ v. v.items ≡ are_free bounds.now) }
-{
-    let mut free = Vec::with_capacity(alloc, bounds.len())?;
-    for own in bounds {
-        free.push(own.differ())?;
-    }
-    Ok(free)
 }
 
 impl Dictionaries {
@@ -133,43 +126,79 @@ impl Dictionaries {
 }
 
 impl BasicSolution {
-    /// The solution at the start, where each column is at the bound that its cost asks for, for so many rows. None where the numbers are too
-    /// large. The one error is want of memory.
-    pub(crate) fn start(
+    /// Lists without room, which no dictionary has.
+    pub(crate) fn empty(alloc: Global) -> BasicSolution {
+        BasicSolution {
+            bounds: Vec::new(alloc),
+            free: Vec::new(alloc),
+            reach: 0,
+            positions: Vec::new(alloc),
+            at_upper: Vec::new(alloc),
+            nonbasic_values: Vec::new(alloc),
+            values: Vec::new(alloc),
+            row_sums: Vec::new(alloc),
+            pivots: 0,
+        }
+    }
+
+    /// Makes it the solution at the start over its bounds, where each column is at the bound that its cost asks for. Whether the numbers are small enough; else
+    /// it is of no use. The one error is want of memory.
+    fn put_start(
+        &mut self,
         alloc: Global,
-        rows: usize,
         columns: &Option<CoefficientColumns>,
         start_sums: &mut StartSums,
         costs: &IntegerRow,
-        bounds: Vec<IntegerBounds>,
-    ) -> Result<Option<BasicSolution>, AllocError>
-        requires there { length bounds.items ≡ length costs.now + rows }
+    ) -> Result<bool, AllocError>
+        requires there { length costs.now ≤ length self.old.bounds.items }
         requires columns { (ps : List (List ℤ)) × IfSome columns.now (AreColumnsOf ps) }
-        ensures solution { IfOk result (λ o. IfSome o (λ n. IsStartSolution columns.now start_sums.old costs.now bounds.items n)) }
+        ensures solution { IfOk result (λ b. b ≡ true → IsStartSolution columns.now start_sums.old costs.now self.old.bounds.items self.new) }
         ensures sums { (ps : List (List ℤ)) → IfSome columns.now (AreColumnsOf ps) → AreColumnSums ps start_sums.old.values.items start_sums.old.sums.items → AreColumnSums ps start_sums.new.values.items start_sums.new.sums.items }
     {
         let width = costs.width();
-        let reach = reach_of(&bounds, width);
-        if !has_room(&bounds) || !is_near(reach, 1) {
+        let count = self.bounds.len();
+        self.reach = reach_of(&self.bounds, width);
+        if !has_room(&self.bounds) || !is_near(self.reach, 1) {
+            return Ok(false);
+        }
+        self.pivots = 0;
+        put_positions(&mut self.positions, width, count)?;
+        put_at_upper(&mut self.at_upper, costs.numerators(), count)?;
+        put_numbers(&mut self.nonbasic_values, costs.numerators(), &self.bounds)?;
+        put_zeros(&mut self.values, width)?;
+        put_free(&mut self.free, &self.bounds)?;
+        start_sums.put_row_sums(
+            alloc,
+            &mut self.row_sums,
+            columns,
+            width,
+            &self.nonbasic_values,
+        )?;
+        Ok(true)
+    }
+
+    /// The solution at the start over a box, where each column is at the bound that its cost asks for, in the spare lists; the bounds of rows stand behind
+    /// others. None where the numbers are too large. The one error is want of memory.
+    pub(crate) fn start(
+        alloc: Global,
+        columns: &Option<CoefficientColumns>,
+        start_sums: &mut StartSums,
+        costs: &IntegerRow,
+        area: &IntBox,
+        bounds: &[IntegerBounds],
+        spare: &mut BasicSolution,
+    ) -> Result<Option<BasicSolution>, AllocError>
+        requires area { length area.now ≡ length costs.now }
+        requires there { length costs.now ≤ length bounds.now }
+        requires columns { (ps : List (List ℤ)) × IfSome columns.now (AreColumnsOf ps) }
+        ensures solution { IfOk result (λ o. IfSome o (λ n. IsStartSolution columns.now start_sums.old costs.now (map column_bounds area.now ++ drop (length costs.now) bounds.now) n)) }
+        ensures sums { (ps : List (List ℤ)) → IfSome columns.now (AreColumnsOf ps) → AreColumnSums ps start_sums.old.values.items start_sums.old.sums.items → AreColumnSums ps start_sums.new.values.items start_sums.new.sums.items }
+    {
+        put_bounds(&mut spare.bounds, area, bounds)?;
+        if !spare.put_start(alloc, columns, start_sums, costs)? {
             return Ok(None);
         }
-        let positions = start_positions(alloc, width, rows)?;
-        let at_upper = start_at_upper(alloc, costs.numerators(), rows)?;
-        let nonbasic_values = start_numbers(alloc, costs.numerators(), &bounds, rows)?;
-        let values = Vec::from_elem(alloc, 0, width)?;
-        let row_sums = start_sums.row_sums(alloc, columns, width, &nonbasic_values)?;
-        let free = free_of(alloc, &bounds)?;
-        Ok(Some(BasicSolution {
-            bounds,
-            free,
-            reach,
-            positions,
-            at_upper,
-            nonbasic_values,
-            values,
-            row_sums,
-            pivots: 0,
-        }))
+        Ok(Some(mem::replace(spare, BasicSolution::empty(alloc))))
     }
 
     /// The tableau of the solution, which has a copy of its dictionary. The one error is want of memory.

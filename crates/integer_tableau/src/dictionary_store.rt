@@ -59,6 +59,8 @@ const MOST_SUSPENSION: u32 = 4096;
 #[derive(Drop)]
 pub(crate) struct DictionaryStore {
     pub(crate) kept: Dictionaries,
+    /// Room for a solution.
+    pub(crate) spare: BasicSolution,
     /// Room for the row of a variable that leaves.
     pub(crate) row: IntegerRow,
     /// Room for coefficients.
@@ -100,6 +102,7 @@ impl DictionaryStore {
     {
         DictionaryStore {
             kept: Dictionaries::new(alloc),
+            spare: BasicSolution::empty(alloc),
             row: IntegerRow::empty(alloc),
             coefficients: Vec::new(alloc),
             basic: Vec::new(alloc),

@@ -178,7 +178,7 @@ fn numbers_by_tableau(
     }
 }
 
-/// The same, without the tableau where it is done.
+/// The same, without the tableau where it is done; the solution is spare then.
 fn numbers_at_end(
     alloc: Global,
     numbers: &[u32],
@@ -188,6 +188,7 @@ fn numbers_at_end(
     place: Place,
     at: usize,
     solution: BasicSolution,
+    spare: &mut BasicSolution,
 ) -> Result<Result<FinalNumbers, u64>, AllocError>
     requires kept { AreKeptOf program_rows.now.items.value.items weight dictionaries.now }
     requires ended { (cap : ℕ) × (e : RunEnd) × IsKeptEnd numbers.now program_rows.now.items.value.items weight dictionaries.now cap e place at solution }
@@ -195,15 +196,19 @@ fn numbers_at_end(
     ensures given_up { IfOk result (λ r. IfErr r (λ made. made ≡ solution.pivots)) }
 {
     match place {
-        Place::Done => Ok(Ok(numbers_where_done(
-            alloc,
-            numbers,
-            program_rows,
-            weight,
-            dictionaries,
-            at,
-            &solution,
-        )?)),
+        Place::Done => {
+            let done = numbers_where_done(
+                alloc,
+                numbers,
+                program_rows,
+                weight,
+                dictionaries,
+                at,
+                &solution,
+            )?;
+            *spare = solution;
+            Ok(Ok(done))
+        }
         _ => numbers_by_tableau(
             alloc,
             numbers,
@@ -218,7 +223,7 @@ fn numbers_at_end(
 }
 
 impl StoredEnd {
-    /// What is asked of the tableau there. The error inside says that the run is given up, and how many pivots were made before. The one error outside
+    /// What is asked of the tableau there. The solution, of which no tableau is made, is spare then. The error inside says that the run is given up, and how many pivots were made before. The one error outside
     /// is want of memory.
     pub(crate) fn final_numbers(
         self,
@@ -227,6 +232,7 @@ impl StoredEnd {
         program_rows: &RcSlice<ProgramRow>,
         weight: u64,
         dictionaries: &Dictionaries,
+        spare: &mut BasicSolution,
     ) -> Result<Result<FinalNumbers, u64>, AllocError>
         requires kept { AreKeptOf program_rows.now.items.value.items weight dictionaries.now }
         requires ended { (cap : ℕ) × (e : RunEnd) × IsStoredEnd numbers.now program_rows.now.items.value.items weight dictionaries.now cap e self }
@@ -247,6 +253,7 @@ impl StoredEnd {
                 place,
                 at,
                 solution,
+                spare,
             ),
             StoredEnd::Alone(end) => Ok(Ok(end.tableau.final_numbers(alloc, end.place)?)),
         }

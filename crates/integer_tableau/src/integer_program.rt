@@ -246,7 +246,7 @@ pub(crate) fn small_weight(costs: &IntegerRow, rows: &[ProgramRow]) -> Option<u6
 }
 
 /// The bounds of a column.
-fn column_bounds(span: Span) -> IntegerBounds
+pub(crate) fn column_bounds(span: Span) -> IntegerBounds
     ensures { result ≡ column_bounds span }
 {
     IntegerBounds {

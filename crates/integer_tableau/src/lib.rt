@@ -46,6 +46,7 @@ mod run;
 mod same_basis;
 mod scaling;
 mod start;
+mod start_lists;
 mod start_sums;
 mod stored_run;
 mod substitution;

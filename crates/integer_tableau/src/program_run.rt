@@ -15,7 +15,7 @@ use crate::coefficient_columns::CoefficientColumns;
 use crate::dictionary_store::DictionaryStore;
 use crate::final_numbers::FinalNumbers;
 use crate::integer_bounds::IntegerBounds;
-use crate::integer_program::{IntegerProgram, bounds_over};
+use crate::integer_program::IntegerProgram;
 use crate::integer_row::IntegerRow;
 use crate::integer_tableau::IntegerTableau;
 use crate::program_row::ProgramRow;
@@ -53,14 +53,14 @@ fn run_by_store(
     ensures sums { AreColumnSums program_rows.now.items.value.items start_sums.new.values.items start_sums.new.sums.items }
     ensures kept { AreKept program_rows.now.items.value.items weight costs.now store.new.kept }
 {
-    let bounds = bounds_over(alloc, area, costs.width(), bounds)?;
     let Some(solution) = BasicSolution::start(
         alloc,
-        program_rows.len(),
         columns,
         start_sums,
         costs,
+        area,
         bounds,
+        &mut store.spare,
     )?
     else {
         return Ok(None);
@@ -213,6 +213,7 @@ impl IntegerProgram {
             &self.rows,
             self.weight,
             &self.store.kept,
+            &mut self.store.spare,
         )?;
         Ok(Some(numbers))
     }

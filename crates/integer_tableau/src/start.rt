@@ -85,7 +85,7 @@ pub(crate) fn start_at_upper(
 }
 
 /// The value of a column of this cost.
-fn start_number(cost: i64, bounds: &IntegerBounds) -> i64
+pub(crate) fn start_number(cost: i64, bounds: &IntegerBounds) -> i64
     ensures { result ≡ start_number cost bounds.now }
 {
     if cost < 0 {

@@ -1,6 +1,6 @@
 // The sums of rows at the start of a run, which are kept for the next one: its box differs in a few columns only.
 
-ghost use Rattle.std.specs.Prelude.{◌≡◌, ◌≢◌, ◌<◌, ◌≤◌, ℕ, ℤ, List, length, slice_index_or, IfOk, IfSome, OnOk};
+ghost use Rattle.std.specs.Prelude.{◌≡◌, ◌≢◌, ◌<◌, ◌≤◌, ℕ, ℤ, List, length, slice_index_or, IfSome, OnOk};
 ghost use Rattle.integer_tableau.specs.Numbers.{number_at};
 ghost use Rattle.integer_tableau.specs.RowSums.{AreColumnsOf, AreColumnSums, AreRowSums};
 
@@ -82,25 +82,27 @@ impl StartSums {
         Ok(())
     }
 
-    /// The sums of rows where no column is basic and the columns have these values; none without the columns, or where they aren't so many. The one
-    /// error is want of memory.
-    pub(crate) fn row_sums(
+    /// Makes a list that of the sums of rows where no column is basic and the columns have these values; it is empty without the columns, or where they
+    /// aren't so many. The one error is want of memory.
+    pub(crate) fn put_row_sums(
         &mut self,
         alloc: Global,
+        row_sums: &mut Vec<i64>,
         columns: &Option<CoefficientColumns>,
         width: usize,
         nonbasic_values: &[i64],
-    ) -> Result<Vec<i64>, AllocError>
+    ) -> Result<(), AllocError>
         requires columns { (ps : List (List ℤ)) × IfSome columns.now (AreColumnsOf ps) }
         requires values_there { width ≤ length nonbasic_values.now }
-        ensures value { IfOk result (λ v. (ps : List (List ℤ)) (positions : List Position) → IfSome columns.now (AreColumnsOf ps) → AreColumnSums ps self.old.values.items self.old.sums.items → width ≤ length positions → ((j : ℕ) → j < width → slice_index_or positions j Position.InBasis ≢ Position.InBasis) → AreRowSums ps positions nonbasic_values.now v.items) }
+        ensures value { OnOk result ((ps : List (List ℤ)) (positions : List Position) → IfSome columns.now (AreColumnsOf ps) → AreColumnSums ps self.old.values.items self.old.sums.items → width ≤ length positions → ((j : ℕ) → j < width → slice_index_or positions j Position.InBasis ≢ Position.InBasis) → AreRowSums ps positions nonbasic_values.now row_sums.new.items) }
         ensures sums { (ps : List (List ℤ)) → IfSome columns.now (AreColumnsOf ps) → AreColumnSums ps self.old.values.items self.old.sums.items → AreColumnSums ps self.new.values.items self.new.sums.items }
     {
+        row_sums.clear();
         if let Some(columns) = columns {
             if columns.width == width && self.take_values(alloc, columns, nonbasic_values).is_ok() {
-                return Vec::from_slice(alloc, &self.sums);
+                row_sums.extend_from_slice(&self.sums)?;
             }
         }
-        Ok(Vec::new(alloc))
+        Ok(())
     }
 }

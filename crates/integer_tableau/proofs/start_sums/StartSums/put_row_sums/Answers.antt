@@ -1,12 +1,11 @@
-use Rattle.std.proofs.Common.{◌∙◌, ◌≡◌, arith, subst, sym}
+use Rattle.std.proofs.Common.{◌≡◌, arith, subst, sym, rules}
 use Rattle.std.specs.Prelude.{IfSome}
-use Rattle.std.proofs.lemmas.Result.{IfOk-weaker}
 use Rattle.integer_tableau.specs.RowSums.{AreColumnsOf, AreRowSums}
 use Rattle.integer_tableau.proofs.StartSums.{holds_on_ok, sums_at_start}
-use Rattle.integer_tableau.proofs.start_sums.StartSums.row_sums.Goals as goal
+use Rattle.integer_tableau.proofs.start_sums.StartSums.put_row_sums.Goals as goal
 
-pub returns-then-is_ok-clause-value : goal.returns-then-is_ok-clause-value
-returns-then-is_ok-clause-value c =
+pub returns-in_ok-extend_from_slice-clause-value : goal.returns-in_ok-extend_from_slice-clause-value
+returns-in_ok-extend_from_slice-clause-value c = λ ps ss are hold there apart.
     let columns = c.in-Some.columns in
     let xs = c.args.nonbasic_values.now in
     let new = c.take_values.new.self in
@@ -15,8 +14,8 @@ returns-then-is_ok-clause-value c =
     let count = holds_on_ok r _ c.if-is_ok.ensures.value c.take_values.ensures.count in
     let rows = holds_on_ok r _ c.if-is_ok.ensures.value c.take_values.ensures.rows in
     let values = holds_on_ok r _ c.if-is_ok.ensures.value c.take_values.ensures.values in
-    IfOk-weaker c.from_slice.result (λ v. v.items ≡ c.deref.result.now) _ (λ v is ps ss are hold there apart.
     let own : AreColumnsOf ps columns = subst (λ o. IfSome o (AreColumnsOf ps)) c.in-Some.is are in
-    subst (AreRowSums ps ss xs) (sym (is ∙ c.deref.ensures.value))
+    let is : c.extend_from_slice.new.self.items ≡ new.sums.items = search rules in
+    subst (AreRowSums ps ss xs) (sym is)
     (sums_at_start ps columns ss new.values.items xs new.sums.items own count rows (omega (arith, wide, c.requires.values_there)) values (c.take_values.ensures.sums ps own hold)
-    (omega (arith, wide, there)) (λ j l. apart j (omega (arith, wide, l))))) c.from_slice.ensures.items
+    (omega (arith, wide, there)) (λ j l. apart j (omega (arith, wide, l))))
