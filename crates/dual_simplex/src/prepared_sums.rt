@@ -1,9 +1,11 @@
 //! Sums of many rows at one point.
 
-ghost use Rattle.std.specs.Prelude.{◌≡◌, IfOk, IfSome, Some, option_map};
+ghost use Rattle.std.specs.Prelude.{◌≡◌, IfOk, IfSome, Some, option_map, pos};
+ghost use Rattle.std.specs.Ordering.{int_eq};
 ghost use Rattle.fraction.specs.Checked.{compare};
 ghost use Rattle.problem.specs.Rising.{AreRising};
 ghost use Rattle.dual_simplex.specs.PointSums.{checked_sum};
+ghost use Rattle.dual_simplex.specs.Relaxation.{rational_at};
 
 use crate::point_sums::checked_sum;
 use crate::scaled_point::ScaledPoint;
@@ -46,6 +48,14 @@ impl<'a> Model for PointSums<'a> {
     ghost invariant = { λ s. IfSome s.scaled (λ p. p ≡ s.point.now) };
 }
 
+/// Whether a number is 0.
+#[inline(always)]
+fn is_zero(number: Frac) -> bool
+    ensures { result ≡ int_eq number.num (pos 0) }
+{
+    number.numer() == 0
+}
+
 /// How a sum of fractions compares with a right side; none exactly where the sum is cramped.
 fn compare_fractions(point: &RationalPoint, terms: &[Term], rhs: Frac) -> Option<Ordering>
     requires { AreRising terms.now }
@@ -72,6 +82,17 @@ impl<'a> PointSums<'a> {
     {
         let scaled = ScaledPoint::make(alloc, point)?;
         Ok(PointSums { point, scaled })
+    }
+
+    /// Whether the number in a column is 0, as it is where there is no such column.
+    #[inline(always)]
+    pub fn is_zero_at(&self, column: usize) -> bool
+        ensures { result ≡ int_eq (rational_at self.now column).num (pos 0) }
+    {
+        if column >= self.point.len() {
+            return true;
+        }
+        is_zero(self.point.get(column))
     }
 
     /// How the sum of whole numbers compares with a right side, if whole numbers tell it.

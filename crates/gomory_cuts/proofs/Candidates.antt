@@ -1,16 +1,16 @@
 -- A candidate gives the row that the numbers of its rows and cuts tell, if it gives one.
-use Rattle.std.proofs.Common.{◌≡◌, ℕ, zero, suc, ◌+◌, ◌*◌, ◌<◌, ◌≤◌, arith, refl, ap, sym, ◌∙◌, subst, Bool, true, false, Option, Some, None, List, [], ◌∷◌, ◌++◌, length, map, drop}
-use Rattle.std.specs.Prelude.{ℤ, pos, if◌then◌else◌, eqb, slice_index_or, option_map}
-use Rattle.std.specs.Ordering.{int_eq}
+use Rattle.std.proofs.Common.{◌≡◌, ℕ, zero, suc, ◌+◌, ◌*◌, ◌<◌, arith, refl, ap, sym, ◌∙◌, subst, Bool, true, false, Option, Some, None, List, [], ◌∷◌, ◌++◌, length, map, drop}
+use Rattle.std.specs.Prelude.{pos, if◌then◌else◌, eqb, slice_index_or, option_map}
+use Rattle.std.specs.Ordering.{int_eq, is_lt}
 use Rattle.std.specs.Option.{option_and_then}
 use Rattle.std.proofs.lemmas.Int.{ints}
 use Rattle.std.proofs.lemmas.Bool.{eqb-true}
 use Rattle.std.proofs.lemmas.List.{get_or-drop}
 use Rattle.fraction.specs.Rational.{ℚ, whole, frac, floor, ceil, ◌+ℚ◌, ◌*ℚ◌, neg_ℚ}
-use Rattle.fraction.specs.Checked.{sub_checked}
+use Rattle.fraction.specs.Checked.{compare, sub_checked}
 use Rattle.fraction.specs.Lemmas.Rational.{ℚ_is, +ℚ_assoc, +ℚ_comm, zero-+ℚ, zero-*ℚ, one-*ℚ, neg-+ℚ, *ℚ_comm}
 use Rattle.fraction.specs.Lemmas.Ring.{+ℚ-zero, +ℚ_left_comm, *ℚ-zero}
-use Rattle.fraction.specs.Lemmas.Bounds.{was_some, was_mapped, value_from_add, whole_parts}
+use Rattle.fraction.specs.Lemmas.Bounds.{was_some, was_mapped, value_from_add}
 use Rattle.fraction.specs.Lemmas.Order.{zero_from_num}
 use Rattle.problem_box.specs.declared.span.Span.{Span}
 use Rattle.problem.specs.declared.row.Row.{Row}
@@ -23,22 +23,33 @@ use Rattle.derivation_book.specs.declared.cut.Cut.{Cut}
 use Rattle.derivation_book.specs.Known.{known_lines, first_cut}
 use Rattle.derivation_book.specs.Places.{no_span}
 use Rattle.derivation_book.specs.Sums.{with_product, sum_from, coefficient_at, side_at, combined_at, combined_columns, Sums, sums_of, combined}
-use Rattle.derivation_book.specs.Rounded.{cut_row, rounded_row}
+use Rattle.derivation_book.specs.Rounded.{cut_row, is_zero, nonzero_terms, rounded_row}
 use Rattle.derivation_book.specs.Lemmas.Combining.{columns_length}
 use Rattle.derivation_book.specs.Lemmas.Exact.{product_exact}
 use Rattle.derivation_book.specs.Lemmas.Numbering.{lower_place, upper_place}
 use Rattle.derivation_book.specs.Lemmas.Price.{has_sums}
 use Rattle.derivation_book.specs.Lemmas.Rounded.{made_from}
 use Rattle.tableau.specs.declared.status.BasisStatus.{BasisStatus}
-use Rattle.tableau.specs.declared.status.BasisStatus.TheVariants.{Basic, AtLower, AtUpper}
 use Rattle.tableau.specs.Elimination.{zero_ℚ}
 use Rattle.tableau.specs.Multipliers.{with_multiplier}
 use Rattle.tableau.specs.Tableau.{Tableau, row_of, status_of}
+use Rattle.dual_simplex.specs.Relaxation.{rational_at, rational_value}
+use Rattle.dual_simplex.specs.PointSums.{checked_sum}
+use Rattle.dual_simplex.specs.Lemmas.RationalValues.{sum_exact}
 use Rattle.gomory_cuts.specs.declared.sign.Sign.{Sign}
 use Rattle.gomory_cuts.specs.Multipliers.{multiplier, row_multipliers, is_at_upper, filling, bound_number, fillings, filled}
-use Rattle.gomory_cuts.specs.Separation.{is_violated, if_violated, cut_at}
+use Rattle.gomory_cuts.specs.Separation.{is_below, is_violated, if_violated, cut_at}
 use Rattle.gomory_cuts.proofs.Rounding.{floor_of_whole, ceil_of_whole}
-use Rattle.gomory_cuts.specs.Candidate.{whole_to, bound_at, whole_columns, side_with, filled_side, candidate}
+use Rattle.gomory_cuts.specs.Candidate.{whole_to, bound_at, counted, counted_columns, side_with, filled_side, counted_candidate}
+
+-- ---- the row of sums that are filled
+-- the whole numbers that fillings make of the coefficients of the columns from j on
+abbrev pub whole_columns : Tableau → ℕ → List ℚ → List ℚ
+whole_columns t j [] = []
+whole_columns t j (c ∷ cs) = whole (whole_to (status_of t j) c) ∷ whole_columns t (j + 1) cs
+
+abbrev pub candidate : Tableau → List Span → Sums → Row
+candidate t ss q = cut_row (sums_of (whole_columns t 0 q.coefficients) (filled_side t 0 q.coefficients ss q.side))
 
 -- ---- exact sums
 -- the sum of each multiplier times a number of its line
@@ -231,15 +242,57 @@ row_is p cuts t us vs mult q r e f g =
     ∙ sym (side_filled t bound 0 q.coefficients p.spans q.side long (λ k l. ap (λ j. whole (bound_at (status_of t (0 + k)) (slice_index_or p.spans j no_span))) (let z : 0 + k ≡ k = omega arith in z))) in
     sym made.row ∙ (λ i. cut_row (sums_of (columns i) (side i)))
 
--- where the point satisfies that row, it is no cut
+-- ---- what counts at the point
+value_with : (x : List ℚ) (j : ℕ) (a : ℚ) (cs : List ℚ) → rational_value (nonzero_terms j (a ∷ cs)) x ≡ a *ℚ rational_at x j +ℚ rational_value (nonzero_terms (j + 1) cs) x
+value_with x j a cs = at (int_eq a.num (pos 0)) refl
+  where
+    at : (z : Bool) → int_eq a.num (pos 0) ≡ z
+        → rational_value (if z then nonzero_terms (j + 1) cs else (j, a) ∷ nonzero_terms (j + 1) cs) x ≡ a *ℚ rational_at x j +ℚ rational_value (nonzero_terms (j + 1) cs) x
+    at true e =
+        sym (ap (λ y. y *ℚ rational_at x j +ℚ rational_value (nonzero_terms (j + 1) cs) x) (zero_from_num a (grind (arith, ints)))
+        ∙ ap (λ y. y +ℚ rational_value (nonzero_terms (j + 1) cs) x) (zero-*ℚ (rational_at x j)) ∙ zero-+ℚ _)
+    at false e = refl
+
+counted_product : (y : ℚ) (b : BasisStatus) (c : ℚ) → counted (is_zero y) b c *ℚ y ≡ whole (whole_to b c) *ℚ y
+counted_product y b c = at (int_eq y.num (pos 0)) refl
+  where
+    at : (z : Bool) → int_eq y.num (pos 0) ≡ z → counted z b c *ℚ y ≡ whole (whole_to b c) *ℚ y
+    at true e = zero-*ℚ y ∙ sym (ap (λ u. whole (whole_to b c) *ℚ u) (zero_from_num y (grind (arith, ints))) ∙ *ℚ-zero (whole (whole_to b c)))
+    at false e = refl
+
+-- the sum at the point is that of all terms
+counted_value : (x : List ℚ) (t : Tableau) (j : ℕ) (cs : List ℚ) → rational_value (nonzero_terms j (counted_columns x t j cs)) x ≡ rational_value (nonzero_terms j (whole_columns t j cs)) x
+counted_value x t j [] = refl
+counted_value x t j (c ∷ cs) =
+    value_with x j (counted (is_zero (rational_at x j)) (status_of t j) c) (counted_columns x t (j + 1) cs)
+    ∙ (λ i. counted_product (rational_at x j) (status_of t j) c i +ℚ counted_value x t (j + 1) cs i)
+    ∙ sym (value_with x j (whole (whole_to (status_of t j) c)) (whole_columns t (j + 1) cs))
+
+-- a sum of terms that isn't below a number isn't found to be below it
+not_below_value : (x : List ℚ) (ts : List (ℕ × ℚ)) (b v : ℚ) → rational_value ts x ≡ v → is_lt (compare v b) ≡ false → is_below (checked_sum ts x) b ≡ false
+not_below_value x ts b v e h = at (checked_sum ts x) refl
+  where
+    at : (o : Option ℚ) → checked_sum ts x ≡ o → is_below o b ≡ false
+    at None f = refl
+    at (Some w) f = ap (λ u. is_lt (compare u b)) (sum_exact ts x w f ∙ e) ∙ h
+
+-- what counts of a row at a point isn't below its right side
+abbrev pub IsSatisfied : List ℚ → Row → Type 0
+IsSatisfied x r = is_lt (compare (rational_value r.terms x) r.rhs) ≡ false
+
+-- where that row is satisfied, the candidate is no cut
 pub refused : (p : Problem) (cuts : List Cut) (t : Tableau) (x : List ℚ) (us vs : List (ℕ × ℚ)) (q : Sums) → combined (known_lines p cuts) (us ++ vs) (length p.spans) ≡ Some q
-    → is_violated x (candidate t p.spans q) ≡ false → option_and_then (if_violated p cuts x) (filled p cuts t us vs) ≡ None
+    → IsSatisfied x (counted_candidate x t p.spans q) → option_and_then (if_violated p cuts x) (filled p cuts t us vs) ≡ None
 refused p cuts t x us vs q e h = at (filled p cuts t us vs) refl
   where
+    satisfied : is_violated x (candidate t p.spans q) ≡ false
+    satisfied =
+        not_below_value x (candidate t p.spans q).terms (candidate t p.spans q).rhs (rational_value (counted_candidate x t p.spans q).terms x) (sym (counted_value x t 0 q.coefficients)) h
+
     at_row : (mult : List (ℕ × ℚ)) → filled p cuts t us vs ≡ Some mult → (o : Option Row) → rounded_row p cuts mult ≡ o
         → option_and_then (λ r. if is_violated x r then Some mult else None) o ≡ None
     at_row mult f None g = refl
-    at_row mult f (Some r) g = ap (λ b. if b then Some mult else None) (ap (is_violated x) (row_is p cuts t us vs mult q r e f g) ∙ h)
+    at_row mult f (Some r) g = ap (λ b. if b then Some mult else None) (ap (is_violated x) (row_is p cuts t us vs mult q r e f g) ∙ satisfied)
 
     at : (o : Option (List (ℕ × ℚ))) → filled p cuts t us vs ≡ o → option_and_then (if_violated p cuts x) o ≡ None
     at None f = refl

@@ -1,5 +1,5 @@
 -- One column more of a candidate's row.
-use Rattle.std.proofs.Common.{◌≡◌, ℕ, ◌+◌, ◌*◌, ◌<◌, ◌≤◌, arith, refl, ap, sym, ◌∙◌, Bool, true, false, List, [], ◌∷◌, ◌++◌, length, map, get_or, drop}
+use Rattle.std.proofs.Common.{◌≡◌, ℕ, ◌+◌, ◌<◌, ◌≤◌, arith, refl, ap, sym, ◌∙◌, Bool, true, false, List, [], ◌∷◌, ◌++◌, length, map, get_or, drop}
 use Rattle.std.specs.Prelude.{ℤ, pos, ◌+ℤ◌, ◌*ℤ◌, neg_ℤ, if◌then◌else◌, Option, Some, None, IfSome}
 use Rattle.std.specs.Ordering.{int_eq}
 use Rattle.std.proofs.lemmas.Int.{ints}
@@ -8,7 +8,7 @@ use Rattle.std.proofs.lemmas.List.{append_assoc, append-nil, drop_all, drop_more
 use Rattle.std.proofs.Math.Nat.{mul-one}
 use Rattle.fraction.specs.Rational.{ℚ, whole, frac, floor, ceil, ◌+ℚ◌, ◌*ℚ◌, neg_ℚ}
 use Rattle.fraction.specs.Lemmas.Rational.{lit_one, frac_same, frac-+ℚ_over_one, frac-*ℚ, neg_ℚ-frac, zero-*ℚ}
-use Rattle.fraction.specs.Lemmas.Ring.{+ℚ-zero}
+use Rattle.fraction.specs.Lemmas.Ring.{+ℚ-zero, *ℚ-zero}
 use Rattle.fraction.specs.Lemmas.Bounds.{whole_parts}
 use Rattle.problem_box.specs.declared.span.Span.{Span}
 use Rattle.problem.specs.declared.row.Sense.TheVariants.{G}
@@ -23,8 +23,9 @@ use Rattle.derivation_book.specs.Lemmas.Combining.{combined_length}
 use Rattle.derivation_book.specs.Lemmas.OneDenominator.{zero_over}
 use Rattle.tableau.specs.declared.status.BasisStatus.{BasisStatus}
 use Rattle.tableau.specs.Tableau.{Tableau, status_of}
+use Rattle.dual_simplex.specs.Relaxation.{rational_at}
 use Rattle.gomory_cuts.specs.Multipliers.{is_at_upper}
-use Rattle.gomory_cuts.specs.Candidate.{whole_to, bound_at, fractions, whole_columns, side_with, filled_side, candidate}
+use Rattle.gomory_cuts.specs.Candidate.{whole_to, bound_at, fractions, counted, counted_columns, side_with, filled_side, counted_candidate}
 use Rattle.gomory_cuts.proofs.Candidates.{taken_away}
 use Rattle.gomory_cuts.proofs.Rounding.{floor_of, ceil_of}
 
@@ -72,8 +73,13 @@ zero_to b d o = at (is_at_upper b)
     at true = floor_of (pos 0) (pos 0) d o (omega (arith, ints)) (omega (arith, ints))
     at false = ceil_of (pos 0) (pos 0) d o (omega (arith, ints)) (omega (arith, ints))
 
-pub zero_column : (all : List (ℕ × ℚ)) (j : ℕ) (b : BasisStatus) (z : ℤ) (d : ℕ) → 0 < d → z ≡ pos 0 → HasColumn all all j (whole (whole_to b (frac z d)))
-zero_column all j b z d o e = without_zero all j (whole_to b (frac z d)) (ap (λ y. whole_to b (frac y d)) e ∙ zero_to b d o)
+pub zero_column : (all : List (ℕ × ℚ)) (j : ℕ) (k : Bool) (b : BasisStatus) (z : ℤ) (d : ℕ) → 0 < d → z ≡ pos 0 → HasColumn all all j (counted k b (frac z d))
+zero_column all j true b z d o e = without_zero all j (pos 0) refl
+zero_column all j false b z d o e = without_zero all j (whole_to b (frac z d)) (ap (λ y. whole_to b (frac y d)) e ∙ zero_to b d o)
+
+-- ---- a column whose bound is 0
+pub no_bound : (b : BasisStatus) (c : ℚ) (s : Span) (v : ℚ) → bound_at b s ≡ pos 0 → v ≡ side_with b c s v
+no_bound b c s v e = sym (ap (λ y. v +ℚ (whole (whole_to b c) +ℚ neg_ℚ c) *ℚ whole y) e ∙ ap (λ y. v +ℚ y) (*ℚ-zero _) ∙ +ℚ-zero v)
 
 pub zero_side : (b : BasisStatus) (z : ℤ) (d : ℕ) (s : Span) (v : ℚ) → 0 < d → z ≡ pos 0 → v ≡ side_with b (frac z d) s v
 zero_side b z d s v o e =
@@ -88,9 +94,9 @@ module _ (t : Tableau) (d : ℕ) (j : ℕ) (zs : List ℤ) (z : ℤ) (there : j 
   next : fractions d (drop j zs) ≡ frac z d ∷ fractions d (drop (j + 1) zs)
   next = ap (fractions d) (drop_more zs j (pos 0) there ∙ ap (λ y. y ∷ drop (j + 1) zs) (sym is))
 
-  pub next_terms : (all more : List (ℕ × ℚ)) → HasColumn all more j (whole (whole_to (status_of t j) (frac z d)))
-      → more ++ nonzero_terms (j + 1) (whole_columns t (j + 1) (fractions d (drop (j + 1) zs))) ≡ all ++ nonzero_terms j (whole_columns t j (fractions d (drop j zs)))
-  next_terms all more h = h (whole_columns t (j + 1) (fractions d (drop (j + 1) zs))) ∙ ap (λ cs. all ++ nonzero_terms j (whole_columns t j cs)) (sym next)
+  pub next_terms : (x : List ℚ) (all more : List (ℕ × ℚ)) → HasColumn all more j (counted (is_zero (rational_at x j)) (status_of t j) (frac z d))
+      → more ++ nonzero_terms (j + 1) (counted_columns x t (j + 1) (fractions d (drop (j + 1) zs))) ≡ all ++ nonzero_terms j (counted_columns x t j (fractions d (drop j zs)))
+  next_terms x all more h = h (counted_columns x t (j + 1) (fractions d (drop (j + 1) zs))) ∙ ap (λ cs. all ++ nonzero_terms j (counted_columns x t j cs)) (sym next)
 
   pub next_side : (ss : List Span) (s : Span) (v w : ℚ) → drop j ss ≡ s ∷ drop (j + 1) ss → w ≡ side_with (status_of t j) (frac z d) s v
       → filled_side t (j + 1) (fractions d (drop (j + 1) zs)) (drop (j + 1) ss) w ≡ filled_side t j (fractions d (drop j zs)) (drop j ss) v
@@ -98,8 +104,8 @@ module _ (t : Tableau) (d : ℕ) (j : ℕ) (zs : List ℤ) (z : ℤ) (there : j 
       ap (filled_side t (j + 1) (fractions d (drop (j + 1) zs)) (drop (j + 1) ss)) h ∙ sym (λ i. filled_side t j (next i) (e i) v)
 
 -- ---- behind the last one
-pub last_terms : (t : Tableau) (d j : ℕ) (zs : List ℤ) (all : List (ℕ × ℚ)) → length zs ≤ j → all ++ nonzero_terms j (whole_columns t j (fractions d (drop j zs))) ≡ all
-last_terms t d j zs all l = ap (λ ys. all ++ nonzero_terms j (whole_columns t j (fractions d ys))) (drop_all j zs l) ∙ append-nil all
+pub last_terms : (x : List ℚ) (t : Tableau) (d j : ℕ) (zs : List ℤ) (all : List (ℕ × ℚ)) → length zs ≤ j → all ++ nonzero_terms j (counted_columns x t j (fractions d (drop j zs))) ≡ all
+last_terms x t d j zs all l = ap (λ ys. all ++ nonzero_terms j (counted_columns x t j (fractions d ys))) (drop_all j zs l) ∙ append-nil all
 
 pub last_side : (t : Tableau) (d j : ℕ) (zs : List ℤ) (ss : List Span) (v : ℚ) → length zs ≤ j → filled_side t j (fractions d (drop j zs)) ss v ≡ v
 last_side t d j zs ss v l = ap (λ ys. filled_side t j (fractions d ys) ss v) (drop_all j zs l)
@@ -109,12 +115,12 @@ over_is : (d : ℕ) (zs : List ℤ) → map (over d) (map whole zs) ≡ fraction
 over_is d [] = refl
 over_is d (z ∷ zs) = λ i. frac ((whole_parts z).0 i) d ∷ over_is d zs i
 
-pub row_over : (t : Tableau) (ss : List Span) (d : ℕ) (zs : List ℤ) (s r : ℤ) (ts : List (ℕ × ℚ)) → ts ≡ nonzero_terms 0 (whole_columns t 0 (fractions d zs))
+pub row_over : (x : List ℚ) (t : Tableau) (ss : List Span) (d : ℕ) (zs : List ℤ) (s r : ℤ) (ts : List (ℕ × ℚ)) → ts ≡ nonzero_terms 0 (counted_columns x t 0 (fractions d zs))
     → frac r d ≡ filled_side t 0 (fractions d zs) ss (frac s d)
-    → record { sense = G; rhs = whole (ceil (frac r d)); terms = ts } ≡ candidate t ss (sums_over d (sums_of (map whole zs) (whole s)))
-row_over t ss d zs s r ts e f =
+    → record { sense = G; rhs = whole (ceil (frac r d)); terms = ts } ≡ counted_candidate x t ss (sums_over d (sums_of (map whole zs) (whole s)))
+row_over x t ss d zs s r ts e f =
     (λ i. cut_row_of (e i) (f i))
-    ∙ (λ i. cut_row (sums_of (whole_columns t 0 (sym (over_is d zs) i)) (filled_side t 0 (sym (over_is d zs) i) ss (frac (sym (whole_parts s).0 i) d))))
+    ∙ (λ i. cut_row (sums_of (counted_columns x t 0 (sym (over_is d zs) i)) (filled_side t 0 (sym (over_is d zs) i) ss (frac (sym (whole_parts s).0 i) d))))
   where
     cut_row_of : List (ℕ × ℚ) → ℚ → Row
     cut_row_of ts v = record { sense = G; rhs = whole (ceil v); terms = ts }

@@ -5,7 +5,7 @@ use Rattle.std.specs.Int.{int_div_euclid, int_rem_euclid}
 use Rattle.std.proofs.Math.Nat.{mod-lt}
 use Rattle.std.proofs.lemmas.Int.{ints}
 use Rattle.std.proofs.lemmas.Nat.{div-add-mod'}
-use Rattle.fraction.specs.Rational.{ℚ, whole, frac, floor, ceil}
+use Rattle.fraction.specs.Rational.{whole, frac, floor, ceil}
 use Rattle.fraction.specs.Lemmas.Integers.{mul-le_ℤ, add-mul_ℤ}
 use Rattle.fraction.specs.Lemmas.Rational.{lit_one, frac-≤ℚ, ≤ℚ_frac, floor-≤ℚ, ceil_least}
 use Rattle.fraction.specs.Lemmas.Order.{floor_greatest, ceil-≤ℚ}

@@ -16,6 +16,9 @@ use Rattle.derivation_book.specs.Lemmas.OptionChains.{next_there}
 use Rattle.tableau.specs.Elimination.{entry}
 use Rattle.tableau.specs.Multipliers.{with_multiplier}
 use Rattle.tableau.specs.Tableau.{Tableau, status_of}
+use Rattle.dual_simplex.specs.Relaxation.{rational_value}
+use Rattle.dual_simplex.specs.PointSums.{checked_sum}
+use Rattle.dual_simplex.specs.Lemmas.RationalValues.{sum_exact}
 use Rattle.gomory_cuts.specs.declared.sign.Sign.{Sign}
 use Rattle.gomory_cuts.specs.Multipliers.{multiplier, row_multipliers, filling, bound_number, fillings}
 use Rattle.gomory_cuts.specs.Separation.{is_below, cuts_at, cuts_from, is_same, is_found, with_cut, with_cuts, most_separated}
@@ -136,3 +139,11 @@ below_is (Some v) b w e = ap is_lt (let z : w ≡ compare v b = cc in z)
 pub not_below : (o : Option ℚ) (b : ℚ) → ◌≡◌ {A = Option Ordering} None (option_map (λ v. compare v b) o) → false ≡ is_below o b
 not_below None b e = refl
 not_below (Some v) b e = absurd (let z : ⊥ = cc in z)
+
+-- a comparison with a sum that is there tells how the exact sum compares
+pub told : (x : List ℚ) (ts : List (ℕ × ℚ)) (b : ℚ) (w : Ordering) → Some w ≡ option_map (λ v. compare v b) (checked_sum ts x) → is_lt w ≡ false → is_lt (compare (rational_value ts x) b) ≡ false
+told x ts b w e h = at (checked_sum ts x) refl e
+  where
+    at : (o : Option ℚ) → checked_sum ts x ≡ o → Some w ≡ option_map (λ v. compare v b) o → is_lt (compare (rational_value ts x) b) ≡ false
+    at None f g = absurd (let z : ⊥ = cc in z)
+    at (Some v) f g = ap (λ u. is_lt (compare u b)) (sym (sum_exact ts x v f)) ∙ sym (ap is_lt (let z : w ≡ compare v b = cc in z)) ∙ h

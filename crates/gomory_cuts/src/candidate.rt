@@ -10,11 +10,11 @@ ghost use Rattle.derivation_book.specs.OverOne.{sums_over};
 ghost use Rattle.derivation_book.specs.Sizes.{denominator_limit};
 ghost use Rattle.gomory_cuts.specs.Multipliers.{filled};
 ghost use Rattle.gomory_cuts.specs.Separation.{if_violated};
-ghost use Rattle.gomory_cuts.specs.Candidate.{fractions, whole_columns, filled_side, candidate};
+ghost use Rattle.gomory_cuts.specs.Candidate.{fractions, counted_columns, filled_side, counted_candidate};
 
 use crate::filled_column::add_column;
 use crate::gomory::joined;
-use crate::violation::is_violated;
+use crate::violation::is_satisfied;
 use derivation_book::{Book, CombinedNumerators};
 use dual_simplex::{FinalTableau, PointSums};
 use fraction::Frac;
@@ -33,19 +33,20 @@ fn rounded_side(side: i128, denominator: u64) -> Option<Frac>
     Some(Frac::of(Frac::make(side, denominator as i128).ceil()))
 }
 
-/// The terms of the row that a candidate gives, if it gives one, and its right side's numerator, from the numbers of the combination of its rows and
-/// cuts. None where this gives up, since a number is too large. The one error is want of memory.
+/// The terms of the row that a candidate gives, if it gives one, but those in whose columns the point's number is 0, and its right side's numerator, from
+/// the numbers of the combination of its rows and cuts. None where this gives up, since a number is too large. The one error is want of memory.
 fn filled_numbers(
     alloc: Global,
     tableau: &FinalTableau,
     problem: &Problem,
+    point: &PointSums,
     numerators: &CombinedNumerators,
 ) -> Result<Option<(Terms, i128)>, AllocError>
     requires positive { 0 < numerators.now.denominator }
     requires small { numerators.now.denominator < denominator_limit }
     requires long { length numerators.now.coefficients.items ≡ length problem.now.spans }
     requires columns { length problem.now.spans ≤ length tableau.now.statuses }
-    ensures terms { IfOk result (λ o. IfSome o (λ r. r.0 ≡ nonzero_terms 0 (whole_columns tableau.now 0 (fractions numerators.now.denominator numerators.now.coefficients.items)))) }
+    ensures terms { IfOk result (λ o. IfSome o (λ r. r.0 ≡ nonzero_terms 0 (counted_columns point.now tableau.now 0 (fractions numerators.now.denominator numerators.now.coefficients.items)))) }
     ensures side { IfOk result (λ o. IfSome o (λ r. frac r.1 numerators.now.denominator ≡ filled_side tableau.now 0 (fractions numerators.now.denominator numerators.now.coefficients.items) problem.now.spans (frac numerators.now.side numerators.now.denominator))) }
 {
     problem.limits_hold();
@@ -62,6 +63,7 @@ fn filled_numbers(
                 numerators.denominator,
                 tableau.status(column),
                 problem.root().span(column),
+                point.is_zero_at(column),
             )?;
             match added {
                 Some(sum) => side = sum,
@@ -72,20 +74,21 @@ fn filled_numbers(
     Ok(Some((terms, side)))
 }
 
-/// The row that a candidate gives, if it gives one, likewise.
+/// The row that a candidate gives, if it gives one, but those of its terms, likewise.
 fn candidate_row(
     alloc: Global,
     tableau: &FinalTableau,
     problem: &Problem,
+    point: &PointSums,
     numerators: &CombinedNumerators,
 ) -> Result<Option<Row>, AllocError>
     requires positive { 0 < numerators.now.denominator }
     requires small { numerators.now.denominator < denominator_limit }
     requires long { length numerators.now.coefficients.items ≡ length problem.now.spans }
     requires columns { length problem.now.spans ≤ length tableau.now.statuses }
-    ensures { IfOk result (λ o. IfSome o (λ r. r ≡ candidate tableau.now problem.now.spans (sums_over numerators.now.denominator (sums_of (map whole numerators.now.coefficients.items) (whole numerators.now.side))))) }
+    ensures { IfOk result (λ o. IfSome o (λ r. r ≡ counted_candidate point.now tableau.now problem.now.spans (sums_over numerators.now.denominator (sums_of (map whole numerators.now.coefficients.items) (whole numerators.now.side))))) }
 {
-    let Some((terms, side)) = filled_numbers(alloc, tableau, problem, numerators)? else {
+    let Some((terms, side)) = filled_numbers(alloc, tableau, problem, point, numerators)? else {
         return Ok(None);
     };
     match rounded_side(side, numerators.denominator) {
@@ -113,8 +116,8 @@ pub(crate) fn is_refused(
     let Some(numerators) = book.numerators(alloc, problem, plain.as_slice())? else {
         return Ok(false);
     };
-    match candidate_row(alloc, tableau, problem, &numerators)? {
-        Some(row) => Ok(!is_violated(point, &row)),
+    match candidate_row(alloc, tableau, problem, point, &numerators)? {
+        Some(row) => Ok(is_satisfied(point, &row)),
         None => Ok(false),
     }
 }

@@ -1,12 +1,13 @@
 //! What a filling does to one column, by whole numbers.
 
-ghost use Rattle.std.specs.Prelude.{◌≡◌, ◌<◌, ◌≤◌, ◌^◌, ◌+◌, ◌++◌, ◌∷◌, ◌+ℤ◌, ◌*ℤ◌, List, pos, nat_abs, IfOk, IfSome, OnOk};
+ghost use Rattle.std.specs.Prelude.{◌≡◌, ◌<◌, ◌≤◌, ◌^◌, ◌+◌, ◌++◌, ◌∷◌, ◌+ℤ◌, ◌*ℤ◌, List, pos, nat_abs, IfOk, IfSome, OnOk, if◌then◌else◌};
 ghost use Rattle.std.specs.Int.{int_div_euclid, int_rem_euclid};
 ghost use Rattle.fraction.specs.Rational.{ℚ, frac, whole};
 ghost use Rattle.derivation_book.specs.Rounded.{nonzero_terms};
 ghost use Rattle.derivation_book.specs.Sizes.{denominator_limit};
+ghost use Rattle.tableau.specs.Elimination.{zero_ℚ};
 ghost use Rattle.gomory_cuts.specs.Multipliers.{is_at_upper};
-ghost use Rattle.gomory_cuts.specs.Candidate.{whole_to, bound_at, side_with};
+ghost use Rattle.gomory_cuts.specs.Candidate.{whole_to, bound_at, counted, side_with};
 
 use fraction::Frac;
 use problem::Terms;
@@ -115,8 +116,26 @@ fn push_whole(terms: &mut Terms, column: u32, coefficient: i128) -> Result<(), A
     Ok(())
 }
 
-/// Puts what the filling makes of a column's numerator behind the terms, and gives the numerator of the right side with the filling's bound row; none
-/// where a number is too large. The one error is want of memory.
+/// The same, but for a column in which the point's number is 0.
+#[inline(always)]
+fn push_counted(
+    terms: &mut Terms,
+    column: u32,
+    coefficient: i128,
+    at_zero: bool,
+) -> Result<(), AllocError>
+    requires { nat_abs coefficient ≤ 2 ^ 63 }
+    ensures { OnOk result ((others : List ℚ) → terms.new ++ nonzero_terms (column + 1) others ≡ terms.old ++ nonzero_terms column ((if at_zero then zero_ℚ else whole coefficient) ∷ others)) }
+{
+    if at_zero {
+        Ok(())
+    } else {
+        push_whole(terms, column, coefficient)
+    }
+}
+
+/// Puts what the filling makes of a column's numerator behind the terms, unless the point's number is 0 in the column, and gives the numerator of the
+/// right side with the filling's bound row; none where a number is too large. The one error is want of memory.
 #[inline(always)]
 pub(crate) fn add_column(
     terms: &mut Terms,
@@ -126,16 +145,22 @@ pub(crate) fn add_column(
     denominator: u64,
     status: BasisStatus,
     span: Span,
+    at_zero: bool,
 ) -> Result<Option<i128>, AllocError>
     requires positive { 0 < denominator }
     requires small { denominator < denominator_limit }
-    ensures terms { IfOk result (λ o. IfSome o (λ _. (others : List ℚ) → terms.new ++ nonzero_terms (column + 1) others ≡ terms.old ++ nonzero_terms column (whole (whole_to status (frac numerator denominator)) ∷ others))) }
+    ensures terms { IfOk result (λ o. IfSome o (λ _. (others : List ℚ) → terms.new ++ nonzero_terms (column + 1) others ≡ terms.old ++ nonzero_terms column (counted at_zero status (frac numerator denominator) ∷ others))) }
     ensures side { IfOk result (λ o. IfSome o (λ s. frac s denominator ≡ side_with status (frac numerator denominator) span (frac side denominator))) }
 {
+    let bound = bound_at(status, span);
+    // Most columns are at the bound 0, and a division takes long.
+    if at_zero && bound == 0 {
+        return Ok(Some(side));
+    }
     let Ok(short) = i64::try_from(numerator) else {
         return Ok(None);
     };
     let filled = filled_numerator(status, short, denominator);
-    push_whole(terms, column, filled.coefficient)?;
-    Ok(with_bound(side, filled.filling, bound_at(status, span)))
+    push_counted(terms, column, filled.coefficient, at_zero)?;
+    Ok(with_bound(side, filled.filling, bound))
 }

@@ -1,7 +1,10 @@
 //! Whether a point violates a cut.
 
-ghost use Rattle.std.specs.Prelude.{◌≡◌, IfOk, Some, None, if◌then◌else◌};
+ghost use Rattle.std.specs.Prelude.{◌≡◌, IfOk, IsTrue, Some, None, false, if◌then◌else◌};
+ghost use Rattle.std.specs.Ordering.{is_lt};
+ghost use Rattle.fraction.specs.Checked.{compare};
 ghost use Rattle.problem.specs.Rising.{AreRising};
+ghost use Rattle.dual_simplex.specs.Relaxation.{rational_value};
 ghost use Rattle.gomory_cuts.specs.Separation.{is_violated, if_violated};
 
 use derivation_book::Book;
@@ -17,6 +20,17 @@ pub(crate) fn is_violated(point: &PointSums, row: &Row) -> bool
 {
     match point.compare(row.terms.as_slice(), row.rhs) {
         Some(ordering) => ordering.is_lt(),
+        None => false,
+    }
+}
+
+/// Whether the sum of a G row at the point is told, and not less than the right side.
+pub(crate) fn is_satisfied(point: &PointSums, row: &Row) -> bool
+    requires { AreRising row.now.terms }
+    ensures { IsTrue result → is_lt (compare (rational_value row.now.terms point.now) row.now.rhs) ≡ false }
+{
+    match point.compare(row.terms.as_slice(), row.rhs) {
+        Some(ordering) => !ordering.is_lt(),
         None => false,
     }
 }

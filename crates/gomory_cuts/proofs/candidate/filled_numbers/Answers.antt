@@ -1,4 +1,4 @@
-use Rattle.std.proofs.Common.{◌≡◌, ◌<◌, ◌+◌, pos, arith, rules, refl, ap, sym, subst, ◌∙◌, ◌++◌, length, get_or, drop, to_z, of_z}
+use Rattle.std.proofs.Common.{◌≡◌, ◌<◌, ◌+◌, pos, arith, rules, ap, sym, subst, ◌∙◌, ◌++◌, length, get_or, drop, to_z, of_z}
 use Rattle.std.specs.Prelude.{slice_get}
 use Rattle.std.specs.Bool.{⊤}
 use Rattle.std.specs.Int.{w128}
@@ -6,19 +6,20 @@ use Rattle.std.proofs.lemmas.Int.{ints, to_z-of_z}
 use Rattle.std.proofs.lemmas.List.{drop_more}
 use Rattle.std.proofs.lemmas.Option.{MatchOption-at_some}
 use mir.Val.{SFits}
-use Rattle.fraction.specs.Rational.{whole, frac}
+use Rattle.fraction.specs.Rational.{frac}
 use Rattle.derivation_book.specs.Places.{no_span}
-use Rattle.derivation_book.specs.Rounded.{nonzero_terms}
+use Rattle.derivation_book.specs.Rounded.{is_zero, nonzero_terms}
 use Rattle.derivation_book.specs.Lemmas.OptionChains.{next_there}
 use Rattle.tableau.specs.Tableau.{status_of}
-use Rattle.gomory_cuts.specs.Candidate.{whole_to, fractions, whole_columns, side_with, filled_side}
+use Rattle.dual_simplex.specs.Relaxation.{rational_at}
+use Rattle.gomory_cuts.specs.Candidate.{fractions, counted, counted_columns, side_with, filled_side}
 use Rattle.gomory_cuts.proofs.Columns.{HasColumn, next_terms, next_side, zero_column, zero_side, last_terms, last_side}
 use Rattle.gomory_cuts.proofs.candidate.filled_numbers.Goals as goal
 use Rattle.gomory_cuts.proofs.candidate.filled_numbers.Goals.{then-numerator-ne0+in_ok-added+in-Some, else-numerator-ne0}
 
 pub loop-column-init : goal.loop-column-init
 loop-column-init c = record {
-  terms = ap (λ ts. ts ++ nonzero_terms 0 (whole_columns c.args.tableau.now 0 (fractions c.args.numerators.now.denominator c.args.numerators.now.coefficients.items))) c.in_ok-terms.ensures;
+  terms = ap (λ ts. ts ++ nonzero_terms 0 (counted_columns c.args.point.now c.args.tableau.now 0 (fractions c.args.numerators.now.denominator c.args.numerators.now.coefficients.items))) c.in_ok-terms.ensures;
   side = ap (λ s. filled_side c.args.tableau.now 0 (fractions c.args.numerators.now.denominator c.args.numerators.now.coefficients.items) c.args.problem.now.spans (frac s c.args.numerators.now.denominator)) (omega (arith, ints));
 }
 
@@ -40,11 +41,12 @@ loop-column-preserved c =
           let s = w.in-Some.sum in
           let s_fits : SFits w128 s = search rules in
           record {
-            terms = ap (λ ts. ts ++ nonzero_terms (j + 1) (whole_columns t (j + 1) (fractions d (drop (j + 1) zs)))) w.terms-is
-                ∙ next_terms t d j zs x there is c.loop-column.terms w.add_column.new.terms
-                (subst (λ y. HasColumn c.loop-column.terms w.add_column.new.terms j (whole (whole_to (status_of t j) (frac y d)))) here
-                (subst (λ b. HasColumn c.loop-column.terms w.add_column.new.terms j (whole (whole_to b (frac (to_z w128 (of_z w128 x)) d)))) w.status.ensures
-                (MatchOption-at_some ⊤ _ s w.in-Some.is w.in_ok-added.ensures.terms)))
+            terms = ap (λ ts. ts ++ nonzero_terms (j + 1) (counted_columns c.args.point.now t (j + 1) (fractions d (drop (j + 1) zs)))) w.terms-is
+                ∙ next_terms t d j zs x there is c.args.point.now c.loop-column.terms w.add_column.new.terms
+                (subst (λ y. HasColumn c.loop-column.terms w.add_column.new.terms j (counted (is_zero (rational_at c.args.point.now j)) (status_of t j) (frac y d))) here
+                (subst (λ b. HasColumn c.loop-column.terms w.add_column.new.terms j (counted (is_zero (rational_at c.args.point.now j)) b (frac (to_z w128 (of_z w128 x)) d))) w.status.ensures
+                (subst (λ k. HasColumn c.loop-column.terms w.add_column.new.terms j (counted k w.status.result (frac (to_z w128 (of_z w128 x)) d))) w.is_zero_at.ensures
+                (MatchOption-at_some ⊤ _ s w.in-Some.is w.in_ok-added.ensures.terms))))
                 ∙ c.loop-column.invariant.terms;
             side = ap (λ y. filled_side t (j + 1) (fractions d (drop (j + 1) zs)) (drop (j + 1) ss) (frac y d)) (w.side-is ∙ to_z-of_z w128 s s_fits)
                 ∙ next_side t d j zs x there is ss w.span.result (frac before d) (frac s d) (next_there ss j w.span.result (ap (λ us. slice_get us j) (sym w.root.ensures) ∙ w.span.ensures))
@@ -54,8 +56,8 @@ loop-column-preserved c =
       | else-numerator-ne0 w ↦
           let zero : x ≡ pos 0 = sym here ∙ ap (to_z w128) w.if-numerator-ne0.false in
           record {
-            terms = ap (λ ts. ts ++ nonzero_terms (j + 1) (whole_columns t (j + 1) (fractions d (drop (j + 1) zs)))) w.terms-is
-                ∙ next_terms t d j zs x there is c.loop-column.terms c.loop-column.terms (zero_column c.loop-column.terms j (status_of t j) x d c.requires.positive zero)
+            terms = ap (λ ts. ts ++ nonzero_terms (j + 1) (counted_columns c.args.point.now t (j + 1) (fractions d (drop (j + 1) zs)))) w.terms-is
+                ∙ next_terms t d j zs x there is c.args.point.now c.loop-column.terms c.loop-column.terms (zero_column c.loop-column.terms j (is_zero (rational_at c.args.point.now j)) (status_of t j) x d c.requires.positive zero)
                 ∙ c.loop-column.invariant.terms;
             side = ap (λ y. filled_side t (j + 1) (fractions d (drop (j + 1) zs)) (drop (j + 1) ss) (frac y d)) w.side-is
                 ∙ next_side t d j zs x there is ss (get_or ss j no_span) (frac before d) (frac before d) (drop_more ss j no_span (omega (arith, there, c.requires.long)))
@@ -66,7 +68,7 @@ loop-column-preserved c =
 
 pub returns-clause-terms : goal.returns-clause-terms
 returns-clause-terms c =
-    sym (last_terms c.args.tableau.now c.args.numerators.now.denominator c.loop-column.column c.args.numerators.now.coefficients.items c.loop-column.terms (omega (arith, c.loop-column-test.false, ap length c.deref-numerator-items.ensures.value)))
+    sym (last_terms c.args.point.now c.args.tableau.now c.args.numerators.now.denominator c.loop-column.column c.args.numerators.now.coefficients.items c.loop-column.terms (omega (arith, c.loop-column-test.false, ap length c.deref-numerator-items.ensures.value)))
     ∙ c.loop-column.invariant.terms
 
 pub returns-clause-side : goal.returns-clause-side

@@ -1,5 +1,4 @@
-use Rattle.std.proofs.Common.{◌≡◌, refl, sym, ap, ◌∙◌, subst, Bool, true, false, map, length}
-use Rattle.std.specs.Prelude.{not}
+use Rattle.std.proofs.Common.{sym, ap, ◌∙◌, subst, map, length}
 use Rattle.std.specs.Bool.{⊤}
 use Rattle.std.proofs.lemmas.Option.{MatchOption-at_some}
 use Rattle.fraction.specs.Rational.{whole}
@@ -9,9 +8,8 @@ use Rattle.derivation_book.specs.Known.{known_lines}
 use Rattle.derivation_book.specs.Sums.{sums_of, combined}
 use Rattle.derivation_book.specs.OverOne.{sums_over}
 use Rattle.derivation_book.specs.Lemmas.Rounded.{terms_rise}
-use Rattle.gomory_cuts.specs.Candidate.{whole_columns}
-use Rattle.gomory_cuts.specs.Separation.{is_violated}
-use Rattle.gomory_cuts.proofs.Candidates.{refused}
+use Rattle.gomory_cuts.specs.Candidate.{counted_columns}
+use Rattle.gomory_cuts.proofs.Candidates.{IsSatisfied, refused}
 use Rattle.gomory_cuts.proofs.Columns.{as_long}
 use Rattle.gomory_cuts.proofs.candidate.is_refused.Goals as goal
 
@@ -20,15 +18,11 @@ candidate_row-requires-clause-long c =
     let n = c.in-Some.numerators in
     as_long c.args.problem.now c.args.book.now.cuts c.as_slice.result.now n.denominator n.coefficients.items n.side (MatchOption-at_some ⊤ _ n c.in-Some.is c.in_ok-numerators.ensures.sums)
 
-pub is_violated-requires : goal.is_violated-requires
-is_violated-requires c =
+pub is_satisfied-requires : goal.is_satisfied-requires
+is_satisfied-requires c =
     let n = c.in-Some.numerators in
     subst (λ (r : Row). AreRising r.terms) (sym (MatchOption-at_some ⊤ _ c.in-Some-2.row c.in-Some-2.is c.in_ok-row.ensures))
-    (terms_rise 0 (whole_columns c.args.tableau.now 0 (sums_over n.denominator (sums_of (map whole n.coefficients.items) (whole n.side))).coefficients))
-
-not_true : (b : Bool) → not b ≡ true → b ≡ false
-not_true true e = let z : false ≡ true = e in sym z
-not_true false e = refl
+    (terms_rise 0 (counted_columns c.args.point.now c.args.tableau.now 0 (sums_over n.denominator (sums_of (map whole n.coefficients.items) (whole n.side))).coefficients))
 
 pub returns-in-Some-2 : goal.returns-in-Some-2
 returns-in-Some-2 c =
@@ -37,4 +31,4 @@ returns-in-Some-2 c =
     λ b. refused c.args.problem.now c.args.book.now.cuts c.args.tableau.now c.args.point.now c.args.of_rows.now c.args.of_cuts.now _
     (ap (λ m. combined (known_lines c.args.problem.now c.args.book.now.cuts) m (length c.args.problem.now.spans)) (sym (c.as_slice.ensures ∙ c.in_ok-plain.ensures))
     ∙ MatchOption-at_some ⊤ _ n c.in-Some.is c.in_ok-numerators.ensures.sums)
-    (ap (is_violated c.args.point.now) (sym e) ∙ sym c.is_violated.ensures ∙ not_true c.is_violated.result b)
+    (subst (IsSatisfied c.args.point.now) e (c.is_satisfied.ensures b))
