@@ -310,15 +310,9 @@ impl DictionaryStore {
             return None;
         }
         let made = self.kept.count();
-        let Some(()) = self.kept.push_behind(
-            &mut self.basic,
-            &mut self.coefficients,
-            place,
-            turn,
-            &self.row,
-            pivot_size,
-            hash,
-        )
+        let Some(()) = self
+            .kept
+            .push_behind(&mut self.basic, place, turn, &self.row, pivot_size, hash)
         else {
             self.kept.clear();
             return None;

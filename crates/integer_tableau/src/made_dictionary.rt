@@ -1,6 +1,6 @@
 // Dictionaries that are made by a pivot.
 
-ghost use Rattle.std.specs.Prelude.{◌≡◌, ◌≢◌, ℕ, ◌<◌, ◌≤◌, ◌+◌, ◌*◌, ◌-◌, ◌++◌, ◌<ℤ◌, ℤ, List, [], ◌∷◌, pos, nat_abs, length, slice_index_or, slice_range, slice_set, IfNone, IfSome, IsTrue};
+ghost use Rattle.std.specs.Prelude.{◌≡◌, ◌≢◌, ℕ, ◌<◌, ◌≤◌, ◌+◌, ◌*◌, ◌-◌, ◌++◌, ◌<ℤ◌, ℤ, List, [], ◌∷◌, pos, nat_abs, length, slice_index_or, slice_range, slice_set, take, IfNone, IfSome, IsTrue};
 ghost use Rattle.integer_tableau.specs.Arena.{AreMadeRows, IsMadeRow, row_by};
 ghost use Rattle.integer_tableau.specs.BasicColumns.{HaveRows, basic_exchanged, count_below};
 ghost use Rattle.integer_tableau.specs.Kept.{AreCombinationsSmall, IsDictionaryBehind, IsKept, KeptDictionary, costs_of, kept_at, rows_of};
@@ -66,11 +66,39 @@ fn substitute_small(
     small_size(row, bound)
 }
 
+/// Makes the numbers from `start` on the row that begins at another place before them, in which the variable of a column is substituted, by its solved row. The
+/// answer is a bound on its sizes, none where that isn't exact or small.
+#[inline(always)]
+fn substitute_behind(
+    numbers: &mut [i64],
+    start: usize,
+    from: usize,
+    size: u64,
+    column: usize,
+    solved: &IntegerRow,
+    pivot_size: i64,
+    divisor: Divisor,
+) -> Option<u64>
+    requires there { from + length solved.now ≤ start }
+    requires room { start + length solved.now ≡ length numbers.old }
+    requires column { column < length solved.now }
+    requires row_small { IsWithin (size_limit - 1) (slice_range numbers.old from (from + length solved.now)) }
+    requires row_within { IsWithin size (slice_range numbers.old from (from + length solved.now)) }
+    requires source_small { IsWithin (size_limit - 1) solved.now }
+    requires pivot_size_small { nat_abs pivot_size < size_limit }
+    ensures front { (row : List ℤ) × (numbers.new ≡ take start numbers.old ++ row) }
+    ensures row { IfSome result (λ b. (row : List ℤ) × (numbers.new ≡ take start numbers.old ++ row) × IsSubstitutedRow divisor.number pivot_size column solved.now (slice_range numbers.old from (from + length solved.now)) row × IsWithin b row) }
+{
+    let (before, row) = numbers.split_at_mut(start);
+    row.copy_from_slice(&before[from..from + solved.width()]);
+    let bound = substitute_small(row, size, column, solved, pivot_size, divisor)?;
+    Some(bound)
+}
+
 /// Puts a row that begins at this place behind all, in which the variable of a column is substituted, by its solved row. The answer is a bound on its sizes, none
-/// where that isn't exact or small, or memory is wanting. It is made in the spare room.
+/// where that isn't exact or small, or memory is wanting.
 fn push_substituted(
     numerators: &mut Vec<i64>,
-    spare: &mut Vec<i64>,
     from: usize,
     size: u64,
     column: usize,
@@ -87,12 +115,12 @@ fn push_substituted(
     ensures more { (more : List ℤ) × (numerators.new.items ≡ numerators.old.items ++ more) }
     ensures pushed { IfSome result (λ b. (row : List ℤ) × (numerators.new.items ≡ numerators.old.items ++ row) × IsSubstitutedRow divisor.number pivot_size column solved.now (slice_range numerators.old.items from (from + length solved.now)) row × IsWithin b row) }
 {
-    spare.clear();
-    spare
-        .extend_from_slice(&numerators[from..from + solved.width()])
-        .ok()?;
-    let bound = substitute_small(spare, size, column, solved, pivot_size, divisor)?;
-    numerators.extend_from_slice(spare).ok()?;
+    let start = numerators.len();
+    let end = start.checked_add(solved.width())?;
+    numerators.resize(end, 0).ok()?;
+    let bound = substitute_behind(
+        numerators, start, from, size, column, solved, pivot_size, divisor,
+    )?;
     Some(bound)
 }
 
@@ -101,7 +129,6 @@ fn push_substituted(
 #[inline(always)]
 fn push_row(
     numerators: &mut Vec<i64>,
-    spare: &mut Vec<i64>,
     own: Dictionary,
     old_columns: &[usize],
     column: usize,
@@ -130,7 +157,6 @@ fn push_row(
     let from = own.numerators + place_of(old_columns, column) * solved.width();
     push_substituted(
         numerators,
-        spare,
         from,
         own.size,
         turn.column,
@@ -144,7 +170,6 @@ fn push_row(
 /// small, or memory is wanting.
 fn push_rows(
     numerators: &mut Vec<i64>,
-    spare: &mut Vec<i64>,
     own: Dictionary,
     old_columns: &[usize],
     columns: &[usize],
@@ -170,7 +195,6 @@ fn push_rows(
     for column in columns {
         let row = push_row(
             numerators,
-            spare,
             own,
             old_columns,
             *column,
@@ -186,7 +210,6 @@ fn push_rows(
 /// Puts the rows and the reduced costs behind a turn behind all. The answer is a bound on their sizes, none where one isn't exact or small, or memory is wanting.
 fn push_numerators(
     numerators: &mut Vec<i64>,
-    spare: &mut Vec<i64>,
     own: Dictionary,
     old_columns: &[usize],
     columns: &[usize],
@@ -212,7 +235,6 @@ fn push_numerators(
 {
     let rows_size = push_rows(
         numerators,
-        spare,
         own,
         old_columns,
         columns,
@@ -222,7 +244,6 @@ fn push_numerators(
     )?;
     let costs_size = push_substituted(
         numerators,
-        spare,
         own.numerators + own.count * solved.width(),
         own.size,
         turn.column,
@@ -262,7 +283,6 @@ impl Dictionaries {
     pub(crate) fn push_behind(
         &mut self,
         columns: &mut Vec<usize>,
-        spare: &mut Vec<i64>,
         place: usize,
         turn: Turn,
         solved: &IntegerRow,
@@ -294,7 +314,6 @@ impl Dictionaries {
         let numerators = self.numerators.len();
         let size = push_numerators(
             &mut self.numerators,
-            spare,
             own,
             old_columns,
             columns,
