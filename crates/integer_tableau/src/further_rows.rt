@@ -64,7 +64,8 @@ impl Dictionaries {
     }
 }
 
-/// Takes over what runs left in the other store, which is empty then: the linear program has so many further rows, of this weight.
+/// Takes over what runs left in the other store, which is empty then: the linear program has so many further rows, of this weight. Where numbers
+/// are too large for these, the own store stays.
 fn take_store(
     alloc: Global,
     own: &mut DictionaryStore,
@@ -83,8 +84,8 @@ fn take_store(
 }
 
 impl IntegerProgram {
-    /// Takes over what runs over boxes left in another program, whose rows are the first of this one's and whose costs are the same. Where they
-    /// aren't, or numbers grow too large, nothing is taken. The other program keeps nothing then that was taken.
+    /// Takes over what runs over boxes left in another program, whose rows are the first of this one's and whose costs are the same: the other
+    /// keeps nothing then. Where they aren't, both keep what they had; where numbers would grow too large, this one does.
     ///
     /// What the programs keep from one run to the next changes, and contracts don't see it.
     pub fn take_kept(&mut self, alloc: Global, other: &mut IntegerProgram)
