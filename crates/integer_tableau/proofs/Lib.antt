@@ -83,3 +83,4 @@ mod ColumnSums
 mod DroppedColumns
 mod FinalEnds
 mod NamedCoefficients
+mod RunningSteps

@@ -209,3 +209,8 @@ returns-clause-pivoted c =
           (ap (λ b. set (set a.nonbasic_values.now a.leaving b) a.entering (pos 0)) b) c.is_upper.ensures (c.if-not-is_near.ensures refl) (c.if-not-are_combinations_small.ensures.small refl)),
       positive_from _ _ e_is p.coefficient,
     )
+
+pub leave-requires-clause-made : goal.leave-requires-clause-made
+leave-requires-clause-made c = λ made l.
+    c.requires.made made l
+    ∙ ap (λ z. get_or (expanded_rows (nat_abs z) c.args.program_rows.now c.args.positions.now c.args.rows.now) c.args.leaving []) (sym (to_z-of_z w64 c.args.denominator c.ranges.denominator))
