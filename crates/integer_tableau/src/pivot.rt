@@ -9,7 +9,7 @@ ghost use Rattle.integer_tableau.specs.IntegerTableau.{of_parts};
 ghost use Rattle.integer_tableau.specs.Positions.{AreNonbasic};
 ghost use Rattle.integer_tableau.specs.BasicColumns.{basic_from, HaveRows};
 ghost use Rattle.integer_tableau.specs.Combined.{expanded_rows, expanded_values, IsCompact};
-ghost use Rattle.integer_tableau.specs.Pivot.{is_upper, IsPivotOf, AreSubstitutedValues, IsEliminated, IsPivoted};
+ghost use Rattle.integer_tableau.specs.Pivot.{is_upper, IsPivotOf, AreSubstitutedValues, IsEliminated, IsExchange, IsPivoted};
 
 use crate::basic_columns::exchange_columns;
 use crate::combination::combined_value;
@@ -333,6 +333,7 @@ pub(crate) fn pivot_parts(
     ensures nonbasic { IfSome result (λ e. AreNonbasic positions.new nonbasic.new) }
     ensures basic { IfSome result (λ e. basic_columns.new.items ≡ basic_from 0 (length rows.new) positions.new) }
     ensures pivoted { IfSome result (λ e. IsPivoted program_rows.now weight reach leaving entering (of_parts bounds.now positions.old at_upper.old nonbasic_values.old rows.old reduced_costs.old values.old denominator pivots) (of_parts bounds.now positions.new at_upper.new nonbasic_values.new rows.new reduced_costs.new values.new e (pivots + 1)) × (pos 0 <ℤ e)) }
+    ensures exchanged { IfSome result (λ e. IsExchange leaving entering positions.old positions.new nonbasic_values.old nonbasic_values.new) }
 {
     let Position::InBasis = positions[leaving] else {
         return None;

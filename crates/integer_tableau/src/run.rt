@@ -31,7 +31,9 @@ impl IntegerTableau {
         ensures capped { IfOk result (λ e. e.tableau.pivots ≤ self.pivots + cap) }
         ensures given_up { IfErr result (λ made. made ≤ cap) }
     {
-        self.into_running().run(cap)
+        let running = self.into_running();
+        let row_sums = Vec::new(*running.rows.allocator());
+        running.run(&None, row_sums, cap)
     }
 
     /// The tableau after so many pivots, each the one that the tableau before it asks for; none where this is given up, and where there
@@ -42,9 +44,10 @@ impl IntegerTableau {
         ensures counted { IfSome result (λ t. t.pivots ≡ self.pivots + count) }
     {
         let mut running = self.into_running();
+        let mut row_sums = Vec::new(*running.rows.allocator());
         let mut room = IntegerRow::empty(*running.rows.allocator());
         for _i in 0..count {
-            match running.step(&mut room) {
+            match running.step(&None, &mut row_sums, &mut room) {
                 Some(None) => {}
                 _ => return None,
             }

@@ -4,14 +4,16 @@ ghost use Rattle.std.specs.Prelude.{◌≡◌, ◌≢◌, ℕ, ◌+◌, ◌<◌,
 ghost use Rattle.tableau.specs.Pivot.{pivoted};
 ghost use Rattle.tableau.specs.Place.{place, PlaceIsWithin};
 ghost use Rattle.tableau.specs.Run.{EndsAs, StepsTo, run_from, step_at};
+ghost use Rattle.integer_tableau.specs.RowSums.{AreColumnsOf, AreRowSums};
 ghost use Rattle.integer_tableau.specs.Running.{HasRow, IsRunning, running_view};
 
+use crate::coefficient_columns::CoefficientColumns;
 use crate::integer_row::IntegerRow;
 use crate::integer_tableau::{Fixed, IntegerTableau};
-use crate::leaving::leaving;
 use crate::pivot::pivot_parts;
 use crate::place::place_where_leaving;
 use crate::position::Position;
+use crate::row_sums::{leaving_with_sums, turn_kept_sums};
 use crate::run::IntegerRunEnd;
 use tableau::Place;
 
@@ -77,16 +79,26 @@ impl RunningTableau {
     }
 
     /// What the tableau asks for next; none where the numbers are too large, or memory is wanting. Where that is a pivot, and the leaving row isn't kept,
-    /// it is put into `room`.
-    fn place(&self, room: &mut IntegerRow) -> Option<Place>
+    /// it is put into `room`. The sums of rows are taken where they are kept.
+    fn place(
+        &self,
+        columns: &Option<CoefficientColumns>,
+        row_sums: &[i64],
+        room: &mut IntegerRow,
+    ) -> Option<Place>
         requires running { IsRunning self.now }
+        requires columns { IfSome columns.now (AreColumnsOf self.now.fixed.rows.items.value.items) }
+        requires sums { AreRowSums self.now.fixed.rows.items.value.items self.now.positions.items self.now.nonbasic_values.items row_sums.now }
         ensures value { IfSome result (λ p. p ≡ place (running_view self.now)) }
         ensures within { IfSome result (λ p. PlaceIsWithin (length self.now.positions.items) p) }
         ensures exact { IfSome result (λ p. p ≢ Place.Cramped) }
         ensures row { IfSome result (λ p. (r c : ℕ) → p ≡ Place.Pivot r c → HasRow self.now r room.new) }
     {
-        let Ok(found) = leaving(
+        let Ok(found) = leaving_with_sums(
             *self.rows.allocator(),
+            columns,
+            row_sums,
+            self.fixed.reach,
             &self.fixed.rows,
             &self.positions,
             &self.fixed.bounds,
@@ -117,8 +129,17 @@ impl RunningTableau {
 
     /// Takes variable `leaving` out of the basis and variable `entering` into it, as `IntegerTableau::pivot` does; `room` holds the leaving row if it isn't
     /// kept. False where this is given up; the tableau is of no use then.
-    fn turn(&mut self, room: &mut IntegerRow, leaving: usize, entering: usize) -> bool
+    fn turn(
+        &mut self,
+        columns: &Option<CoefficientColumns>,
+        row_sums: &mut Vec<i64>,
+        room: &mut IntegerRow,
+        leaving: usize,
+        entering: usize,
+    ) -> bool
         requires running { IsRunning self.old }
+        requires columns { IfSome columns.now (AreColumnsOf self.old.fixed.rows.items.value.items) }
+        requires sums { AreRowSums self.old.fixed.rows.items.value.items self.old.positions.items self.old.nonbasic_values.items row_sums.old.items }
         requires leaving_there { leaving < length self.old.positions.items }
         requires entering_there { entering < length self.old.positions.items }
         requires row { HasRow self.old leaving room.old }
@@ -126,7 +147,10 @@ impl RunningTableau {
         ensures value { IsTrue result → pivoted leaving entering (running_view self.old) ≡ Some (running_view self.new) }
         ensures counted { IsTrue result → self.new.pivots ≡ self.old.pivots + 1 }
         ensures running { IsTrue result → IsRunning self.new }
+        ensures same { self.new.fixed ≡ self.old.fixed }
+        ensures sums { IsTrue result → AreRowSums self.new.fixed.rows.items.value.items self.new.positions.items self.new.nonbasic_values.items row_sums.new.items }
     {
+        let left = self.nonbasic_values[entering];
         let Some(denominator) = pivot_parts(
             &self.fixed.bounds,
             &self.fixed.rows,
@@ -149,37 +173,56 @@ impl RunningTableau {
         ) else {
             return false;
         };
+        let bound = self.nonbasic_values[leaving];
+        turn_kept_sums(row_sums, columns, leaving, bound, entering, left);
         self.denominator = denominator;
         self.pivots += 1;
         true
     }
 
     /// One step of the run: where it ends, if it ends here; none where it is given up.
-    pub(crate) fn step(&mut self, room: &mut IntegerRow) -> Option<Option<Place>>
+    pub(crate) fn step(
+        &mut self,
+        columns: &Option<CoefficientColumns>,
+        row_sums: &mut Vec<i64>,
+        room: &mut IntegerRow,
+    ) -> Option<Option<Place>>
         requires running { IsRunning self.old }
+        requires columns { IfSome columns.now (AreColumnsOf self.old.fixed.rows.items.value.items) }
+        requires sums { AreRowSums self.old.fixed.rows.items.value.items self.old.positions.items self.old.nonbasic_values.items row_sums.old.items }
         requires room { self.old.pivots + 1 < 2 ^ 64 }
         ensures value { IfSome result (λ o. StepsTo (step_at (running_view self.old) (place (running_view self.old))) o (running_view self.new)) }
         ensures counted { IfSome result (λ o. MatchOption o (self.new.pivots ≡ self.old.pivots + 1) (λ _. self.new.pivots ≡ self.old.pivots)) }
         ensures within { IfSome result (λ o. IfSome o (λ p. PlaceIsWithin (length self.new.positions.items) p)) }
         ensures exact { IfSome result (λ o. IfSome o (λ p. p ≢ Place.Cramped)) }
         ensures running { IfSome result (λ o. IsRunning self.new) }
+        ensures same { self.new.fixed ≡ self.old.fixed }
+        ensures sums { IfSome result (λ o. AreRowSums self.new.fixed.rows.items.value.items self.new.positions.items self.new.nonbasic_values.items row_sums.new.items) }
     {
-        let Some(place) = self.place(room) else {
+        let Some(place) = self.place(columns, row_sums, room) else {
             return None;
         };
         let Place::Pivot { row, column } = place else {
             return Some(Some(place));
         };
-        if self.turn(room, row, column) {
+        if self.turn(columns, row_sums, room, row, column) {
             Some(None)
         } else {
             None
         }
     }
 
-    /// The run with at most `cap` further pivots, as `IntegerTableau::run` makes it.
-    pub(crate) fn run(self, cap: u64) -> Result<IntegerRunEnd, u64>
+    /// The run with at most `cap` further pivots, as `IntegerTableau::run` makes it, by the columns of the linear program and the sums of its rows where they
+    /// are kept.
+    pub(crate) fn run(
+        self,
+        columns: &Option<CoefficientColumns>,
+        row_sums: Vec<i64>,
+        cap: u64,
+    ) -> Result<IntegerRunEnd, u64>
         requires running { IsRunning self }
+        requires columns { IfSome columns.now (AreColumnsOf self.fixed.rows.items.value.items) }
+        requires sums { AreRowSums self.fixed.rows.items.value.items self.positions.items self.nonbasic_values.items row_sums.items }
         requires room { self.pivots + cap < 2 ^ 64 }
         ensures value { IfOk result (λ e. EndsAs (run_from cap (running_view self)) e.place e.tableau) }
         ensures within { IfOk result (λ e. PlaceIsWithin (length e.tableau.statuses) e.place) }
@@ -189,9 +232,10 @@ impl RunningTableau {
         ensures given_up { IfErr result (λ made. made ≤ cap) }
     {
         let mut running = self;
+        let mut row_sums = row_sums;
         let mut room = IntegerRow::empty(*running.rows.allocator());
         for made in 0..cap {
-            match running.step(&mut room) {
+            match running.step(columns, &mut row_sums, &mut room) {
                 Some(None) => {}
                 Some(Some(place)) => {
                     let tableau = running.into_tableau();
@@ -200,7 +244,7 @@ impl RunningTableau {
                 None => return Err(made),
             }
         }
-        match running.place(&mut room) {
+        match running.place(columns, &row_sums, &mut room) {
             Some(place) => {
                 let tableau = running.into_tableau();
                 Ok(IntegerRunEnd { place, tableau })

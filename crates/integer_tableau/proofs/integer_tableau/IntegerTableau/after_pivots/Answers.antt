@@ -7,6 +7,7 @@ use Rattle.integer_tableau.proofs.integer_tableau.IntegerTableau.after_pivots.Go
 pub loop-i-preserved : goal.loop-i-preserved
 loop-i-preserved c = record {
   running = c.in-Some-None.ensures.running;
+  sums = c.in-Some-None.ensures.sums;
   same = λ cap.
       let e : suc (c.args.count - (c.loop-i._i + 1) + cap) ≡ c.args.count - c.loop-i._i + cap = omega arith in
       sym (step_goes_on (run_from (c.args.count - (c.loop-i._i + 1) + cap)) _ _ _ c.in-Some-None.ensures.value c.in-Some-None.field-0-is)

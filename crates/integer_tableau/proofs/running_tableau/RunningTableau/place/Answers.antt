@@ -10,20 +10,22 @@ use Rattle.integer_tableau.specs.Entering.{entering_by_numerators}
 use Rattle.integer_tableau.specs.Leaving.{leaving_by_numerators}
 use Rattle.integer_tableau.specs.Positions.{AreNonbasic}
 use Rattle.integer_tableau.specs.Place.{place_of_candidate}
+use Rattle.integer_tableau.proofs.RowSums.{bounded_from_code}
+use Rattle.integer_tableau.specs.RowSums.{AreColumnsOf, AreRowSums}
 use Rattle.integer_tableau.specs.Running.{HasRow, running_view}
 use Rattle.integer_tableau.specs.declared.entering.Candidate.{Candidate}
 use Rattle.tableau.specs.declared.place.Place.TheVariants.{NoColumn, Pivot}
 use Rattle.tableau.specs.Place.{PlaceIsWithin}
 use Rattle.integer_tableau.proofs.running_tableau.RunningTableau.place.Goals as goal
 
-pub leaving-requires-clause-near : goal.leaving-requires-clause-near
-leaving-requires-clause-near c =
+pub leaving_with_sums-requires-clause-near : goal.leaving_with_sums-requires-clause-near
+leaving_with_sums-requires-clause-near c =
     let n = c.args.self.now in
     let f : SFits w64 n.denominator = search rules in
     near_from_code _ _ _ _ c.requires.running.compact c.deref-4.result.now c.deref-5.result.now _ c.deref-4.ensures.value c.deref-5.ensures.value (ap nat_abs (to_z-of_z w64 n.denominator f))
 
-pub leaving-requires-clause-basic : goal.leaving-requires-clause-basic
-leaving-requires-clause-basic c = c.deref-6.ensures.value ∙ c.requires.running.basic
+pub leaving_with_sums-requires-clause-basic : goal.leaving_with_sums-requires-clause-basic
+leaving_with_sums-requires-clause-basic c = c.deref-6.ensures.value ∙ c.requires.running.basic
     ∙ (λ i. basic_from 0 ((sym c.requires.running.compact.values ∙ ap length (sym c.deref-5.ensures.value)) i) (sym c.deref-2.ensures.value i))
 
 pub place_where_leaving-requires-clause-small : goal.place_where_leaving-requires-clause-small
@@ -96,3 +98,14 @@ returns-in-Some-clause-row c =
     (λ l. row (omega (arith, l, ap length c.deref-in-Some-6.ensures.value))
     ∙ (λ i. get_or (expanded_rows (nat_abs (d i)) (c.deref-in-Some.ensures.value i) (c.deref-in-Some-2.ensures.value i) (c.deref-in-Some-6.ensures.value i)) c.in-Some.row [])))
     c.place_where_leaving.ensures.value c.place_where_leaving.ensures.row
+
+pub leaving_with_sums-requires-clause-columns : goal.leaving_with_sums-requires-clause-columns
+leaving_with_sums-requires-clause-columns c = subst (λ ps. IfSome c.args.columns.now (AreColumnsOf ps)) (sym c.deref.ensures.value) c.requires.columns
+
+pub leaving_with_sums-requires-clause-sums : goal.leaving_with_sums-requires-clause-sums
+leaving_with_sums-requires-clause-sums c =
+    subst (λ (T : Type 0). T) (λ i. AreRowSums (sym c.deref.ensures.value i) (sym c.deref-2.ensures.value i) (sym c.deref-4.ensures.value i) c.args.row_sums.now) c.requires.sums
+
+pub leaving_with_sums-requires-clause-bounded : goal.leaving_with_sums-requires-clause-bounded
+leaving_with_sums-requires-clause-bounded c =
+    bounded_from_code _ _ _ _ c.requires.running.compact c.deref-4.result.now c.deref-5.result.now c.deref-4.ensures.value c.deref-5.ensures.value

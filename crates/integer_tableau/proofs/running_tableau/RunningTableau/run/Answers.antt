@@ -1,4 +1,4 @@
-use Rattle.std.proofs.Common.{arith, ◌≡◌, ◌+◌, ◌-◌, suc, sym, subst}
+use Rattle.std.proofs.Common.{arith, ◌≡◌, ◌+◌, ◌-◌, ◌∙◌, suc, sym, subst}
 use Rattle.tableau.specs.Place.{PlaceIsWithin}
 use Rattle.tableau.specs.Run.{EndsAs, run_from}
 use Rattle.integer_tableau.specs.Lemmas.Runs.{at_cap}
@@ -24,6 +24,8 @@ loop-made-preserved c =
     let e : c.args.cap - c.loop-made.made ≡ suc (c.args.cap - (c.loop-made.made + 1)) = omega arith in
     record {
       running = c.in-Some-None.ensures.running;
+      fixed = c.step.ensures.same ∙ c.loop-made.invariant.fixed;
+      sums = c.in-Some-None.ensures.sums;
       same = rw (← c.loop-made.invariant.same, e) (sym (step_goes_on (run_from (c.args.cap - (c.loop-made.made + 1))) _ _ _ c.in-Some-None.ensures.value c.in-Some-None.field-0-is));
       counted = omega (arith, step_counted _ _ _ _ c.in-Some-None.ensures.counted c.in-Some-None.field-0-is, c.loop-made.invariant.counted);
     }

@@ -1,9 +1,14 @@
-use Rattle.std.proofs.Common.{◌≡◌, ◌+◌, refl, Some, ap, length, rules, sym, subst, ◌∙◌, pos, ◌<ℤ◌, w64, to_z, of_z}
+use Rattle.std.proofs.Common.{◌≡◌, ◌≢◌, ◌<◌, ◌+◌, arith, get_or, get_or-set_other, get_or-set_same, set, refl, Some, ap, length, rules, sym, subst, ◌∙◌, pos, ◌<ℤ◌, w64, to_z, of_z}
 use mir.Val.{SFits}
 use Rattle.std.specs.Vec.{with_items}
 use Rattle.tableau.specs.Pivot.{pivoted}
 use Rattle.std.proofs.lemmas.Int.{to_z-of_z}
 use Rattle.integer_tableau.proofs.FromCode.{carried}
+use Rattle.std.proofs.lemmas.List.{get_or_default}
+use Rattle.integer_tableau.proofs.Exchanges.{nonbasic_values_exchanged, positions_exchanged}
+use Rattle.integer_tableau.specs.Numbers.{number_at}
+use Rattle.integer_tableau.specs.RowSums.{AreRowSums}
+use Rattle.integer_tableau.specs.declared.position.Position.TheVariants.{InBasis, InColumn}
 use Rattle.integer_tableau.proofs.Sizes.{written}
 use Rattle.integer_tableau.specs.BasicColumns.{basic_from}
 use Rattle.integer_tableau.specs.Combined.{IsCompact, expanded}
@@ -70,3 +75,31 @@ returns-clause-running c = λ _.
           ∙ sym (ap length rows_are ∙ c.pivot_parts.auto.rows ∙ ap length c.deref_mut-5.ensures.value);
       basic = c.in-Some.ensures.basic ∙ (λ i. basic_from 0 (length (sym rows_are i)) (sym positions_are i));
     }
+
+pub returns-clause-sums : goal.returns-clause-sums
+returns-clause-sums c = λ _.
+    let n = c.args.self.now in
+    let m = c.pivot_parts.new in
+    let x = c.in-Some.ensures.exchanged in
+    let ps = n.fixed.rows.items.value.items in
+    let ss = n.positions.items in
+    let xs = n.nonbasic_values.items in
+    let r = c.args.leaving in
+    let e = c.args.entering in
+    let fl : SFits w64 c.index-left.result.now = search rules in
+    let fb : SFits w64 c.index-bound.result.now = search rules in
+    let many : length xs ≡ length ss = c.requires.running.compact.consistent.nonbasic_values in
+    let leaving : get_or ss r InBasis ≡ InBasis = subst (λ ss. get_or ss r InBasis ≡ InBasis) c.deref_mut.ensures.value x.leaving in
+    let entering : get_or ss e InBasis ≡ InColumn x.column = subst (λ ss. get_or ss e InBasis ≡ InColumn x.column) c.deref_mut.ensures.value x.entering in
+    let apart : r ≢ e = λ q. let no : InBasis ≡ InColumn x.column = sym leaving ∙ ap (λ v. get_or ss v InBasis) q ∙ entering in cc in
+    let positions_are = written m.positions ss n.positions.len (c.pivot_parts.auto.positions ∙ c.deref_mut.ensures.len) ∙ x.positions ∙ ap (positions_exchanged r e x.column) c.deref_mut.ensures.value in
+    let values_are = written m.nonbasic_values xs n.nonbasic_values.len (c.pivot_parts.auto.nonbasic_values ∙ c.deref_mut-4.ensures.len) ∙ x.values
+    ∙ ap (nonbasic_values_exchanged r e x.bound) c.deref_mut-4.ensures.value in
+    let there : r < length xs = omega (arith, many, c.requires.leaving_there) in
+    let left : number_at xs e ≡ to_z w64 (of_z w64 c.index-left.result.now) =
+    sym (to_z-of_z w64 c.index-left.result.now fl ∙ c.index-left.ensures ∙ get_or_default xs e c.index-left.result.now (pos 0) (omega (arith, many, c.requires.entering_there))) in
+    let bound : to_z w64 (of_z w64 c.index-bound.result.now) ≡ x.bound =
+    to_z-of_z w64 c.index-bound.result.now fb ∙ c.index-bound.ensures ∙ ap (λ ys. get_or ys r c.index-bound.result.now) values_are
+    ∙ get_or-set_other (set xs r x.bound) e r (pos 0) c.index-bound.result.now apart ∙ get_or-set_same xs r x.bound c.index-bound.result.now there in
+    subst (λ (T : Type 0). T) (λ i. AreRowSums ps (sym positions_are i) ((ap (λ b. nonbasic_values_exchanged r e b xs) bound ∙ sym values_are) i) c.turn_kept_sums.new.row_sums.items)
+    (c.turn_kept_sums.ensures ps ss xs x.column x.column c.requires.columns c.requires.sums many c.requires.leaving_there c.requires.entering_there leaving entering left)
