@@ -1,6 +1,6 @@
 // The run of a linear program over a box.
 
-ghost use Rattle.std.specs.Prelude.{◌≡◌, ◌≢◌, ◌≤◌, ◌<◌, ◌++◌, drop, length, map, IfOk, IfErr, IfSome};
+ghost use Rattle.std.specs.Prelude.{◌≡◌, ◌≢◌, ◌≤◌, ◌<◌, ◌++◌, ℕ, drop, length, map, slice_index_or, IfOk, IfErr, IfSome};
 ghost use Rattle.tableau.specs.LinearProgram.{over};
 ghost use Rattle.tableau.specs.Place.{PlaceIsWithin};
 ghost use Rattle.integer_tableau.specs.FinalNumbers.{AreNumbersOver};
@@ -8,6 +8,8 @@ ghost use Rattle.integer_tableau.specs.IntegerProgram.{CanStart, column_bounds, 
 ghost use Rattle.integer_tableau.specs.Kept.{AreKept};
 ghost use Rattle.integer_tableau.specs.RowSums.{AreColumnsOf, AreColumnSums};
 ghost use Rattle.integer_tableau.specs.Run.{IsRunOver};
+ghost use Rattle.integer_tableau.specs.Running.{IsRunning, running_view};
+ghost use Rattle.tableau.specs.Run.{EndsAs, run_from};
 ghost use Rattle.integer_tableau.specs.StoredRun.{IsStoredRun};
 
 use crate::basic_solution::BasicSolution;
@@ -17,9 +19,10 @@ use crate::final_numbers::FinalNumbers;
 use crate::integer_bounds::IntegerBounds;
 use crate::integer_program::{IntegerProgram, bounds_over};
 use crate::integer_row::IntegerRow;
-use crate::integer_tableau::IntegerTableau;
+use crate::position::Position;
 use crate::program_row::ProgramRow;
 use crate::run::IntegerRunEnd;
+use crate::running_tableau::RunningTableau;
 use crate::start_sums::StartSums;
 use crate::stored_run::{StoredEnd, run_stored};
 use problem_box::IntBox;
@@ -77,6 +80,62 @@ fn run_by_store(
     )))
 }
 
+/// The run of a tableau at the start, of so many columns, with at most `cap` pivots. The error inside says that the run is given up, and how many pivots it
+/// made before. The one error outside is want of memory.
+fn run_from_start(
+    alloc: Global,
+    width: usize,
+    columns: &Option<CoefficientColumns>,
+    start: RunningTableau,
+    cap: u64,
+) -> Result<Result<IntegerRunEnd, u64>, AllocError>
+    requires running { IsRunning start }
+    requires columns { IfSome columns.now (AreColumnsOf start.fixed.rows.items.value.items) }
+    requires width { width ≤ length start.positions.items }
+    requires nonbasic { (j : ℕ) → j < width → slice_index_or start.positions.items j Position.InBasis ≢ Position.InBasis }
+    requires fresh { start.pivots ≡ 0 }
+    ensures value { IfOk result (λ r. IfOk r (λ e. EndsAs (run_from cap (running_view start)) e.place e.tableau)) }
+    ensures within { IfOk result (λ r. IfOk r (λ e. PlaceIsWithin (length e.tableau.statuses) e.place)) }
+    ensures exact { IfOk result (λ r. IfOk r (λ e. e.place ≢ Place.Cramped)) }
+    ensures capped { IfOk result (λ r. IfOk r (λ e. e.tableau.pivots ≤ cap)) }
+    ensures given_up { IfOk result (λ r. IfErr r (λ made. made ≤ cap)) }
+{
+    let mut sums = StartSums::new(alloc);
+    let row_sums = sums.row_sums(alloc, columns, width, &start.nonbasic_values)?;
+    Ok(start.run(columns, row_sums, cap))
+}
+
+/// The run over a box from the start by a tableau of its own, with at most `cap` pivots; none where there is no start on such numbers. The error inside says
+/// that the run is given up, and how many pivots it made before. The one error outside is want of memory.
+fn run_by_tableau(
+    alloc: Global,
+    area: &IntBox,
+    cap: u64,
+    numbers: &[u32],
+    program_rows: &RcSlice<ProgramRow>,
+    columns: &Option<CoefficientColumns>,
+    weight: u64,
+    costs: &IntegerRow,
+    bounds: &[IntegerBounds],
+) -> Result<Option<Result<IntegerRunEnd, u64>>, AllocError>
+    requires program { CanStart program_rows.now.items.value.items weight costs.now bounds.now }
+    requires area { length area.now ≡ length costs.now }
+    requires columns { IfSome columns.now (AreColumnsOf program_rows.now.items.value.items) }
+    ensures value { IfOk result (λ o. IfSome o (λ r. IfOk r (λ e. IsRunOver (fraction_program program_rows.now.items.value.items costs.now (map column_bounds area.now ++ drop (length costs.now) bounds.now) numbers.now) cap e.place e.tableau))) }
+    ensures within { IfOk result (λ o. IfSome o (λ r. IfOk r (λ e. PlaceIsWithin (length e.tableau.statuses) e.place))) }
+    ensures exact { IfOk result (λ o. IfSome o (λ r. IfOk r (λ e. e.place ≢ Place.Cramped))) }
+    ensures capped { IfOk result (λ o. IfSome o (λ r. IfOk r (λ e. e.tableau.pivots ≤ cap))) }
+    ensures given_up { IfOk result (λ o. IfSome o (λ r. IfErr r (λ made. made ≤ cap))) }
+{
+    let bounds = bounds_over(alloc, area, costs.width(), bounds)?;
+    let numbers = Vec::from_slice(alloc, numbers)?;
+    let started = RunningTableau::start(alloc, program_rows, weight, costs, bounds, numbers)?;
+    match started {
+        Some(start) => Ok(Some(run_from_start(alloc, costs.width(), columns, start, cap)?)),
+        None => Ok(None),
+    }
+}
+
 impl IntegerProgram {
     /// The run over a box, by a tableau of its own.
     fn run_apart(
@@ -92,10 +151,17 @@ impl IntegerProgram {
         ensures capped { IfOk result (λ o. IfSome o (λ r. IfOk r (λ e. e.tableau.pivots ≤ cap))) }
         ensures given_up { IfOk result (λ o. IfSome o (λ r. IfErr r (λ made. made ≤ cap))) }
     {
-        match IntegerTableau::start(alloc, self, area)? {
-            Some(start) => Ok(Some(start.run(cap))),
-            None => Ok(None),
-        }
+        run_by_tableau(
+            alloc,
+            area,
+            cap,
+            &self.numbers,
+            &self.rows,
+            &self.columns,
+            self.weight,
+            &self.costs,
+            &self.bounds,
+        )
     }
 
     /// What is asked of the tableau of that run. None where there is no start on such numbers.
