@@ -86,6 +86,7 @@ fn run_from_start(
     alloc: Global,
     width: usize,
     columns: &Option<CoefficientColumns>,
+    start_sums: &mut StartSums,
     start: RunningTableau,
     cap: u64,
 ) -> Result<Result<IntegerRunEnd, u64>, AllocError>
@@ -94,14 +95,15 @@ fn run_from_start(
     requires width { width ≤ length start.positions.items }
     requires nonbasic { (j : ℕ) → j < width → slice_index_or start.positions.items j Position.InBasis ≢ Position.InBasis }
     requires fresh { start.pivots ≡ 0 }
+    requires sums { AreColumnSums start.fixed.rows.items.value.items start_sums.old.values.items start_sums.old.sums.items }
     ensures value { IfOk result (λ r. IfOk r (λ e. EndsAs (run_from cap (running_view start)) e.place e.tableau)) }
     ensures within { IfOk result (λ r. IfOk r (λ e. PlaceIsWithin (length e.tableau.statuses) e.place)) }
     ensures exact { IfOk result (λ r. IfOk r (λ e. e.place ≢ Place.Cramped)) }
     ensures capped { IfOk result (λ r. IfOk r (λ e. e.tableau.pivots ≤ cap)) }
     ensures given_up { IfOk result (λ r. IfErr r (λ made. made ≤ cap)) }
+    ensures sums { AreColumnSums start.fixed.rows.items.value.items start_sums.new.values.items start_sums.new.sums.items }
 {
-    let mut sums = StartSums::new(alloc);
-    let row_sums = sums.row_sums(alloc, columns, width, &start.nonbasic_values)?;
+    let row_sums = start_sums.row_sums(alloc, columns, width, &start.nonbasic_values)?;
     Ok(start.run(columns, row_sums, cap))
 }
 
@@ -114,6 +116,7 @@ fn run_by_tableau(
     numbers: &[u32],
     program_rows: &RcSlice<ProgramRow>,
     columns: &Option<CoefficientColumns>,
+    start_sums: &mut StartSums,
     weight: u64,
     costs: &IntegerRow,
     bounds: &[IntegerBounds],
@@ -121,17 +124,22 @@ fn run_by_tableau(
     requires program { CanStart program_rows.now.items.value.items weight costs.now bounds.now }
     requires area { length area.now ≡ length costs.now }
     requires columns { IfSome columns.now (AreColumnsOf program_rows.now.items.value.items) }
+    requires sums { AreColumnSums program_rows.now.items.value.items start_sums.old.values.items start_sums.old.sums.items }
     ensures value { IfOk result (λ o. IfSome o (λ r. IfOk r (λ e. IsRunOver (fraction_program program_rows.now.items.value.items costs.now (map column_bounds area.now ++ drop (length costs.now) bounds.now) numbers.now) cap e.place e.tableau))) }
     ensures within { IfOk result (λ o. IfSome o (λ r. IfOk r (λ e. PlaceIsWithin (length e.tableau.statuses) e.place))) }
     ensures exact { IfOk result (λ o. IfSome o (λ r. IfOk r (λ e. e.place ≢ Place.Cramped))) }
     ensures capped { IfOk result (λ o. IfSome o (λ r. IfOk r (λ e. e.tableau.pivots ≤ cap))) }
     ensures given_up { IfOk result (λ o. IfSome o (λ r. IfErr r (λ made. made ≤ cap))) }
+    ensures sums { AreColumnSums program_rows.now.items.value.items start_sums.new.values.items start_sums.new.sums.items }
 {
     let bounds = bounds_over(alloc, area, costs.width(), bounds)?;
     let numbers = Vec::from_slice(alloc, numbers)?;
     let started = RunningTableau::start(alloc, program_rows, weight, costs, bounds, numbers)?;
     match started {
-        Some(start) => Ok(Some(run_from_start(alloc, costs.width(), columns, start, cap)?)),
+        Some(start) => {
+            let run = run_from_start(alloc, costs.width(), columns, start_sums, start, cap)?;
+            Ok(Some(run))
+        }
         None => Ok(None),
     }
 }
@@ -139,17 +147,18 @@ fn run_by_tableau(
 impl IntegerProgram {
     /// The run over a box, by a tableau of its own.
     fn run_apart(
-        &self,
+        &mut self,
         alloc: Global,
         area: &IntBox,
         cap: u64,
     ) -> Result<Option<Result<IntegerRunEnd, u64>>, AllocError>
-        requires { length area.now ≡ length self.now.costs }
-        ensures value { IfOk result (λ o. IfSome o (λ r. IfOk r (λ e. IsRunOver (over self.now area.now) cap e.place e.tableau))) }
+        requires { length area.now ≡ length self.old.costs }
+        ensures value { IfOk result (λ o. IfSome o (λ r. IfOk r (λ e. IsRunOver (over self.old area.now) cap e.place e.tableau))) }
         ensures within { IfOk result (λ o. IfSome o (λ r. IfOk r (λ e. PlaceIsWithin (length e.tableau.statuses) e.place))) }
         ensures exact { IfOk result (λ o. IfSome o (λ r. IfOk r (λ e. e.place ≢ Place.Cramped))) }
         ensures capped { IfOk result (λ o. IfSome o (λ r. IfOk r (λ e. e.tableau.pivots ≤ cap))) }
         ensures given_up { IfOk result (λ o. IfSome o (λ r. IfErr r (λ made. made ≤ cap))) }
+        ensures same { self.new ≡ self.old }
     {
         run_by_tableau(
             alloc,
@@ -158,6 +167,7 @@ impl IntegerProgram {
             &self.numbers,
             &self.rows,
             &self.columns,
+            &mut self.start_sums,
             self.weight,
             &self.costs,
             &self.bounds,
@@ -166,16 +176,17 @@ impl IntegerProgram {
 
     /// What is asked of the tableau of that run. None where there is no start on such numbers.
     fn numbers_apart(
-        &self,
+        &mut self,
         alloc: Global,
         area: &IntBox,
         cap: u64,
     ) -> Result<Option<Result<FinalNumbers, u64>>, AllocError>
-        requires { length area.now ≡ length self.now.costs }
-        ensures value { IfOk result (λ o. IfSome o (λ r. IfOk r (AreNumbersOver (over self.now area.now) cap))) }
+        requires { length area.now ≡ length self.old.costs }
+        ensures value { IfOk result (λ o. IfSome o (λ r. IfOk r (AreNumbersOver (over self.old area.now) cap))) }
         ensures exact { IfOk result (λ o. IfSome o (λ r. IfOk r (λ n. n.place ≢ Place.Cramped))) }
         ensures capped { IfOk result (λ o. IfSome o (λ r. IfOk r (λ n. n.pivots ≤ cap))) }
         ensures given_up { IfOk result (λ o. IfSome o (λ r. IfErr r (λ made. made ≤ cap))) }
+        ensures same { self.new ≡ self.old }
     {
         match self.run_apart(alloc, area, cap)? {
             Some(Ok(end)) => {
