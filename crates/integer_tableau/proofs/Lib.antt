@@ -87,3 +87,4 @@ mod NamedCoefficients
 mod FurtherSums
 mod FurtherRows
 mod FurtherKept
+mod RunningSteps

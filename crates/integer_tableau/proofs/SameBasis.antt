@@ -1,9 +1,11 @@
 -- What depends on which variables are basic, and not on the columns of the others.
-use Rattle.std.proofs.Common.{◌≡◌, ℕ, zero, suc, ◌+◌, arith, refl, ap, ◌∙◌, None, List, [], ◌∷◌, ◌++◌}
+use Rattle.std.proofs.Common.{◌≡◌, ℕ, zero, suc, ◌+◌, arith, refl, ap, ◌∙◌, None, List, [], ◌∷◌, ◌++◌, get_or}
 use Rattle.std.specs.Prelude.{ℤ, pos, map, ◌+ℤ◌, ◌*ℤ◌}
 use Rattle.integer_tableau.specs.BasicColumns.{basic_from}
 use Rattle.integer_tableau.specs.Combined.{combined_value, expanded_values}
 use Rattle.integer_tableau.specs.Kept.{HaveSameBasis}
+use Rattle.integer_tableau.specs.RowSums.{AreRowSums, nonbasic_sum}
+use Rattle.std.specs.Int.{w64, int_wrap}
 use Rattle.integer_tableau.specs.Leaving.{leaving_by_numerators, violation_at}
 use Rattle.integer_tableau.specs.declared.integer_bounds.IntegerBounds.{IntegerBounds}
 use Rattle.tableau.specs.Leaving.{found_or}
@@ -58,3 +60,18 @@ same_values d ps ss ts xs vs h = λ i. vs ++ map (λ a. same_value (pos d) a ss 
 pub same_found : (d : ℕ) (ps : List (List ℤ)) (ss ts : List Position) (bs : List IntegerBounds) (xs vs : List ℤ) → HaveSameBasis ss ts
     → leaving_by_numerators d 0 ss bs (expanded_values d ps ss xs vs) ≡ leaving_by_numerators d 0 ts bs (expanded_values d ps ts xs vs)
 same_found d ps ss ts bs xs vs h = ap (leaving_by_numerators d 0 ss bs) (same_values d ps ss ts xs vs h) ∙ same_leaving d 0 ss ts bs (expanded_values d ps ts xs vs) h
+
+-- the sums of rows over the nonbasic columns
+same_sum : (cs : List ℤ) (ss ts : List Position) (xs : List ℤ) → HaveSameBasis ss ts → nonbasic_sum cs ss xs ≡ nonbasic_sum cs ts xs
+same_sum [] ss ts xs h = refl
+same_sum (c ∷ cs) [] [] xs h = refl
+same_sum (c ∷ cs) [] (t ∷ ts) xs h = absurd (omega (arith, h.count))
+same_sum (c ∷ cs) (s ∷ ss) [] xs h = absurd (omega (arith, h.count))
+same_sum (c ∷ cs) (s ∷ ss) (t ∷ ts) [] h = refl
+same_sum (c ∷ cs) (InBasis ∷ ss) (InBasis ∷ ts) (x ∷ xs) h = ap (λ y. c *ℤ pos 0 +ℤ y) (same_sum cs ss ts xs (further InBasis InBasis ss ts h))
+same_sum (c ∷ cs) (InColumn j ∷ ss) (InColumn k ∷ ts) (x ∷ xs) h = ap (λ y. c *ℤ x +ℤ y) (same_sum cs ss ts xs (further (InColumn j) (InColumn k) ss ts h))
+same_sum (c ∷ cs) (InBasis ∷ ss) (InColumn k ∷ ts) (x ∷ xs) h = absurd (let wrong : InColumn k ≡ InBasis = h.to 0 refl in cc)
+same_sum (c ∷ cs) (InColumn j ∷ ss) (InBasis ∷ ts) (x ∷ xs) h = absurd (let wrong : InColumn j ≡ InBasis = h.back 0 refl in cc)
+
+pub same_sums : (ps : List (List ℤ)) (ss ts : List Position) (xs sums : List ℤ) → HaveSameBasis ss ts → AreRowSums ps ss xs sums → AreRowSums ps ts xs sums
+same_sums ps ss ts xs sums h are = λ i l. are i l ∙ ap (int_wrap w64) (same_sum (get_or ps i []) ss ts xs h)

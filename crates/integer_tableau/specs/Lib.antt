@@ -31,3 +31,4 @@ pub mod RowSums
 pub mod StoredRun
 pub mod StoreCalls
 pub mod FinalNumbers
+pub mod Running

@@ -1,5 +1,5 @@
 -- A pivot on whole numbers.
-use Rattle.std.specs.Prelude.{◌≡◌, ◌≢◌, ℕ, ◌<◌, map, ℤ, pos, nat_abs, ◌+ℤ◌, ◌-ℤ◌, ◌*ℤ◌, List, [], length, slice_index_or, Bool, true, false, Some}
+use Rattle.std.specs.Prelude.{◌≡◌, ◌≢◌, ℕ, ◌<◌, map, ℤ, pos, nat_abs, ◌+ℤ◌, ◌-ℤ◌, ◌*ℤ◌, List, [], length, slice_index_or, slice_set, Bool, true, false, Some}
 use Rattle.fraction.specs.Rational.{frac, whole}
 use Rattle.tableau.specs.declared.bounds.Direction.{Direction}
 use Rattle.tableau.specs.declared.bounds.Direction.TheVariants.{Rise, Fall}
@@ -55,3 +55,12 @@ pub record IsPivoted (program_rows : List (List ℤ)) (weight reach r c : ℕ) (
   pub columns : length u.rows ≡ length t.rows
   pub pivoted : (numbers : List ℕ) → pivoted r c (tableau_of (length t.rows) numbers (expanded program_rows t)) ≡ Some (tableau_of (length t.rows) numbers (expanded program_rows u))
   pub compact : IsCompact program_rows weight reach u
+
+-- r left the basis for the column of c, to some bound, and c came into it: so went the positions from ss to ts, and the nonbasic values from xs to ys
+pub record IsExchange (r c : ℕ) (ss ts : List Position) (xs ys : List ℤ) : Type 0 where
+  pub column : ℕ
+  pub bound : ℤ
+  pub leaving : slice_index_or ss r InBasis ≡ InBasis
+  pub entering : slice_index_or ss c InBasis ≡ InColumn column
+  pub positions : ts ≡ slice_set (slice_set ss r (InColumn column)) c InBasis
+  pub values : ys ≡ slice_set (slice_set xs r bound) c (pos 0)

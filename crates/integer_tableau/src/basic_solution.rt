@@ -5,7 +5,8 @@ ghost use Rattle.integer_tableau.specs.Exits.{IsOnceEach};
 ghost use Rattle.integer_tableau.specs.IntegerProgram.{column_bounds};
 ghost use Rattle.integer_tableau.specs.Kept.{IsAt, IsKept, IsStartSolution, kept_at, view_of};
 ghost use Rattle.integer_tableau.specs.Positions.{AreNonbasic};
-ghost use Rattle.integer_tableau.specs.RowSums.{AreColumnsOf, AreColumnSums};
+ghost use Rattle.integer_tableau.specs.RowSums.{AreColumnsOf, AreColumnSums, AreRowSums};
+ghost use Rattle.integer_tableau.specs.Running.{IsRunning, running_view};
 
 use crate::coefficient_columns::CoefficientColumns;
 use crate::dictionary::Dictionaries;
@@ -15,6 +16,7 @@ use crate::integer_tableau::{Fixed, IntegerTableau};
 use crate::pivot::is_near;
 use crate::position::Position;
 use crate::program_row::ProgramRow;
+use crate::running_tableau::RunningTableau;
 use crate::start::{empty_rows, has_room, reach_of};
 use crate::start_lists::{
     put_at_upper, put_bounds, put_free, put_numbers, put_positions, put_zeros,
@@ -216,8 +218,33 @@ impl BasicSolution {
         requires at { IsAt program_rows.now.items.value.items weight (kept_at dictionaries.now.all place) self }
         ensures { IfOk result (λ t. t ≡ view_of numbers.now program_rows.now.items.value.items (kept_at dictionaries.now.all place) self) }
     {
+        match self.into_running(alloc, numbers, program_rows, weight, dictionaries, place) {
+            Ok((running, _)) => Ok(running.into_tableau()),
+            Err(error) => Err(error),
+        }
+    }
+
+    /// The same by its parts, and the sums of rows. The one error is want of memory.
+    pub(crate) fn into_running(
+        self,
+        alloc: Global,
+        numbers: &[u32],
+        program_rows: &RcSlice<ProgramRow>,
+        weight: u64,
+        dictionaries: &Dictionaries,
+        place: usize,
+    ) -> Result<(RunningTableau, Vec<i64>), AllocError>
+        requires there { place < length dictionaries.now.all }
+        requires kept { (costs : List ℤ) × IsKept program_rows.now.items.value.items weight costs (kept_at dictionaries.now.all place) }
+        requires at { IsAt program_rows.now.items.value.items weight (kept_at dictionaries.now.all place) self }
+        ensures running { IfOk result (λ p. IsRunning p.0) }
+        ensures view { IfOk result (λ p. running_view p.0 ≡ view_of numbers.now program_rows.now.items.value.items (kept_at dictionaries.now.all place) self) }
+        ensures pivots { IfOk result (λ p. p.0.pivots ≡ self.pivots) }
+        ensures rows { IfOk result (λ p. p.0.fixed.rows.items.value.items ≡ program_rows.now.items.value.items) }
+        ensures sums { IfOk result (λ p. AreRowSums p.0.fixed.rows.items.value.items p.0.positions.items p.0.nonbasic_values.items p.1.items) }
+    {
         let own = dictionaries.tableau_parts(alloc, numbers, program_rows, place)?;
-        Ok(IntegerTableau {
+        let running = RunningTableau {
             fixed: Fixed {
                 numbers: own.numbers,
                 bounds: self.bounds,
@@ -230,12 +257,12 @@ impl BasicSolution {
             at_upper: self.at_upper,
             nonbasic_values: self.nonbasic_values,
             rows: own.rows,
-            spare: IntegerRow::empty(alloc),
             reduced_costs: own.reduced_costs,
             values: self.values,
             basic_columns: own.basic_columns,
             denominator: dictionaries.divisor(place).number(),
             pivots: self.pivots,
-        })
+        };
+        Ok((running, self.row_sums))
     }
 }

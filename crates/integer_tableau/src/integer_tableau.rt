@@ -108,7 +108,6 @@ impl IntegerTableau {
         match found {
             None => Some(Place::Done),
             Some((row, direction)) => place_where_leaving(
-                *self.rows.allocator(),
                 row,
                 direction,
                 &self.fixed.rows,
@@ -117,6 +116,7 @@ impl IntegerTableau {
                 &self.at_upper,
                 &self.fixed.bounds,
                 &self.rows,
+                &mut IntegerRow::empty(*self.rows.allocator()),
                 &self.reduced_costs,
                 self.denominator,
             ),

@@ -43,6 +43,7 @@ mod reading;
 mod request;
 mod row_sums;
 mod run;
+mod running_tableau;
 mod same_basis;
 mod scaling;
 mod start;

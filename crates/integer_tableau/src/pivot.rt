@@ -1,6 +1,6 @@
 // Pivots.
 
-ghost use Rattle.std.specs.Prelude.{◌≡◌, ℕ, ◌+◌, ◌*◌, ◌-◌, ◌<◌, ◌^◌, List, ℤ, [], pos, nat_abs, ◌-ℤ◌, ◌*ℤ◌, ◌<ℤ◌, length, slice_index_or, slice_set, IsTrue, IfSome, Some};
+ghost use Rattle.std.specs.Prelude.{◌≡◌, ℕ, ◌+◌, ◌*◌, ◌-◌, ◌<◌, ◌≤◌, ◌^◌, List, ℤ, [], pos, nat_abs, ◌-ℤ◌, ◌*ℤ◌, ◌<ℤ◌, length, slice_index_or, slice_set, IsTrue, IfSome, Some};
 ghost use Rattle.tableau.specs.Pivot.{pivoted};
 ghost use Rattle.integer_tableau.specs.Numbers.{number_at, IsWithin, total_size};
 ghost use Rattle.integer_tableau.specs.Range.{size_limit};
@@ -9,7 +9,7 @@ ghost use Rattle.integer_tableau.specs.IntegerTableau.{of_parts};
 ghost use Rattle.integer_tableau.specs.Positions.{AreNonbasic};
 ghost use Rattle.integer_tableau.specs.BasicColumns.{basic_from, HaveRows};
 ghost use Rattle.integer_tableau.specs.Combined.{expanded_rows, expanded_values, IsCompact};
-ghost use Rattle.integer_tableau.specs.Pivot.{is_upper, IsPivotOf, AreSubstitutedValues, IsEliminated, IsPivoted};
+ghost use Rattle.integer_tableau.specs.Pivot.{is_upper, IsPivotOf, AreSubstitutedValues, IsEliminated, IsExchange, IsPivoted};
 
 use crate::basic_columns::exchange_columns;
 use crate::combination::combined_value;
@@ -86,10 +86,12 @@ pub(crate) fn value_of(
     }
 }
 
-/// Puts the row of a basic variable into `leaving_row`, and leaves none in its place; false where it isn't kept, and memory is wanting.
+/// Puts the row of a basic variable into `leaving_row`, and leaves none in its place; one that isn't kept may be there already. False where it isn't kept,
+/// and memory is wanting.
 fn take_row(
     rows: &mut [IntegerRow],
     leaving_row: &mut IntegerRow,
+    row_made: bool,
     program_rows: &[ProgramRow],
     positions: &[Position],
     denominator: i64,
@@ -101,6 +103,7 @@ fn take_row(
     requires full { (i : ℕ) → i < length program_rows.now → length (slice_index_or program_rows.now i []) ≡ length rows.old }
     requires positive { pos 0 <ℤ denominator }
     requires small { IsWithin (size_limit - 1) (slice_index_or (expanded_rows (nat_abs denominator) program_rows.now positions.now rows.old) leaving []) }
+    requires made { IsTrue row_made → length rows.old ≤ leaving → leaving_row.old ≡ slice_index_or (expanded_rows (nat_abs denominator) program_rows.now positions.now rows.old) leaving [] }
     ensures row { IsTrue result → leaving_row.new ≡ slice_index_or (expanded_rows (nat_abs denominator) program_rows.now positions.now rows.old) leaving [] }
     ensures rows { IsTrue result → rows.new ≡ slice_set rows.old leaving [] }
 {
@@ -108,6 +111,8 @@ fn take_row(
     if leaving < columns {
         leaving_row.clear();
         mem::swap(&mut rows[leaving], leaving_row);
+        true
+    } else if row_made {
         true
     } else {
         leaving_row.combine_small(
@@ -169,7 +174,7 @@ fn exchange_of(
     })
 }
 
-/// Takes the leaving row out of the rows, into `leaving_row`. The answer is the numerator of the leaving variable's value, and the pivot, if
+/// Takes the leaving row out of the rows, into `leaving_row`, where it may be already if it isn't kept. The answer is the numerator of the leaving variable's value, and the pivot, if
 /// it can be made.
 fn leave(
     bounds: &[IntegerBounds],
@@ -178,6 +183,7 @@ fn leave(
     nonbasic_values: &[i64],
     rows: &mut [IntegerRow],
     leaving_row: &mut IntegerRow,
+    row_made: bool,
     values: &[i64],
     denominator: i64,
     leaving: usize,
@@ -195,6 +201,7 @@ fn leave(
     requires light { (i : ℕ) → i < length program_rows.now → total_size (slice_index_or program_rows.now i []) < size_limit }
     requires near { (j : ℕ) → j < length values.now → nat_abs (number_at nonbasic_values.now j) * nat_abs denominator < 2 ^ 63 }
     requires small { IsWithin (size_limit - 1) (slice_index_or (expanded_rows (nat_abs denominator) program_rows.now positions.now rows.old) leaving []) }
+    requires made { IsTrue row_made → length rows.old ≤ leaving → leaving_row.old ≡ slice_index_or (expanded_rows (nat_abs denominator) program_rows.now positions.now rows.old) leaving [] }
     ensures value { IfSome result (λ e. e.0 ≡ number_at (expanded_values (nat_abs denominator) program_rows.now positions.now nonbasic_values.now values.now) leaving) }
     ensures row { IfSome result (λ e. leaving_row.new ≡ slice_index_or (expanded_rows (nat_abs denominator) program_rows.now positions.now rows.old) leaving []) }
     ensures rows { IfSome result (λ e. rows.new ≡ slice_set rows.old leaving []) }
@@ -213,6 +220,7 @@ fn leave(
     if !take_row(
         rows,
         leaving_row,
+        row_made,
         program_rows,
         positions,
         denominator,
@@ -288,9 +296,9 @@ fn exchange_numbers(
     )
 }
 
-/// Exchanges two variables in the parts of a tableau. The answer is the new denominator, or none where the pivot is given up; the parts are
-/// of no use then.
-fn pivot_parts(
+/// Exchanges two variables in the parts of a tableau; `spare` may hold the leaving row if it isn't kept. The answer is the new denominator, or none where the
+/// pivot is given up; the parts are of no use then.
+pub(crate) fn pivot_parts(
     bounds: &[IntegerBounds],
     program_rows: &[ProgramRow],
     weight: u64,
@@ -301,6 +309,7 @@ fn pivot_parts(
     nonbasic_values: &mut [i64],
     rows: &mut [IntegerRow],
     spare: &mut IntegerRow,
+    row_made: bool,
     reduced_costs: &mut IntegerRow,
     values: &mut [i64],
     basic_columns: &mut Vec<usize>,
@@ -320,9 +329,11 @@ fn pivot_parts(
     requires values_there { length values.old ≡ length rows.old }
     requires nonbasic_are { AreNonbasic positions.old nonbasic.old }
     requires basic_are { basic_columns.old.items ≡ basic_from 0 (length rows.old) positions.old }
+    requires made { IsTrue row_made → length rows.old ≤ leaving → spare.old ≡ slice_index_or (expanded_rows (nat_abs denominator) program_rows.now positions.old rows.old) leaving [] }
     ensures nonbasic { IfSome result (λ e. AreNonbasic positions.new nonbasic.new) }
     ensures basic { IfSome result (λ e. basic_columns.new.items ≡ basic_from 0 (length rows.new) positions.new) }
     ensures pivoted { IfSome result (λ e. IsPivoted program_rows.now weight reach leaving entering (of_parts bounds.now positions.old at_upper.old nonbasic_values.old rows.old reduced_costs.old values.old denominator pivots) (of_parts bounds.now positions.new at_upper.new nonbasic_values.new rows.new reduced_costs.new values.new e (pivots + 1)) × (pos 0 <ℤ e)) }
+    ensures exchanged { IfSome result (λ e. IsExchange leaving entering positions.old positions.new nonbasic_values.old nonbasic_values.new) }
 {
     let Position::InBasis = positions[leaving] else {
         return None;
@@ -334,6 +345,7 @@ fn pivot_parts(
         nonbasic_values,
         rows,
         spare,
+        row_made,
         values,
         denominator,
         leaving,
@@ -415,6 +427,7 @@ impl IntegerTableau {
             &mut nonbasic_values,
             &mut rows,
             &mut spare,
+            false,
             &mut reduced_costs,
             &mut values,
             &mut basic_columns,

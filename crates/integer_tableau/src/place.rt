@@ -1,6 +1,6 @@
 // What a tableau asks for next.
 
-ghost use Rattle.std.specs.Prelude.{◌≡◌, ◌≢◌, ℕ, ◌+◌, ◌-◌, ◌<◌, [], pos, nat_abs, ◌<ℤ◌, length, IfSome, None, slice_index_or};
+ghost use Rattle.std.specs.Prelude.{◌≡◌, ◌≢◌, ℕ, ◌+◌, ◌-◌, ◌<◌, ◌≤◌, [], pos, nat_abs, ◌<ℤ◌, length, IfSome, None, slice_index_or};
 ghost use Rattle.tableau.specs.Place.{PlaceIsWithin};
 ghost use Rattle.integer_tableau.specs.Numbers.{IsWithin};
 ghost use Rattle.integer_tableau.specs.Range.{size_limit};
@@ -14,7 +14,6 @@ use crate::integer_bounds::IntegerBounds;
 use crate::integer_row::IntegerRow;
 use crate::position::Position;
 use crate::program_row::ProgramRow;
-use std::alloc::Global;
 use tableau::{Direction, Place};
 
 /// The place where a variable with this row leaves.
@@ -54,9 +53,9 @@ fn place_by_row(
     }
 }
 
-/// The place where this variable leaves; none where it isn't basic, or its row isn't kept and no memory is left for it.
+/// The place where this variable leaves; none where it isn't basic, or its row isn't kept and no memory is left for it. A row that isn't kept is put into
+/// `room`.
 pub(crate) fn place_where_leaving(
-    alloc: Global,
     leaving: usize,
     direction: Direction,
     program_rows: &[ProgramRow],
@@ -65,6 +64,7 @@ pub(crate) fn place_where_leaving(
     at_upper: &[bool],
     bounds: &[IntegerBounds],
     rows: &[IntegerRow],
+    room: &mut IntegerRow,
     reduced_costs: &IntegerRow,
     denominator: i64,
 ) -> Option<Place>
@@ -82,6 +82,7 @@ pub(crate) fn place_where_leaving(
     ensures value { IfSome result (λ p. p ≡ place_of_candidate leaving (entering_by_numerators 0 direction None positions.now at_upper.now bounds.now reduced_costs.now (slice_index_or (expanded_rows (nat_abs denominator) program_rows.now positions.now rows.now) leaving []))) }
     ensures within { IfSome result (λ p. PlaceIsWithin (length positions.now) p) }
     ensures exact { IfSome result (λ p. p ≢ Place.Cramped) }
+    ensures row { IfSome result (λ p. length rows.now ≤ leaving → room.new ≡ slice_index_or (expanded_rows (nat_abs denominator) program_rows.now positions.now rows.now) leaving []) }
 {
     let Position::InBasis = positions[leaving] else {
         return None;
@@ -99,8 +100,7 @@ pub(crate) fn place_where_leaving(
             &rows[leaving],
         ));
     }
-    let mut row = IntegerRow::empty(alloc);
-    if !row.combine_small(
+    if !room.combine_small(
         &program_rows[leaving - columns],
         positions,
         rows,
@@ -116,6 +116,6 @@ pub(crate) fn place_where_leaving(
         at_upper,
         bounds,
         reduced_costs,
-        &row,
+        room,
     ))
 }

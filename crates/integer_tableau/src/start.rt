@@ -6,6 +6,7 @@ ghost use Rattle.tableau.specs.Start.{started};
 ghost use Rattle.integer_tableau.specs.Range.{size_limit};
 ghost use Rattle.integer_tableau.specs.Combined.{bound_size, total_bound_size};
 ghost use Rattle.integer_tableau.specs.IntegerProgram.{fraction_program, CanStart};
+ghost use Rattle.integer_tableau.specs.Running.{IsRunning, running_view};
 ghost use Rattle.integer_tableau.specs.Start.{columns_from, is_negative, start_number, start_numbers};
 
 use crate::integer_bounds::IntegerBounds;
@@ -16,6 +17,7 @@ use crate::pivot::is_near;
 use crate::position::Position;
 use crate::program_row::ProgramRow;
 use crate::range::SIZE_LIMIT;
+use crate::running_tableau::RunningTableau;
 use problem_box::IntBox;
 use std::alloc::{AllocError, Global};
 use std::rc::RcSlice;
@@ -181,29 +183,38 @@ impl IntegerTableau {
     {
         let bounds = bounds_over(alloc, area, program.costs.width(), &program.bounds)?;
         let numbers = Vec::from_slice(alloc, &program.numbers)?;
-        IntegerTableau::start_from(
+        let started = RunningTableau::start(
             alloc,
             &program.rows,
             program.weight,
             &program.costs,
             bounds,
             numbers,
-        )
+        )?;
+        match started {
+            Some(running) => Ok(Some(running.into_tableau())),
+            None => Ok(None),
+        }
     }
+}
 
-    /// The same from its parts.
-    fn start_from(
+impl RunningTableau {
+    /// The same from its parts. No column is basic.
+    pub(crate) fn start(
         alloc: Global,
         rows: &RcSlice<ProgramRow>,
         weight: u64,
         costs: &IntegerRow,
         bounds: Vec<IntegerBounds>,
         numbers: Vec<u32>,
-    ) -> Result<Option<IntegerTableau>, AllocError>
+    ) -> Result<Option<RunningTableau>, AllocError>
         requires { CanStart rows.now.items.value.items weight costs.now bounds.items }
-        ensures value { IfOk result (λ o. IfSome o (λ t. started (fraction_program rows.now.items.value.items costs.now bounds.items numbers.items) ≡ Some t)) }
-        ensures size { IfOk result (λ o. IfSome o (λ t. length t.statuses ≡ length costs.now + length rows.now.items.value.items)) }
+        ensures running { IfOk result (λ o. IfSome o (λ t. IsRunning t)) }
+        ensures value { IfOk result (λ o. IfSome o (λ t. started (fraction_program rows.now.items.value.items costs.now bounds.items numbers.items) ≡ Some (running_view t))) }
+        ensures size { IfOk result (λ o. IfSome o (λ t. length (running_view t).statuses ≡ length costs.now + length rows.now.items.value.items)) }
         ensures pivots { IfOk result (λ o. IfSome o (λ t. t.pivots ≡ 0)) }
+        ensures rows { IfOk result (λ o. IfSome o (λ t. t.fixed.rows.items.value.items ≡ rows.now.items.value.items)) }
+        ensures positions { IfOk result (λ o. IfSome o (λ t. t.positions.items ≡ columns_from 0 (length costs.now) ++ replicate (length rows.now.items.value.items) Position.InBasis)) }
     {
         let columns = costs.width();
         let count = rows.len();
@@ -217,7 +228,7 @@ impl IntegerTableau {
         let nonbasic_values = start_numbers(alloc, costs.numerators(), &bounds, count)?;
         let values = Vec::from_elem(alloc, 0, columns)?;
         let basic_columns = Vec::with_capacity(alloc, count.min(columns))?;
-        Ok(Some(IntegerTableau {
+        Ok(Some(RunningTableau {
             fixed: Fixed {
                 numbers,
                 bounds,
@@ -230,7 +241,6 @@ impl IntegerTableau {
             at_upper,
             nonbasic_values,
             rows: empty_rows(alloc, columns)?,
-            spare: IntegerRow::empty(alloc),
             reduced_costs: costs.copy(alloc)?,
             values,
             basic_columns,

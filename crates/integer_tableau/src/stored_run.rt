@@ -130,6 +130,7 @@ fn run_alone(
     alloc: Global,
     numbers: &[u32],
     program_rows: &RcSlice<ProgramRow>,
+    columns: &Option<CoefficientColumns>,
     weight: u64,
     store: &DictionaryStore,
     place: usize,
@@ -137,6 +138,7 @@ fn run_alone(
     cap: u64,
 ) -> Result<StoredEnd, u64>
     requires kept { AreKeptOf program_rows.now.items.value.items weight store.now.kept }
+    requires columns { IfSome columns.now (AreColumnsOf program_rows.now.items.value.items) }
     requires there { place < length store.now.kept.all }
     requires at { IsAt program_rows.now.items.value.items weight (kept_at store.now.kept.all place) solution }
     requires room { solution.pivots + cap < 2 ^ 64 }
@@ -144,7 +146,7 @@ fn run_alone(
     ensures given_up { IfErr result (λ made. made ≤ solution.pivots + cap) }
 {
     let made = solution.pivots;
-    let Ok(tableau) = solution.into_tableau(
+    let Ok((running, row_sums)) = solution.into_running(
         alloc,
         numbers,
         program_rows,
@@ -154,7 +156,7 @@ fn run_alone(
     ) else {
         return Err(made);
     };
-    match tableau.run(cap) {
+    match running.run(columns, row_sums, cap) {
         Ok(end) => Ok(StoredEnd::Alone(end)),
         Err(more) => Err(made + more),
     }
@@ -207,6 +209,7 @@ pub(crate) fn run_stored(
                     alloc,
                     numbers,
                     program_rows,
+                    columns,
                     weight,
                     store,
                     at,
@@ -217,5 +220,5 @@ pub(crate) fn run_stored(
             Step::GivenUp => return Err(made),
         }
     }
-    run_alone(alloc, numbers, program_rows, weight, store, at, solution, 0)
+    run_alone(alloc, numbers, program_rows, columns, weight, store, at, solution, 0)
 }

@@ -1,4 +1,4 @@
-use Rattle.std.proofs.Common.{◌<◌, ◌<ℤ◌, ◌*◌, ◌^◌, ◌∙◌, ℤ, pos, arith, ◌-◌, [], get_or, nat_abs, refl, sym, subst, w64}
+use Rattle.std.proofs.Common.{ap, ◌<◌, ◌<ℤ◌, ◌*◌, ◌^◌, ◌∙◌, ℤ, pos, arith, ◌-◌, [], get_or, nat_abs, refl, sym, subst, w64}
 use Rattle.std.proofs.lemmas.Int.{to_z-of_z}
 use Rattle.integer_tableau.specs.Combined.{expanded_rows}
 use Rattle.integer_tableau.specs.Numbers.{IsWithin, number_at}
@@ -106,3 +106,8 @@ returns-clause-size c = c.in_ok-exchange.ensures.size
 
 pub returns-clause-rows : goal.returns-clause-rows
 returns-clause-rows c = c.if-not-take_row.ensures.rows refl
+
+pub take_row-requires-clause-made : goal.take_row-requires-clause-made
+take_row-requires-clause-made c = λ made l.
+    c.requires.made made l
+    ∙ ap (λ z. get_or (expanded_rows (nat_abs z) c.args.program_rows.now c.args.positions.now c.args.rows.now) c.args.leaving []) (sym (to_z-of_z w64 c.args.denominator c.ranges.denominator))

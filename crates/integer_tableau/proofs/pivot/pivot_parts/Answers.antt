@@ -209,3 +209,33 @@ returns-clause-pivoted c =
           (ap (λ b. set (set a.nonbasic_values.now a.leaving b) a.entering (pos 0)) b) c.is_upper.ensures (c.if-not-is_near.ensures refl) (c.if-not-are_combinations_small.ensures.small refl)),
       positive_from _ _ e_is p.coefficient,
     )
+
+pub leave-requires-clause-made : goal.leave-requires-clause-made
+leave-requires-clause-made c = λ made l.
+    c.requires.made made l
+    ∙ ap (λ z. get_or (expanded_rows (nat_abs z) c.args.program_rows.now c.args.positions.now c.args.rows.now) c.args.leaving []) (sym (to_z-of_z w64 c.args.denominator c.ranges.denominator))
+
+pub returns-in_default-clause-exchanged : goal.returns-in_default-clause-exchanged
+returns-in_default-clause-exchanged c = tt
+
+pub returns-in_err-value-clause-exchanged : goal.returns-in_err-value-clause-exchanged
+returns-in_err-value-clause-exchanged c = none_then c.from_residual.result _ c.from_residual.ensures
+
+pub returns-then-not-exchange_numbers-clause-exchanged : goal.returns-then-not-exchange_numbers-clause-exchanged
+returns-then-not-exchange_numbers-clause-exchanged c = tt
+
+pub returns-then-not-exchange_columns-clause-exchanged : goal.returns-then-not-exchange_columns-clause-exchanged
+returns-then-not-exchange_columns-clause-exchanged c = tt
+
+pub returns-then-not-is_near-clause-exchanged : goal.returns-then-not-is_near-clause-exchanged
+returns-then-not-is_near-clause-exchanged c = tt
+
+pub returns-clause-exchanged : goal.returns-clause-exchanged
+returns-clause-exchanged c = record {
+  column = c.in_ok-value.exchange.column;
+  bound = to_z w64 (of_z w64 c.in_ok-value.exchange.bound);
+  leaving = c.in_ok-value.ensures.there.leaving;
+  entering = c.in_ok-value.ensures.there.entering;
+  positions = refl;
+  values = refl;
+}

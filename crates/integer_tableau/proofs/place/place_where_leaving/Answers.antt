@@ -27,3 +27,9 @@ combine_small-requires-clause-small c =
     subst (λ z. IsWithin (size_limit - 1) (combined_row (nat_abs z) a.positions.now a.rows.now p)) (sym (to_z-of_z w64 a.denominator c.ranges.denominator))
     (subst (IsWithin (size_limit - 1)) (sym (row_made (nat_abs a.denominator) a.program_rows.now a.positions.now a.rows.now c.requires.positions_there a.leaving p
     (combined_row (nat_abs a.denominator) a.positions.now a.rows.now p) c.if-leaving-columns.false c.requires.leaving_there c.in-InBasis.is c.index-program_rows-leaving.is refl)) c.requires.small)
+
+pub returns-clause-row : goal.returns-clause-row
+returns-clause-row c = λ _.
+    row_made (nat_abs c.args.denominator) c.args.program_rows.now c.args.positions.now c.args.rows.now c.requires.positions_there c.args.leaving c.index-program_rows-leaving.result c.combine_small.new.self
+    c.if-leaving-columns.false c.requires.leaving_there c.in-InBasis.is c.index-program_rows-leaving.is
+    (c.if-not-combine_small.ensures refl ∙ ap (λ z. combined_row (nat_abs z) c.args.positions.now c.args.rows.now c.index-program_rows-leaving.result) (to_z-of_z w64 c.args.denominator c.ranges.denominator))

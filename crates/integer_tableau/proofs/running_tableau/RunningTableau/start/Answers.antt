@@ -6,8 +6,8 @@ use Rattle.integer_tableau.specs.Combined.{bound_size, total_bound_size}
 use Rattle.integer_tableau.specs.Start.{columns_from, is_negative, start_numbers}
 use Rattle.integer_tableau.specs.declared.position.Position.TheVariants.{InBasis}
 use Rattle.integer_tableau.proofs.StartFromCode.{as_many_statuses, start_compact, start_basic_are, start_is, start_nonbasic_are}
-use Rattle.integer_tableau.proofs.integer_tableau.IntegerTableau.start_from.Goals as goal
-use Rattle.integer_tableau.proofs.integer_tableau.IntegerTableau.start_from.Goals.{In_ok-copy}
+use Rattle.integer_tableau.proofs.running_tableau.RunningTableau.start.Goals as goal
+use Rattle.integer_tableau.proofs.running_tableau.RunningTableau.start.Goals.{In_ok-copy}
 
 -- what the parts are
 module _ (c : In_ok-copy) where
@@ -41,16 +41,22 @@ module _ (c : In_ok-copy) where
   room : total_bound_size c.args.bounds.items < size_limit
   room = subst (λ bs. total_bound_size bs < size_limit) c.deref-2.ensures.value (c.if-not-has_room.ensures refl)
 
-pub invariant_of-result : goal.invariant_of-result
-invariant_of-result c = (
-  start_compact c.args.rows.now.items.value.items c.args.weight c.reach_of-reach.result c.args.costs.now c.args.bounds.items c.requires (reached c) (near c) (room c) c.in_ok-positions.positions.items c.in_ok-at_upper.at_upper.items
+pub returns-clause-running : goal.returns-clause-running
+returns-clause-running c = record {
+  compact = start_compact c.args.rows.now.items.value.items c.args.weight c.reach_of-reach.result c.args.costs.now c.args.bounds.items c.requires (reached c) (near c) (room c) c.in_ok-positions.positions.items c.in_ok-at_upper.at_upper.items
       c.in_ok-nonbasic_values.nonbasic_values.items c.in_ok-empty_rows.field-0.items c.in_ok-copy.field-0 c.in_ok-values.values.items (pos 1) c.in_ok-clone.field-0.items.value.items
-      (positions_are c) (at_upper_are c) (nonbasic_values_are c) (rows_are c) c.in_ok-copy.ensures (values_are c) refl c.in_ok-clone.ensures.cases,
-  omega (arith, ints),
-  start_nonbasic_are _ _ _ _ (positions_are c) (nonbasic_many c) (λ k l. c.in_ok-nonbasic.ensures.each k (omega (arith, l, c.width-columns.ensures))),
-  nonbasic_many c ∙ sym (ap length (rows_are c) ∙ length-replicate (length c.args.costs.now) []),
-  c.in_ok-basic_columns.ensures.items ∙ start_basic_are _ _ _ _ (positions_are c) (ap length (rows_are c) ∙ length-replicate (length c.args.costs.now) []),
-)
+      (positions_are c) (at_upper_are c) (nonbasic_values_are c) (rows_are c) c.in_ok-copy.ensures (values_are c) refl c.in_ok-clone.ensures.cases;
+  positive = omega (arith, ints);
+  nonbasic = start_nonbasic_are _ _ _ _ (positions_are c) (nonbasic_many c) (λ k l. c.in_ok-nonbasic.ensures.each k (omega (arith, l, c.width-columns.ensures)));
+  columns = nonbasic_many c ∙ sym (ap length (rows_are c) ∙ length-replicate (length c.args.costs.now) []);
+  basic = c.in_ok-basic_columns.ensures.items ∙ start_basic_are _ _ _ _ (positions_are c) (ap length (rows_are c) ∙ length-replicate (length c.args.costs.now) []);
+}
+
+pub returns-clause-rows : goal.returns-clause-rows
+returns-clause-rows c = c.in_ok-clone.ensures.cases
+
+pub returns-clause-positions : goal.returns-clause-positions
+returns-clause-positions c = positions_are c
 
 pub returns-clause-value : goal.returns-clause-value
 returns-clause-value c =
