@@ -17,7 +17,7 @@ use crate::coefficient_columns::CoefficientColumns;
 use crate::dictionary_store::DictionaryStore;
 use crate::final_numbers::FinalNumbers;
 use crate::integer_bounds::IntegerBounds;
-use crate::integer_program::IntegerProgram;
+use crate::integer_program::{IntegerProgram, bounds_over};
 use crate::integer_row::IntegerRow;
 use crate::position::Position;
 use crate::program_row::ProgramRow;
