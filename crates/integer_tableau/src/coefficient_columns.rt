@@ -10,6 +10,9 @@ use std::alloc::Global;
 /// As many coefficients are kept at most: more would take much memory.
 const MOST_COEFFICIENTS: usize = 1 << 17;
 
+/// Where fewer than one coefficient in so many isn't 0, a row's value costs less by the row itself than by a sum that is kept.
+const SPARSE: usize = 8;
+
 /// The coefficients, also those that are 0: the ones of a column stand one behind another.
 #[derive(Drop)]
 pub(crate) struct CoefficientColumns {
@@ -20,6 +23,15 @@ pub(crate) struct CoefficientColumns {
     /// No row has coefficients that are greater together.
     pub(crate) weight: u64,
     pub(crate) numbers: Vec<i64>,
+}
+
+/// How many coefficients of rows aren't 0, about.
+fn entry_count(program_rows: &[ProgramRow]) -> usize {
+    let mut count = 0usize;
+    for row in program_rows {
+        count = count.saturating_add(row.entries().len());
+    }
+    count
 }
 
 /// Puts the coefficients of a row into its place of each column.
@@ -49,7 +61,8 @@ fn put_rows(numbers: &mut [i64], program_rows: &[ProgramRow], width: usize)
 }
 
 impl CoefficientColumns {
-    /// The coefficients of rows of this width, none of which is heavier than the weight, by column. None where they are too many, or memory is wanting.
+    /// The coefficients of rows of this width, none of which is heavier than the weight, by column. None where they are too many, where
+    /// too few of them aren't 0, and where memory is wanting.
     pub(crate) fn make(
         alloc: Global,
         program_rows: &[ProgramRow],
@@ -62,7 +75,7 @@ impl CoefficientColumns {
     {
         let rows = program_rows.len();
         let count = width.checked_mul(rows)?;
-        if count > MOST_COEFFICIENTS {
+        if count > MOST_COEFFICIENTS || entry_count(program_rows) < count / SPARSE {
             return None;
         }
         let mut numbers = Vec::from_elem(alloc, 0, count).ok()?;

@@ -28,7 +28,7 @@ use tableau::{Bounds, Entry, LinearProgram};
 pub struct IntegerProgram {
     /// The tableaus share them (docs/DECISIONS.md, entry 53).
     pub(crate) rows: RcSlice<ProgramRow>,
-    /// The coefficients of the rows by column; none where they are too many.
+    /// The coefficients of the rows by column; none where they are too many, or too few of them aren't 0.
     pub(crate) columns: Option<CoefficientColumns>,
     /// The sums of rows at the start of the last run over a box.
     pub(crate) start_sums: StartSums,

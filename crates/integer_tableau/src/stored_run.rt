@@ -220,5 +220,15 @@ pub(crate) fn run_stored(
             Step::GivenUp => return Err(made),
         }
     }
-    run_alone(alloc, numbers, program_rows, columns, weight, store, at, solution, 0)
+    run_alone(
+        alloc,
+        numbers,
+        program_rows,
+        columns,
+        weight,
+        store,
+        at,
+        solution,
+        0,
+    )
 }
