@@ -68,6 +68,7 @@ impl Worker {
     {
         state.conditions_hold();
         let book = state.book();
-        self.relaxation.renew(alloc, state.problem(), book, book.len())
+        self.relaxation
+            .renew(alloc, state.problem(), book, book.len())
     }
 }

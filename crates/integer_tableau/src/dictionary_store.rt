@@ -1,6 +1,6 @@
 // A store of dictionaries, by their bases.
 
-ghost use Rattle.std.specs.Prelude.{◌≡◌, ◌<◌, ◌+◌, ◌^◌, ℕ, ℤ, List, length, slice_index_or, IfOk, IfSome, IsTrue, OnOk};
+ghost use Rattle.std.specs.Prelude.{◌≡◌, ◌<◌, ◌+◌, ◌^◌, ℕ, ℤ, List, length, slice_index_or, IfSome, IsTrue, OnOk};
 ghost use Rattle.integer_tableau.specs.IntegerProgram.{CanStart};
 ghost use Rattle.integer_tableau.specs.StoreCalls.{AreKeptOf, HasTurned, IsTarget, IsTurnedSolution, StayKept};
 ghost use Rattle.integer_tableau.specs.StoredRun.{HasTurnRow, IsOfEdge};

@@ -104,13 +104,7 @@ fn run_from_start(
     ensures sums { AreColumnSums start.fixed.rows.items.value.items start_sums.new.values.items start_sums.new.sums.items }
 {
     let mut row_sums = Vec::new(alloc);
-    start_sums.put_row_sums(
-        alloc,
-        &mut row_sums,
-        columns,
-        width,
-        &start.nonbasic_values,
-    )?;
+    start_sums.put_row_sums(alloc, &mut row_sums, columns, width, &start.nonbasic_values)?;
     Ok(start.run(columns, row_sums, cap))
 }
 

@@ -1,6 +1,6 @@
 // Rows that keep the coefficients alone that aren't 0.
 
-ghost use Rattle.std.specs.Prelude.{◌≡◌, ◌<◌, ◌≤◌, ◌+◌, ◌^◌, ◌++◌, [], pos, negsuc, nat_abs, length, drop, slice_set, All, IfOk, OnOk, MatchBool, Some, None};
+ghost use Rattle.std.specs.Prelude.{◌≡◌, ◌<◌, ◌≤◌, ◌+◌, ◌^◌, ◌++◌, [], negsuc, nat_abs, length, drop, slice_set, All, IfOk, OnOk, MatchBool, Some, None};
 ghost use Rattle.std.specs.Option.{option_map};
 ghost use Rattle.problem.specs.Linear.{Terms as Pairs};
 ghost use Rattle.fraction.specs.Rational.{ℚ, whole};

@@ -2,7 +2,7 @@ use Rattle.std.proofs.Common.{◌≡◌, ℕ, Option, Some, ◌<◌, arith, ap, 
 use mir.Val.{SFits}
 use Rattle.std.specs.Option.{IfSome}
 use Rattle.std.proofs.lemmas.Int.{to_z-of_z}
-use Rattle.integer_tableau.proofs.FromCode.{chosen_from_code, near_from_code, place_from_code, small_from_code, statuses_as_many, width_from_code}
+use Rattle.integer_tableau.proofs.FromCode.{chosen_from_code, near_from_code, place_from_code, small_from_code, width_from_code}
 use Rattle.integer_tableau.proofs.Lists.{if_some}
 use Rattle.integer_tableau.specs.BasicColumns.{basic_from}
 use Rattle.integer_tableau.specs.Combined.{expanded_rows, expanded_values}
