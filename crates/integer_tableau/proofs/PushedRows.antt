@@ -133,10 +133,3 @@ module _ (d e : ℤ) (k c : ℕ) (solved : List ℤ) (width : ℕ) (wide : lengt
         (subst (λ xs. IsMadeRow d e k c solved (row_by width vs xs) (get_or columns i 0) row) (rows_stay width from n ns there now made is) r),
     within_append more made row (within_weaker size more made o small) (within_weaker b more row p row_small),
   )
-
--- ---- a list that is put behind another, with one element replaced
-pub replaced_behind : {X : Type 0} (old piece items : List X) (start k : ℕ) (x : X) → items ≡ old ++ piece → start ≡ length old → set items (start + k) x ≡ old ++ set piece k x
-replaced_behind old piece items start k x is at =
-    ap (λ zs. set zs (start + k) x) is
-    ∙ set-append_right old piece start (start + k) x (sym at) (omega arith)
-    ∙ ap (λ j. old ++ set piece j x) (let e : start + k - start ≡ k = omega arith in e)

@@ -19,13 +19,16 @@ use indexmap::IndexMap;
 use std::alloc::{AllocError, Global};
 
 /// How many words the dictionaries of a new store may take, about.
-const FIRST_WORDS: usize = 1 << 18;
+const FIRST_WORDS: usize = 1 << 17;
 
 /// Room for how many numerators a store begins with, so that they aren't moved while they are few.
 const FIRST_ROOM: usize = 1 << 16;
 
 /// How many words they take at most, about (docs/DECISIONS.md, entry 96).
 const MOST_WORDS: usize = 1 << 21;
+
+/// How often the dictionaries take all words that they may take, before they may take twice as many the next time (docs/DECISIONS.md, entry 106).
+const FILLS: u32 = 15;
 
 /// How many dictionaries there are at most.
 const MOST_DICTIONARIES: usize = 1 << 14;
@@ -73,8 +76,8 @@ pub(crate) struct DictionaryStore {
     places: IndexMap<u64, usize>,
     /// How many words the dictionaries may take for now.
     limit: usize,
-    /// Whether they took all of these once.
-    was_full: bool,
+    /// How often they took all of these since they may take so many.
+    fills: u32,
     /// How much new dictionaries may still take before the store is suspended.
     budget: u32,
     /// How many of the next runs go without the store.
@@ -109,7 +112,7 @@ impl DictionaryStore {
             columns: Vec::new(alloc),
             places: IndexMap::new(alloc),
             limit: FIRST_WORDS,
-            was_full: false,
+            fills: 0,
             budget: FIRST_BUDGET,
             suspended_runs: FIRST_RUNS,
             next_suspension: FIRST_SUSPENSION,
@@ -141,24 +144,24 @@ impl DictionaryStore {
         self.kept.count() >= MOST_DICTIONARIES || self.kept.words() >= self.limit
     }
 
-    /// Whether the dictionaries may take more words than now: so many steps went to one that was kept already that it is worth it.
+    /// Whether the dictionaries may take more words than now.
     fn may_grow(&self) -> bool {
-        self.budget >= MOST_BUDGET
-            && self.limit < MOST_WORDS
-            && self.kept.count() < MOST_DICTIONARIES
+        self.limit < MOST_WORDS && self.kept.count() < MOST_DICTIONARIES
     }
 
-    /// Lets the dictionaries take twice as many words, where they took all a second time, and it is worth it.
+    /// Notes where the dictionaries take all words that they may take, and lets them take twice as many where they did so often.
     fn grow(&mut self)
         ensures { self.new.kept ≡ self.old.kept }
     {
         if !self.is_full() || !self.may_grow() {
             return;
         }
-        if self.was_full {
+        if self.fills < FILLS {
+            self.fills += 1;
+        } else {
+            self.fills = 0;
             self.limit = self.limit.saturating_mul(2);
         }
-        self.was_full = !self.was_full;
     }
 
     /// Whether the dictionaries are so large that few could be kept.

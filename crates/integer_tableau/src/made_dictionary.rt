@@ -262,8 +262,11 @@ fn push_nonbasic(nonbasic: &mut Vec<usize>, from: usize, width: usize, turn: Tur
     ensures pushed { IfSome result (λ u. nonbasic.new.items ≡ nonbasic.old.items ++ slice_set (slice_range nonbasic.old.items from (from + width)) turn.column turn.leaving) }
 {
     let start = nonbasic.len();
-    nonbasic.extend_from_within(from..from + width).ok()?;
-    nonbasic[start + turn.column] = turn.leaving;
+    let end = start.checked_add(width)?;
+    nonbasic.resize(end, 0).ok()?;
+    let (before, behind) = nonbasic.split_at_mut(start);
+    behind.copy_from_slice(&before[from..from + width]);
+    behind[turn.column] = turn.leaving;
     Some(())
 }
 
