@@ -3,14 +3,12 @@ use Rattle.std.proofs.Common.{◌≡◌, ◌≢◌, ◌≤◌, ℕ, zero, suc, a
 use Rattle.std.specs.Prelude.{ℤ, nat_abs, IfSome, IsSomeAnd}
 use Rattle.integer_tableau.proofs.Answering.{costs_are, point_is}
 use Rattle.integer_tableau.specs.Denominator.{HasDenominator}
-use Rattle.integer_tableau.specs.FinalNumbers.{AreNumbersAt, AreNumbersOf, AreNumbersOver, AreNumbersWithin}
+use Rattle.integer_tableau.specs.FinalNumbers.{AreNumbersAt, AreNumbersOf, AreNumbersWithin}
 use Rattle.integer_tableau.specs.IntegerTableau.{values_of}
 use Rattle.integer_tableau.specs.Kept.{IsAt, KeptDictionary, tableau_at, view_of}
 use Rattle.integer_tableau.specs.Positions.{coefficients}
-use Rattle.integer_tableau.specs.Run.{IsRunOver}
 use Rattle.integer_tableau.specs.declared.basic_solution.BasicSolution.{BasicSolution}
 use Rattle.integer_tableau.specs.declared.final_numbers.FinalNumbers.{FinalNumbers}
-use Rattle.tableau.specs.LinearProgram.{LinearProgram}
 use Rattle.tableau.specs.Multipliers.{numbered}
 use Rattle.tableau.specs.Pivot.{pivoted}
 use Rattle.tableau.specs.Place.{place}
@@ -50,14 +48,6 @@ numbers_at cap start p t n ends exact at_place at_pivots numbers = record {
     of : (o : Option Tableau) → IfSome o (λ u. t ≡ u) → IfSome o (λ u. AreNumbersOf u n)
     of None h = tt
     of (Some u) h = subst (λ t. AreNumbersOf t n) h numbers
-
-pub numbers_over : (p : LinearProgram) (cap : ℕ) (l : Place) (t : Tableau) (n : FinalNumbers) → IsRunOver p cap l t → l ≢ Cramped → n.place ≡ l → n.pivots ≡ t.pivots → AreNumbersOf t n
-    → AreNumbersOver p cap n
-numbers_over p cap l t n run exact at_place at_pivots numbers = record {
-  start = run.start;
-  starts = run.starts;
-  ends = numbers_at cap run.start l t n run.ends exact at_place at_pivots numbers;
-}
 
 -- ---- of a solution at a dictionary
 abbrev IsDone : Place → Type 0

@@ -1,8 +1,8 @@
 -- Linear programs of whole numbers.
-use Rattle.std.proofs.Common.{◌≡◌, ℕ, arith, refl, ap, sym, ◌∙◌, Option, Some, None, List, [], ◌∷◌, ◌++◌, length, drop}
+use Rattle.std.proofs.Common.{◌≡◌, ℕ, refl, ap, sym, ◌∙◌, Option, Some, None, List, [], ◌∷◌, ◌++◌, length, drop}
 use Rattle.std.specs.Prelude.{ℤ, map, All, IfSome}
 use Rattle.std.specs.Option.{option_map}
-use Rattle.std.proofs.lemmas.List.{length-append, length-drop, length-map, map-append, drop-map}
+use Rattle.std.proofs.lemmas.List.{length-map, map-append, drop-map}
 use Rattle.std.proofs.lemmas.List.Elements.{All-nil, All-cons}
 use Rattle.fraction.specs.Rational.{whole}
 use Rattle.fraction.specs.Whole.{IsWhole}
@@ -10,7 +10,7 @@ use Rattle.fraction.specs.Lemmas.Bounds.{whole_parts}
 use Rattle.problem_box.specs.declared.span.Span.{Span}
 use Rattle.tableau.specs.LinearProgram.{over, span_bounds}
 use Rattle.tableau.specs.WellFormed.{HasWholeBounds, IsIntegral}
-use Rattle.integer_tableau.specs.IntegerProgram.{column_bounds, fraction_program, CanStart}
+use Rattle.integer_tableau.specs.IntegerProgram.{column_bounds, fraction_program}
 use Rattle.integer_tableau.specs.IntegerTableau.{fraction_bounds}
 use Rattle.integer_tableau.specs.declared.integer_bounds.IntegerBounds.{IntegerBounds}
 
@@ -55,14 +55,3 @@ program_over rows costs bounds numbers area = λ i. record {
     bounds_are =
         (λ i. sym (columns_are area) i ++ (ap (λ n. drop n (map fraction_bounds bounds)) (length-map costs whole) ∙ drop-map fraction_bounds (length costs) bounds) i)
         ∙ sym (map-append fraction_bounds (map column_bounds area) (drop (length costs) bounds))
-
-pub ready_over : (rows : List (List ℤ)) (weight : ℕ) (costs : List ℤ) (bounds : List IntegerBounds) (area : List Span) → CanStart rows weight costs bounds → length area ≡ length costs
-    → CanStart rows weight costs (map column_bounds area ++ drop (length costs) bounds)
-ready_over rows weight costs bounds area ready e = record {
-  rows_full = ready.rows_full;
-  bounds_there = omega (arith, ready.bounds_there, length-append (map column_bounds area) (drop (length costs) bounds), length-map area column_bounds, length-drop (length costs) bounds);
-  rows_within = ready.rows_within;
-  costs_within = ready.costs_within;
-  weights = ready.weights;
-  light = ready.light;
-}

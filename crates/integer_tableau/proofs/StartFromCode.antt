@@ -1,21 +1,21 @@
 -- The start, from what the code's parts say.
-use Rattle.std.proofs.Common.{◌≡◌, ℕ, zero, suc, ◌+◌, ◌-◌, ◌^◌, ◌<◌, ◌≤◌, arith, refl, ap, sym, ◌∙◌, subst, Bool, true, false, Option, Some, None, List, [], ◌∷◌, ◌++◌, length, get_or, drop, replicate, inl, inr, below_more}
+use Rattle.std.proofs.Common.{◌≡◌, ℕ, zero, suc, ◌+◌, ◌-◌, ◌^◌, ◌<◌, ◌≤◌, arith, refl, ap, sym, ◌∙◌, subst, Bool, true, false, Option, Some, None, List, [], ◌∷◌, ◌++◌, length, get_or, drop, replicate, inl, inr}
 use Rattle.std.specs.Prelude.{ℤ, pos, nat_abs, nat_eq, int_lt, ◌+ℤ◌, ◌*ℤ◌, map, if◌then◌else◌}
 use Rattle.std.specs.Option.{unwrap_or}
-use Rattle.std.proofs.Math.Seq.{drop-append_seam, get_or-append_seam}
+use Rattle.std.proofs.Math.Seq.{drop-append_seam}
 use Rattle.std.proofs.lemmas.Int.{ints}
 use Rattle.std.proofs.lemmas.Bool.{cases_lt}
 use Rattle.std.proofs.lemmas.Bool.Decides.{nat_tests}
-use Rattle.std.proofs.lemmas.List.{get_or_append_left, get_or_default, get_or_past, length-append, length-replicate, same_lists}
+use Rattle.std.proofs.lemmas.List.{get_or_default, get_or_past, length-replicate, same_lists}
 use Rattle.integer_tableau.proofs.BasicColumns.{none_basic}
 use Rattle.integer_tableau.specs.BasicColumns.{basic_from}
 use Rattle.integer_tableau.proofs.Combining.{length-numbers_from, number_at-numbers_from}
 use Rattle.integer_tableau.proofs.Expanded.{row_value, value_of_row, values_many, which}
-use Rattle.integer_tableau.proofs.Starting.{column_number, length_columns, nonbasic_values_many, position_of_column, positions_many, start_consistent, start_tableau_is, statuses_many}
+use Rattle.integer_tableau.proofs.Starting.{column_number, length_columns, nonbasic_values_many, position_of_column, positions_many, start_consistent, start_tableau_is}
 use Rattle.integer_tableau.specs.Combined.{IsCompact, bound_size, combined, combined_row, expanded, expanded_values, rows_behind, size_of, total_bound_size}
 use Rattle.integer_tableau.specs.Consistent.{IsConsistent, row_width}
 use Rattle.integer_tableau.specs.IntegerProgram.{fraction_program, CanStart}
-use Rattle.integer_tableau.specs.IntegerTableau.{IntegerTableau, of_parts, statuses_of, tableau_of}
+use Rattle.integer_tableau.specs.IntegerTableau.{IntegerTableau, of_parts, tableau_of}
 use Rattle.integer_tableau.specs.Numbers.{IsWithin, number_at, total_size}
 use Rattle.integer_tableau.specs.Range.{size_limit}
 use Rattle.integer_tableau.specs.Positions.{AreNonbasic, IsColumnOf, sum_over}
@@ -33,9 +33,6 @@ columns_more j n = let q : n + 1 ≡ suc n = omega arith in ap (columns_from j) 
     step : (j n : ℕ) → columns_from j (suc n) ≡ columns_from j n ++ (InColumn (j + n) ∷ [])
     step j zero = ap (λ k. InColumn k ∷ []) (omega arith)
     step j (suc n) = ap (λ ss. InColumn j ∷ ss) (step (suc j) n ∙ ap (λ k. columns_from (suc j) n ++ (InColumn k ∷ [])) (omega arith))
-
-pub column_pushed : (n k : ℕ) (old new : List Position) → old ≡ columns_from 0 n → new ≡ old ++ (InColumn n ∷ []) → new ≡ columns_from 0 (n + 1)
-column_pushed n k old new e p = p ∙ ap (λ ss. ss ++ (InColumn n ∷ [])) e ∙ ap (λ k. columns_from 0 n ++ (InColumn k ∷ [])) (let q : n ≡ 0 + n = omega arith in q) ∙ sym (columns_more 0 n)
 
 -- ---- the rows of rows' variables are those of the linear program
 abbrev no_rows : ℕ → List (List ℤ)
@@ -240,18 +237,7 @@ module _ (program_rows : List (List ℤ)) (weight reach : ℕ) (reduced_costs : 
         ≡ Some (tableau_of (length rows) numbers (expanded own_rows (of_parts bounds positions at_upper nonbasic_values rows costs values d 0)))
     start_is numbers = first_is numbers ∙ (λ i. Some (tableau_of (length (sym rows_are i)) numbers (expanded (sym own_rows_are i) (parts_are i))))
 
-    pub as_many_statuses : length (statuses_of positions at_upper) ≡ length reduced_costs + length program_rows
-    as_many_statuses = (λ i. length (statuses_of (positions_are i) (at_upper_are i))) ∙ statuses_many program_rows reduced_costs bounds [] ready.rows_full
-
 -- ---- the columns' variables are the columns themselves
-pub width_pushed : (n : ℕ) (old new : List ℕ) → length old ≡ n → new ≡ old ++ (n ∷ []) → length new ≡ n + 1
-width_pushed n old new w p = omega (arith, ap length p, length-append old (n ∷ []), w)
-
-pub each_pushed : (n : ℕ) (old new : List ℕ) → length old ≡ n → new ≡ old ++ (n ∷ []) → ((k : ℕ) → k < n → get_or old k 0 ≡ k) → (k : ℕ) → k < n + 1 → get_or new k 0 ≡ k
-each_pushed n old new w p each =
-    below_more (λ k. get_or new k 0 ≡ k) n (λ k l. ap (λ xs. get_or xs k 0) p ∙ get_or_append_left old (n ∷ []) 0 k (omega (arith, l, w)) ∙ each k l)
-    (ap (λ xs. get_or xs n 0) p ∙ ap (λ k. get_or (old ++ (n ∷ [])) k 0) (sym w) ∙ get_or-append_seam old n [] 0)
-
 pub start_nonbasic_are : (n m : ℕ) (ss : List Position) (nonbasic : List ℕ) → ss ≡ columns_from 0 n ++ replicate m InBasis → length nonbasic ≡ n → ((k : ℕ) → k < n → get_or nonbasic k 0 ≡ k) → AreNonbasic ss nonbasic
 start_nonbasic_are n m ss nonbasic e w each = subst (λ ss. AreNonbasic ss nonbasic) (sym e) (record {
   there = λ k l.

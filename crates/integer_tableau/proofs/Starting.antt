@@ -162,10 +162,6 @@ module _ (rows : List (List ℤ)) (reduced_costs : List ℤ) (bounds : List Inte
   at_upper_many : length w.at_upper ≡ n + m
   at_upper_many = length-append (map is_negative reduced_costs) (replicate m false) ∙ (λ i. length-map reduced_costs is_negative i + length-replicate m false i)
 
-  -- as many statuses as variables
-  pub statuses_many : length (statuses_of w.positions w.at_upper) ≡ n + m
-  statuses_many = statuses_long w.positions w.at_upper (at_upper_many ∙ sym positions_many) ∙ positions_many
-
   pub nonbasic_values_many : length bounds ≡ n + m → length w.nonbasic_values ≡ n + m
   nonbasic_values_many h = length-append (start_numbers reduced_costs bounds) (replicate m (pos 0)) ∙ (λ i. length_start_numbers reduced_costs bounds (omega (arith, h)) i + length-replicate m (pos 0) i)
 

@@ -1,11 +1,13 @@
 // Dictionaries: what a basis fixes of a tableau.
 
-ghost use Rattle.std.specs.Prelude.{◌≡◌, ◌<◌, ◌+◌, ◌*◌, ◌-◌, ◌^◌, ◌++◌, ℕ, ℤ, [], List, length, All, OnOk};
+ghost use Rattle.std.specs.Prelude.{◌≡◌, ◌<◌, ◌+◌, ◌*◌, ◌-◌, ◌^◌, ◌++◌, ℕ, ℤ, [], List, length, All, IfOk, OnOk};
 ghost use Rattle.std.specs.List.{range_with_len};
 ghost use Rattle.integer_tableau.specs.Arena.{rows_by};
-ghost use Rattle.integer_tableau.specs.Kept.{IsNewStart, kept_at};
+ghost use Rattle.integer_tableau.specs.IntegerProgram.{CanStart};
+ghost use Rattle.integer_tableau.specs.Kept.{AreKept, IsNewStart, kept_at};
 ghost use Rattle.integer_tableau.specs.Numbers.{IsWithin};
 ghost use Rattle.integer_tableau.specs.Range.{size_limit};
+ghost use Rattle.integer_tableau.specs.declared.integer_bounds.IntegerBounds.{IntegerBounds};
 
 use crate::divisor::Divisor;
 use crate::exits::{Edge, Exit};
@@ -225,5 +227,20 @@ impl Dictionaries {
             exits: 0,
         })?;
         Ok(())
+    }
+    /// The dictionary at the start alone, of a linear program of so many rows. The one error is want of memory.
+    pub(crate) fn at_start(
+        alloc: Global,
+        rows: usize,
+        costs: &IntegerRow,
+    ) -> Result<Dictionaries, AllocError>
+        requires room { length costs.now + rows < 2 ^ 64 }
+        requires program { (ps : List (List ℤ)) × (weight : ℕ) × (bounds : List IntegerBounds) × (length ps ≡ rows) × CanStart ps weight costs.now bounds }
+        ensures some { IfOk result (λ d. 0 < length d.all) }
+        ensures kept { IfOk result (λ d. (ps : List (List ℤ)) (weight : ℕ) (bounds : List IntegerBounds) → length ps ≡ rows → CanStart ps weight costs.now bounds → AreKept ps weight costs.now d) }
+    {
+        let mut dictionaries = Dictionaries::new(alloc);
+        dictionaries.push_start(rows, costs)?;
+        Ok(dictionaries)
     }
 }

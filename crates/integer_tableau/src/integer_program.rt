@@ -1,6 +1,6 @@
 // Linear programs of whole numbers.
 
-ghost use Rattle.std.specs.Prelude.{◌≡◌, ℕ, ◌<◌, ◌≤◌, ◌-◌, ◌++◌, [], length, map, drop, IfOk, IfSome, IsTrue, slice_index_or};
+ghost use Rattle.std.specs.Prelude.{◌≡◌, ℕ, ◌<◌, ◌≤◌, ◌-◌, [], length, map, IfOk, IfSome, IsTrue, slice_index_or};
 ghost use Rattle.fraction.specs.Rational.{whole};
 ghost use Rattle.std.specs.Option.{option_map};
 ghost use Rattle.tableau.specs.WellFormed.{IsIntegral};
@@ -18,7 +18,7 @@ use crate::program_row::{ProgramEntry, ProgramRow};
 use crate::range::SIZE_LIMIT;
 use crate::start_sums::StartSums;
 use fraction::Frac;
-use problem_box::{IntBox, Span};
+use problem_box::Span;
 use std::alloc::{AllocError, Global};
 use std::marker::Model;
 use std::rc::RcSlice;
@@ -253,32 +253,6 @@ pub(crate) fn column_bounds(span: Span) -> IntegerBounds
         lower: Some(span.lo),
         upper: Some(span.hi),
     }
-}
-
-/// The bounds of the columns of a box. The one error is want of memory.
-fn box_bounds(alloc: Global, area: &IntBox, room: usize) -> Result<Vec<IntegerBounds>, AllocError>
-    ensures { IfOk result (λ v. v.items ≡ map column_bounds area.now) }
-{
-    let mut bounds = Vec::with_capacity(alloc, room)?;
-    for column in 0..area.len() {
-        bounds.push(column_bounds(area.span(column)))?;
-    }
-    Ok(bounds)
-}
-
-/// The bounds of the columns of a box, and behind them those of the rows. The one error is want of memory.
-pub(crate) fn bounds_over(
-    alloc: Global,
-    area: &IntBox,
-    columns: usize,
-    bounds: &[IntegerBounds],
-) -> Result<Vec<IntegerBounds>, AllocError>
-    requires { columns ≤ length bounds.now }
-    ensures { IfOk result (λ v. v.items ≡ map column_bounds area.now ++ drop columns bounds.now) }
-{
-    let mut all = box_bounds(alloc, area, bounds.len())?;
-    all.extend_from_slice(&bounds[columns..])?;
-    Ok(all)
 }
 
 impl IntegerProgram {

@@ -1,6 +1,6 @@
 // Rows of numerators.
 
-ghost use Rattle.std.specs.Prelude.{◌≡◌, ℕ, List, [], ◌<◌, ◌*◌, ◌≤◌, ◌-◌, pos, nat_abs, neg_ℤ, ◌<ℤ◌, length, IsTrue, IfOk, OnOk, IfSome, IsSome, replicate, slice_index_or, slice_set};
+ghost use Rattle.std.specs.Prelude.{◌≡◌, ℕ, List, [], ◌<◌, ◌*◌, ◌≤◌, ◌-◌, pos, nat_abs, neg_ℤ, ◌<ℤ◌, length, IsTrue, OnOk, IfSome, IsSome, replicate, slice_index_or, slice_set};
 ghost use Rattle.integer_tableau.specs.Numbers.{number_at, IsWithin};
 ghost use Rattle.integer_tableau.specs.Range.{size_limit};
 ghost use Rattle.integer_tableau.specs.Arena.{rows_by};
@@ -155,17 +155,6 @@ impl IntegerRow {
         ensures { result ≡ [] }
     {
         IntegerRow::make(Vec::new(alloc))
-    }
-
-    /// A copy. The one error is want of memory.
-    pub(crate) fn copy(&self, alloc: Global) -> Result<IntegerRow, AllocError>
-        ensures { IfOk result (λ r. r ≡ self.now) }
-    {
-        let numerators = Vec::from_slice(alloc, &self.numerators)?;
-        Ok(IntegerRow {
-            numerators,
-            size: self.size,
-        })
     }
 
     /// The numerators.

@@ -2,7 +2,7 @@
 
 ghost use Rattle.std.specs.Prelude.{◌≡◌, ◌≤◌, ◌<◌, ◌+◌, ◌^◌, ℕ, length, IfErr, IfOk, IfSome};
 ghost use Rattle.tableau.specs.Run.{RunEnd, run_from};
-ghost use Rattle.integer_tableau.specs.Kept.{IsAt, kept_at, view_of};
+ghost use Rattle.integer_tableau.specs.Kept.{IsAt, KeptDictionaries, kept_at, view_of};
 ghost use Rattle.integer_tableau.specs.RowSums.{AreColumnsOf};
 ghost use Rattle.integer_tableau.specs.StoreCalls.{AreKeptOf, StayKept};
 ghost use Rattle.integer_tableau.specs.StoredRun.{IsEndWithin, IsStep, IsStoredEnd, dictionary_at, view_with};
@@ -124,25 +124,25 @@ impl StoredEnd {
     }
 }
 
-/// The run of a solution with at most `cap` further pivots, by a tableau of its own. The error says that it is given up, and how many pivots were
-/// made before.
-fn run_alone(
+/// The run of a solution at the dictionary of this place with at most `cap` further pivots, by a tableau of its own. The error says that it is given
+/// up, and how many pivots were made before.
+pub(crate) fn run_alone(
     alloc: Global,
     numbers: &[u32],
     program_rows: &RcSlice<ProgramRow>,
     columns: &Option<CoefficientColumns>,
     weight: u64,
-    store: &DictionaryStore,
+    dictionaries: &Dictionaries,
     place: usize,
     solution: BasicSolution,
     cap: u64,
 ) -> Result<StoredEnd, u64>
-    requires kept { AreKeptOf program_rows.now.items.value.items weight store.now.kept }
+    requires kept { AreKeptOf program_rows.now.items.value.items weight dictionaries.now }
     requires columns { IfSome columns.now (AreColumnsOf program_rows.now.items.value.items) }
-    requires there { place < length store.now.kept.all }
-    requires at { IsAt program_rows.now.items.value.items weight (kept_at store.now.kept.all place) solution }
+    requires there { place < length dictionaries.now.all }
+    requires at { IsAt program_rows.now.items.value.items weight (kept_at dictionaries.now.all place) solution }
     requires room { solution.pivots + cap < 2 ^ 64 }
-    ensures end { IfOk result (IsStoredEnd numbers.now program_rows.now.items.value.items weight store.now.kept (solution.pivots + cap) (run_from cap (view_of numbers.now program_rows.now.items.value.items (kept_at store.now.kept.all place) solution))) }
+    ensures end { (k : KeptDictionaries) → IfOk result (IsStoredEnd numbers.now program_rows.now.items.value.items weight k (solution.pivots + cap) (run_from cap (view_of numbers.now program_rows.now.items.value.items (kept_at dictionaries.now.all place) solution))) }
     ensures given_up { IfErr result (λ made. made ≤ solution.pivots + cap) }
 {
     let made = solution.pivots;
@@ -151,7 +151,7 @@ fn run_alone(
         numbers,
         program_rows,
         weight,
-        &store.kept,
+        dictionaries,
         place,
     ) else {
         return Err(made);
@@ -211,7 +211,7 @@ pub(crate) fn run_stored(
                     program_rows,
                     columns,
                     weight,
-                    store,
+                    &store.kept,
                     at,
                     solution,
                     rest,
@@ -226,7 +226,7 @@ pub(crate) fn run_stored(
         program_rows,
         columns,
         weight,
-        store,
+        &store.kept,
         at,
         solution,
         0,

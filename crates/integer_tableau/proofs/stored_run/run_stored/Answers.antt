@@ -58,7 +58,7 @@ returns-in-Closed-clause-end c =
     let m = c.make_step.new.solution in
     let v = unmoved_view a.numbers.now ps old new l.at l.solution m c.in-Closed.ensures.step l.invariant.there in
     same_end a.numbers.now ps a.weight new c.run_alone.result _ _ _ _ (let h : m.pivots + (a.cap - l.made) ≡ a.cap = omega (arith, c.loop-made-test.true, l.invariant.counted, ap (λ (n : BasicSolution). n.pivots) c.in-Closed.ensures.step.solution) in h)
-    (ap (run_from (a.cap - l.made)) v ∙ l.invariant.same) c.run_alone.ensures.end
+    (ap (run_from (a.cap - l.made)) v ∙ l.invariant.same) (c.run_alone.ensures.end new)
 
 pub returns-in-Closed-clause-kept : goal.returns-in-Closed-clause-kept
 returns-in-Closed-clause-kept c = λ costs h.
@@ -97,4 +97,4 @@ returns-clause-end c =
     let l = c.loop-made in
     let none : 0 ≡ a.cap - l.made = omega (arith, c.loop-made-test.false) in
     same_end a.numbers.now a.program_rows.now.items.value.items a.weight l.store.kept c.run_alone-2.result _ _ _ _ (let h : l.solution.pivots + 0 ≡ a.cap = search rules in h)
-    (ap (λ k. run_from k (view_with a.numbers.now a.program_rows.now.items.value.items (dictionary_at l.store.kept l.at) l.solution)) none ∙ l.invariant.same) c.run_alone-2.ensures.end
+    (ap (λ k. run_from k (view_with a.numbers.now a.program_rows.now.items.value.items (dictionary_at l.store.kept l.at) l.solution)) none ∙ l.invariant.same) (c.run_alone-2.ensures.end l.store.kept)
