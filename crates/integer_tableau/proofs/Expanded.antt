@@ -34,6 +34,14 @@ module _ (d : ℕ) (ps : List (List ℤ)) (ss : List Position) (rows : List (Lis
   pub row_of_column : (v : ℕ) → v < length rows → get_or (expanded_rows d ps ss rows) v [] ≡ get_or rows v []
   row_of_column v l = get_or_append_left rows (rows_behind (combined_row d ss rows) (drop (length rows) ss) ps) [] v l
 
+  -- the row of a variable that was taken out of those of the columns, or was made before
+  pub row_taken : (v : ℕ) (made row : List ℤ) → (v < length rows → row ≡ get_or rows v []) → (length rows ≤ v → row ≡ made) → (length rows ≤ v → made ≡ get_or (expanded_rows d ps ss rows) v [])
+      → row ≡ get_or (expanded_rows d ps ss rows) v []
+  row_taken v made row kept stays is = elim (cases_lt v (length rows)) [
+    | inl l ↦ kept l ∙ sym (row_of_column v l)
+    | inr l ↦ stays l ∙ is l
+  ]
+
   module _ (many : length ss ≡ length rows + length ps) where
     behind_many : length (drop (length rows) ss) ≡ length ps
     behind_many = omega (arith, many, length-drop (length rows) ss)

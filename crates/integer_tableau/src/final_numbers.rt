@@ -223,8 +223,8 @@ fn numbers_at_end(
 }
 
 impl StoredEnd {
-    /// What is asked of the tableau there. The solution, of which no tableau is made, is spare then. The error inside says that the run is given up, and how many pivots were made before. The one error outside
-    /// is want of memory.
+    /// What is asked of the tableau there. The solution, of which no tableau is made, is spare then. The error inside says that the run is
+    /// given up, and how many pivots were made before. The one error outside is want of memory.
     pub(crate) fn final_numbers(
         self,
         alloc: Global,

@@ -52,8 +52,6 @@ pub struct IntegerTableau {
     pub(crate) nonbasic_values: Vec<i64>,
     /// Of each column: none where it isn't basic.
     pub(crate) rows: Vec<IntegerRow>,
-    /// Room for the row of a variable that leaves.
-    pub(crate) spare: IntegerRow,
     pub(crate) reduced_costs: IntegerRow,
     /// Of each column.
     pub(crate) values: Vec<i64>,

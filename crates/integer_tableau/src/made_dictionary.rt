@@ -66,37 +66,8 @@ fn substitute_small(
     small_size(row, bound)
 }
 
-/// Makes the numbers from `start` on the row that begins at another place before them, in which the variable of a column is substituted, by its solved row. The
-/// answer is a bound on its sizes, none where that isn't exact or small.
-#[inline(always)]
-fn substitute_behind(
-    numbers: &mut [i64],
-    start: usize,
-    from: usize,
-    size: u64,
-    column: usize,
-    solved: &IntegerRow,
-    pivot_size: i64,
-    divisor: Divisor,
-) -> Option<u64>
-    requires there { from + length solved.now ≤ start }
-    requires room { start + length solved.now ≡ length numbers.old }
-    requires column { column < length solved.now }
-    requires row_small { IsWithin (size_limit - 1) (slice_range numbers.old from (from + length solved.now)) }
-    requires row_within { IsWithin size (slice_range numbers.old from (from + length solved.now)) }
-    requires source_small { IsWithin (size_limit - 1) solved.now }
-    requires pivot_size_small { nat_abs pivot_size < size_limit }
-    ensures front { (row : List ℤ) × (numbers.new ≡ take start numbers.old ++ row) }
-    ensures row { IfSome result (λ b. (row : List ℤ) × (numbers.new ≡ take start numbers.old ++ row) × IsSubstitutedRow divisor.number pivot_size column solved.now (slice_range numbers.old from (from + length solved.now)) row × IsWithin b row) }
-{
-    let (before, row) = numbers.split_at_mut(start);
-    row.copy_from_slice(&before[from..from + solved.width()]);
-    let bound = substitute_small(row, size, column, solved, pivot_size, divisor)?;
-    Some(bound)
-}
-
-/// Puts a row that begins at this place behind all, in which the variable of a column is substituted, by its solved row. The answer is a bound on its sizes, none
-/// where that isn't exact or small, or memory is wanting.
+/// Puts a copy of the row that begins at this place behind all, and substitutes the variable of a column there, by its solved row. The answer is a bound on its
+/// sizes, none where that isn't exact or small, or memory is wanting.
 fn push_substituted(
     numerators: &mut Vec<i64>,
     from: usize,
@@ -118,14 +89,14 @@ fn push_substituted(
     let start = numerators.len();
     let end = start.checked_add(solved.width())?;
     numerators.resize(end, 0).ok()?;
-    let bound = substitute_behind(
-        numerators, start, from, size, column, solved, pivot_size, divisor,
-    )?;
+    let (before, row) = numerators.split_at_mut(start);
+    row.copy_from_slice(&before[from..from + solved.width()]);
+    let bound = substitute_small(row, size, column, solved, pivot_size, divisor)?;
     Some(bound)
 }
 
-/// Puts the row of a column behind a turn behind all, by those of the columns before it. The answer is a bound on its sizes, none where it isn't exact or small, or
-/// memory is wanting.
+/// Puts the row of a column behind a turn behind all, by those of the columns before it. The answer is a bound on its sizes, none where it
+/// isn't exact or small, or memory is wanting.
 #[inline(always)]
 fn push_row(
     numerators: &mut Vec<i64>,
@@ -166,8 +137,8 @@ fn push_row(
     )
 }
 
-/// Puts the rows of these columns behind a turn behind all, by those of the columns before it. The answer is a bound on their sizes, none where one isn't exact or
-/// small, or memory is wanting.
+/// Puts the rows of these columns behind a turn behind all, by those of the columns before it. The answer is a bound on their sizes, none
+/// where one isn't exact or small, or memory is wanting.
 fn push_rows(
     numerators: &mut Vec<i64>,
     own: Dictionary,
@@ -207,7 +178,8 @@ fn push_rows(
     Some(size)
 }
 
-/// Puts the rows and the reduced costs behind a turn behind all. The answer is a bound on their sizes, none where one isn't exact or small, or memory is wanting.
+/// Puts the rows and the reduced costs behind a turn behind all. The answer is a bound on their sizes, none where one isn't exact or small,
+/// or memory is wanting.
 fn push_numerators(
     numerators: &mut Vec<i64>,
     own: Dictionary,

@@ -86,41 +86,44 @@ pub(crate) fn value_of(
     }
 }
 
-/// Puts the row of a basic variable into `leaving_row`, and leaves none in its place; one that isn't kept may be there already. False where it isn't kept,
-/// and memory is wanting.
-fn take_row(
-    rows: &mut [IntegerRow],
-    leaving_row: &mut IntegerRow,
-    row_made: bool,
+/// Puts the row of a basic variable into `room`, if it isn't kept; false where memory is wanting.
+pub(crate) fn put_row(
+    room: &mut IntegerRow,
     program_rows: &[ProgramRow],
     positions: &[Position],
+    rows: &[IntegerRow],
     denominator: i64,
     leaving: usize,
 ) -> bool
-    requires positions_there { length positions.now ≡ length rows.old + length program_rows.now }
+    requires positions_there { length positions.now ≡ length rows.now + length program_rows.now }
     requires leaving_there { leaving < length positions.now }
     requires basic { slice_index_or positions.now leaving Position.InBasis ≡ Position.InBasis }
-    requires full { (i : ℕ) → i < length program_rows.now → length (slice_index_or program_rows.now i []) ≡ length rows.old }
+    requires full { (i : ℕ) → i < length program_rows.now → length (slice_index_or program_rows.now i []) ≡ length rows.now }
     requires positive { pos 0 <ℤ denominator }
-    requires small { IsWithin (size_limit - 1) (slice_index_or (expanded_rows (nat_abs denominator) program_rows.now positions.now rows.old) leaving []) }
-    requires made { IsTrue row_made → length rows.old ≤ leaving → leaving_row.old ≡ slice_index_or (expanded_rows (nat_abs denominator) program_rows.now positions.now rows.old) leaving [] }
-    ensures row { IsTrue result → leaving_row.new ≡ slice_index_or (expanded_rows (nat_abs denominator) program_rows.now positions.now rows.old) leaving [] }
-    ensures rows { IsTrue result → rows.new ≡ slice_set rows.old leaving [] }
+    requires small { IsWithin (size_limit - 1) (slice_index_or (expanded_rows (nat_abs denominator) program_rows.now positions.now rows.now) leaving []) }
+    ensures { IsTrue result → length rows.now ≤ leaving → room.new ≡ slice_index_or (expanded_rows (nat_abs denominator) program_rows.now positions.now rows.now) leaving [] }
 {
     let columns = rows.len();
     if leaving < columns {
+        return true;
+    }
+    room.combine_small(
+        &program_rows[leaving - columns],
+        positions,
+        rows,
+        denominator,
+    )
+}
+
+/// Takes the row of a variable out of the rows into `leaving_row`, and leaves none in its place; one that isn't kept is there already.
+fn take_row(rows: &mut [IntegerRow], leaving_row: &mut IntegerRow, leaving: usize)
+    ensures kept { leaving < length rows.old → leaving_row.new ≡ slice_index_or rows.old leaving [] }
+    ensures made { length rows.old ≤ leaving → leaving_row.new ≡ leaving_row.old }
+    ensures rows { rows.new ≡ slice_set rows.old leaving [] }
+{
+    if leaving < rows.len() {
         leaving_row.clear();
         mem::swap(&mut rows[leaving], leaving_row);
-        true
-    } else if row_made {
-        true
-    } else {
-        leaving_row.combine_small(
-            &program_rows[leaving - columns],
-            positions,
-            rows,
-            denominator,
-        )
     }
 }
 
@@ -174,8 +177,8 @@ fn exchange_of(
     })
 }
 
-/// Takes the leaving row out of the rows, into `leaving_row`, where it may be already if it isn't kept. The answer is the numerator of the leaving variable's value, and the pivot, if
-/// it can be made.
+/// Takes the leaving row out of the rows, into `leaving_row`, where it is already if it isn't kept. The answer is the numerator of the leaving
+/// variable's value, and the pivot, if it can be made.
 fn leave(
     bounds: &[IntegerBounds],
     program_rows: &[ProgramRow],
@@ -183,7 +186,6 @@ fn leave(
     nonbasic_values: &[i64],
     rows: &mut [IntegerRow],
     leaving_row: &mut IntegerRow,
-    row_made: bool,
     values: &[i64],
     denominator: i64,
     leaving: usize,
@@ -200,8 +202,7 @@ fn leave(
     requires full { (i : ℕ) → i < length program_rows.now → length (slice_index_or program_rows.now i []) ≡ length rows.old }
     requires light { (i : ℕ) → i < length program_rows.now → total_size (slice_index_or program_rows.now i []) < size_limit }
     requires near { (j : ℕ) → j < length values.now → nat_abs (number_at nonbasic_values.now j) * nat_abs denominator < 2 ^ 63 }
-    requires small { IsWithin (size_limit - 1) (slice_index_or (expanded_rows (nat_abs denominator) program_rows.now positions.now rows.old) leaving []) }
-    requires made { IsTrue row_made → length rows.old ≤ leaving → leaving_row.old ≡ slice_index_or (expanded_rows (nat_abs denominator) program_rows.now positions.now rows.old) leaving [] }
+    requires made { length rows.old ≤ leaving → leaving_row.old ≡ slice_index_or (expanded_rows (nat_abs denominator) program_rows.now positions.now rows.old) leaving [] }
     ensures value { IfSome result (λ e. e.0 ≡ number_at (expanded_values (nat_abs denominator) program_rows.now positions.now nonbasic_values.now values.now) leaving) }
     ensures row { IfSome result (λ e. leaving_row.new ≡ slice_index_or (expanded_rows (nat_abs denominator) program_rows.now positions.now rows.old) leaving []) }
     ensures rows { IfSome result (λ e. rows.new ≡ slice_set rows.old leaving []) }
@@ -217,17 +218,7 @@ fn leave(
         values,
         denominator,
     );
-    if !take_row(
-        rows,
-        leaving_row,
-        row_made,
-        program_rows,
-        positions,
-        denominator,
-        leaving,
-    ) {
-        return None;
-    }
+    take_row(rows, leaving_row, leaving);
     let exchange = exchange_of(
         bounds,
         positions,
@@ -296,8 +287,8 @@ fn exchange_numbers(
     )
 }
 
-/// Exchanges two variables in the parts of a tableau; `spare` may hold the leaving row if it isn't kept. The answer is the new denominator, or none where the
-/// pivot is given up; the parts are of no use then.
+/// Exchanges two variables in the parts of a tableau; `leaving_row` holds the leaving row if it isn't kept. The answer is the new denominator,
+/// or none where the pivot is given up; the parts are of no use then.
 pub(crate) fn pivot_parts(
     bounds: &[IntegerBounds],
     program_rows: &[ProgramRow],
@@ -308,8 +299,7 @@ pub(crate) fn pivot_parts(
     at_upper: &mut [bool],
     nonbasic_values: &mut [i64],
     rows: &mut [IntegerRow],
-    spare: &mut IntegerRow,
-    row_made: bool,
+    leaving_row: &mut IntegerRow,
     reduced_costs: &mut IntegerRow,
     values: &mut [i64],
     basic_columns: &mut Vec<usize>,
@@ -329,7 +319,7 @@ pub(crate) fn pivot_parts(
     requires values_there { length values.old ≡ length rows.old }
     requires nonbasic_are { AreNonbasic positions.old nonbasic.old }
     requires basic_are { basic_columns.old.items ≡ basic_from 0 (length rows.old) positions.old }
-    requires made { IsTrue row_made → length rows.old ≤ leaving → spare.old ≡ slice_index_or (expanded_rows (nat_abs denominator) program_rows.now positions.old rows.old) leaving [] }
+    requires made { length rows.old ≤ leaving → leaving_row.old ≡ slice_index_or (expanded_rows (nat_abs denominator) program_rows.now positions.old rows.old) leaving [] }
     ensures nonbasic { IfSome result (λ e. AreNonbasic positions.new nonbasic.new) }
     ensures basic { IfSome result (λ e. basic_columns.new.items ≡ basic_from 0 (length rows.new) positions.new) }
     ensures pivoted { IfSome result (λ e. IsPivoted program_rows.now weight reach leaving entering (of_parts bounds.now positions.old at_upper.old nonbasic_values.old rows.old reduced_costs.old values.old denominator pivots) (of_parts bounds.now positions.new at_upper.new nonbasic_values.new rows.new reduced_costs.new values.new e (pivots + 1)) × (pos 0 <ℤ e)) }
@@ -344,8 +334,7 @@ pub(crate) fn pivot_parts(
         positions,
         nonbasic_values,
         rows,
-        spare,
-        row_made,
+        leaving_row,
         values,
         denominator,
         leaving,
@@ -353,7 +342,7 @@ pub(crate) fn pivot_parts(
     )?;
     if !exchange_numbers(
         rows,
-        spare,
+        leaving_row,
         reduced_costs,
         values,
         basic_columns,
@@ -377,7 +366,7 @@ pub(crate) fn pivot_parts(
     at_upper[entering] = false;
     if !is_near(reach, exchange.size)
         || !are_combinations_small(
-            spare.allocator(),
+            leaving_row.allocator(),
             program_rows,
             weight,
             positions,
@@ -402,53 +391,10 @@ impl IntegerTableau {
         ensures value { IfSome result (λ t. pivoted leaving entering self ≡ Some t) }
         ensures counted { IfSome result (λ t. t.pivots ≡ self.pivots + 1) }
     {
-        let IntegerTableau {
-            fixed,
-            mut positions,
-            mut nonbasic,
-            mut at_upper,
-            mut nonbasic_values,
-            mut rows,
-            mut spare,
-            mut reduced_costs,
-            mut values,
-            mut basic_columns,
-            denominator,
-            pivots,
-        } = self;
-        let denominator = pivot_parts(
-            &fixed.bounds,
-            &fixed.rows,
-            fixed.weight,
-            fixed.reach,
-            &mut positions,
-            &mut nonbasic,
-            &mut at_upper,
-            &mut nonbasic_values,
-            &mut rows,
-            &mut spare,
-            false,
-            &mut reduced_costs,
-            &mut values,
-            &mut basic_columns,
-            denominator,
-            pivots,
-            leaving,
-            entering,
-        )?;
-        Some(IntegerTableau {
-            fixed,
-            positions,
-            nonbasic,
-            at_upper,
-            nonbasic_values,
-            rows,
-            spare,
-            reduced_costs,
-            values,
-            basic_columns,
-            denominator,
-            pivots: pivots + 1,
-        })
+        let mut running = self.into_running();
+        if !running.turn_alone(leaving, entering) {
+            return None;
+        }
+        Some(running.into_tableau())
     }
 }

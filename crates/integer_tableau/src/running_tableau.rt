@@ -10,7 +10,7 @@ ghost use Rattle.integer_tableau.specs.Running.{HasRow, IsRunning, running_view}
 use crate::coefficient_columns::CoefficientColumns;
 use crate::integer_row::IntegerRow;
 use crate::integer_tableau::{Fixed, IntegerTableau};
-use crate::pivot::pivot_parts;
+use crate::pivot::{pivot_parts, put_row};
 use crate::place::place_where_leaving;
 use crate::position::Position;
 use crate::row_sums::{leaving_with_sums, turn_kept_sums};
@@ -61,7 +61,6 @@ impl RunningTableau {
         requires { IsRunning self }
         ensures { result ≡ running_view self }
     {
-        let spare = IntegerRow::empty(*self.rows.allocator());
         IntegerTableau {
             fixed: self.fixed,
             positions: self.positions,
@@ -69,7 +68,6 @@ impl RunningTableau {
             at_upper: self.at_upper,
             nonbasic_values: self.nonbasic_values,
             rows: self.rows,
-            spare,
             reduced_costs: self.reduced_costs,
             values: self.values,
             basic_columns: self.basic_columns,
@@ -162,7 +160,6 @@ impl RunningTableau {
             &mut self.nonbasic_values,
             &mut self.rows,
             room,
-            true,
             &mut self.reduced_costs,
             &mut self.values,
             &mut self.basic_columns,
@@ -178,6 +175,35 @@ impl RunningTableau {
         self.denominator = denominator;
         self.pivots += 1;
         true
+    }
+
+    /// As `turn`, without sums of rows; the leaving row is made here if it isn't kept. False also where memory is wanting for it.
+    pub(crate) fn turn_alone(&mut self, leaving: usize, entering: usize) -> bool
+        requires running { IsRunning self.old }
+        requires leaving_there { leaving < length self.old.positions.items }
+        requires entering_there { entering < length self.old.positions.items }
+        requires room { self.old.pivots + 1 < 2 ^ 64 }
+        ensures value { IsTrue result → pivoted leaving entering (running_view self.old) ≡ Some (running_view self.new) }
+        ensures counted { IsTrue result → self.new.pivots ≡ self.old.pivots + 1 }
+        ensures running { IsTrue result → IsRunning self.new }
+    {
+        let Position::InBasis = self.positions[leaving] else {
+            return false;
+        };
+        let alloc = *self.rows.allocator();
+        let mut room = IntegerRow::empty(alloc);
+        let mut row_sums = Vec::new(alloc);
+        if !put_row(
+            &mut room,
+            &self.fixed.rows,
+            &self.positions,
+            &self.rows,
+            self.denominator,
+            leaving,
+        ) {
+            return false;
+        }
+        self.turn(&None, &mut row_sums, &mut room, leaving, entering)
     }
 
     /// One step of the run: where it ends, if it ends here; none where it is given up.

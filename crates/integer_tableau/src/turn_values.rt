@@ -55,8 +55,8 @@ fn step_basic_values(
 }
 
 impl BasicSolution {
-    /// Takes the solution along a turn, the size of whose pivot is this one; false where that is given up, since numbers grow too large. The solution is of no use
-    /// then.
+    /// Takes the solution along a turn, the size of whose pivot is this one; false where that is given up, since numbers grow too large.
+    /// The solution is of no use then.
     #[inline(never)]
     pub(crate) fn turn(
         &mut self,

@@ -3,13 +3,9 @@ use Rattle.std.proofs.lemmas.Int.{to_z-of_z}
 use Rattle.integer_tableau.specs.Combined.{expanded_rows}
 use Rattle.integer_tableau.specs.Numbers.{IsWithin, number_at}
 use Rattle.integer_tableau.specs.Range.{size_limit}
+use Rattle.integer_tableau.proofs.Expanded.{row_taken}
 use Rattle.integer_tableau.proofs.WaysOut.{none_then}
 use Rattle.integer_tableau.proofs.pivot.leave.Goals as goal
-
-pub take_row-requires-clause-small : goal.take_row-requires-clause-small
-take_row-requires-clause-small c =
-    subst (λ z. IsWithin (size_limit - 1) (get_or (expanded_rows (nat_abs z) c.args.program_rows.now c.args.positions.now c.args.rows.now) c.args.leaving []))
-    (sym (to_z-of_z w64 c.args.denominator c.ranges.denominator)) c.requires.small
 
 pub value_of-value-requires-clause-positions_there : goal.value_of-value-requires-clause-positions_there
 value_of-value-requires-clause-positions_there c = omega (arith, c.requires.positions_there, c.requires.values_there)
@@ -34,39 +30,6 @@ value_of-value-requires-clause-variable_there c = c.requires.leaving_there
 
 pub value_of-value-requires-clause-light : goal.value_of-value-requires-clause-light
 value_of-value-requires-clause-light c = c.requires.light
-
-pub take_row-requires-clause-positions_there : goal.take_row-requires-clause-positions_there
-take_row-requires-clause-positions_there c = c.requires.positions_there
-
-pub take_row-requires-clause-leaving_there : goal.take_row-requires-clause-leaving_there
-take_row-requires-clause-leaving_there c = c.requires.leaving_there
-
-pub take_row-requires-clause-basic : goal.take_row-requires-clause-basic
-take_row-requires-clause-basic c = c.requires.basic
-
-pub take_row-requires-clause-full : goal.take_row-requires-clause-full
-take_row-requires-clause-full c = c.requires.full
-
-pub take_row-requires-clause-positive : goal.take_row-requires-clause-positive
-take_row-requires-clause-positive c = subst (λ (z : ℤ). pos 0 <ℤ z) (sym (to_z-of_z w64 c.args.denominator c.ranges.denominator)) c.requires.positive
-
-pub returns-then-not-take_row-clause-value : goal.returns-then-not-take_row-clause-value
-returns-then-not-take_row-clause-value c = tt
-
-pub returns-then-not-take_row-clause-row : goal.returns-then-not-take_row-clause-row
-returns-then-not-take_row-clause-row c = tt
-
-pub returns-then-not-take_row-clause-rows : goal.returns-then-not-take_row-clause-rows
-returns-then-not-take_row-clause-rows c = tt
-
-pub returns-then-not-take_row-clause-pivot : goal.returns-then-not-take_row-clause-pivot
-returns-then-not-take_row-clause-pivot c = tt
-
-pub returns-then-not-take_row-clause-size : goal.returns-then-not-take_row-clause-size
-returns-then-not-take_row-clause-size c = tt
-
-pub returns-then-not-take_row-clause-there : goal.returns-then-not-take_row-clause-there
-returns-then-not-take_row-clause-there c = tt
 
 pub exchange_of-requires-clause-leaving_there : goal.exchange_of-requires-clause-leaving_there
 exchange_of-requires-clause-leaving_there c = c.requires.leaving_there
@@ -105,9 +68,9 @@ pub returns-clause-size : goal.returns-clause-size
 returns-clause-size c = c.in_ok-exchange.ensures.size
 
 pub returns-clause-rows : goal.returns-clause-rows
-returns-clause-rows c = c.if-not-take_row.ensures.rows refl
+returns-clause-rows c = c.take_row.ensures.rows
 
-pub take_row-requires-clause-made : goal.take_row-requires-clause-made
-take_row-requires-clause-made c = λ made l.
-    c.requires.made made l
-    ∙ ap (λ z. get_or (expanded_rows (nat_abs z) c.args.program_rows.now c.args.positions.now c.args.rows.now) c.args.leaving []) (sym (to_z-of_z w64 c.args.denominator c.ranges.denominator))
+pub returns-clause-row : goal.returns-clause-row
+returns-clause-row c =
+    row_taken (nat_abs c.args.denominator) c.args.program_rows.now c.args.positions.now c.args.rows.now c.args.leaving c.args.leaving_row.now c.take_row.new.leaving_row
+    c.take_row.ensures.kept c.take_row.ensures.made c.requires.made

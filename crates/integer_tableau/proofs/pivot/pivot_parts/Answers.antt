@@ -2,9 +2,12 @@ use Rattle.std.proofs.Common.{◌≡◌, ◌<◌, ◌<ℤ◌, ℤ, arith, ◌+�
 use Rattle.std.specs.Int.{w128}
 use mir.Val.{SFits}
 use Rattle.std.proofs.lemmas.Int.{to_z-of_z}
+use Rattle.std.proofs.lemmas.List.{length-set}
+use Rattle.integer_tableau.specs.declared.position.Position.TheVariants.{InBasis, InColumn}
 use Rattle.integer_tableau.specs.Combined.{expanded_rows, expanded_values}
 use Rattle.integer_tableau.specs.IntegerTableau.{of_parts}
 use Rattle.integer_tableau.specs.Numbers.{number_at}
+use Rattle.integer_tableau.specs.Range.{size_limit}
 use Rattle.integer_tableau.specs.Pivot.{AreSubstitutedValues, IsEliminated, IsPivotOf, IsPivoted}
 use Rattle.integer_tableau.proofs.Apart.{apart_after, nonbasic_after}
 use Rattle.integer_tableau.proofs.Exchanges.{positions_exchanged}
@@ -12,7 +15,7 @@ use Rattle.integer_tableau.specs.Substitution.{quotient_numerator}
 use Rattle.integer_tableau.proofs.BasicColumns.{column_there}
 use Rattle.integer_tableau.proofs.ListedRows.{after_has_rows, basic_rows, list_after, taken_has_rows}
 use Rattle.integer_tableau.specs.BasicColumns.{basic_from, count_below}
-use Rattle.integer_tableau.proofs.FromCode.{near_from_code, pivoted_from, positive_from, small_from_code}
+use Rattle.integer_tableau.proofs.FromCode.{near_from_code, pivoted_from, positive_from, width_from_code}
 use Rattle.integer_tableau.proofs.WaysOut.{none_then}
 use Rattle.integer_tableau.proofs.pivot.pivot_parts.Goals as goal
 
@@ -109,9 +112,23 @@ leave-requires-clause-light c = λ i l. omega (arith, c.requires.compact.weights
 pub leave-requires-clause-positive : goal.leave-requires-clause-positive
 leave-requires-clause-positive c = subst (λ (z : ℤ). pos 0 <ℤ z) (sym (to_z-of_z w64 c.args.denominator c.ranges.denominator)) c.requires.positive
 
-pub leave-requires-clause-small : goal.leave-requires-clause-small
-leave-requires-clause-small c =
-    small_from_code _ _ _ _ c.requires.compact c.args.program_rows.now c.args.positions.now c.args.rows.now _ c.args.leaving refl refl refl (ap nat_abs (to_z-of_z w64 c.args.denominator c.ranges.denominator))
+pub leave-requires-clause-basic : goal.leave-requires-clause-basic
+leave-requires-clause-basic c = c.in-InBasis.is
+
+pub exchange_numbers-requires-clause-small : goal.exchange_numbers-requires-clause-small
+exchange_numbers-requires-clause-small c = subst (λ (z : ℤ). nat_abs z < size_limit) (sym (to_z-of_z w64 c.args.denominator c.ranges.denominator)) c.requires.compact.consistent.denominator_small
+
+pub exchange_numbers-requires-clause-width : goal.exchange_numbers-requires-clause-width
+exchange_numbers-requires-clause-width c =
+    ap length c.in_ok-value.ensures.row
+    ∙ width_from_code _ _ _ _ c.requires.compact c.args.program_rows.now c.args.positions.now c.args.rows.now _ (length c.args.reduced_costs.now) c.args.leaving refl refl refl
+    (ap nat_abs (to_z-of_z w64 c.args.denominator c.ranges.denominator)) c.requires.compact.costs c.requires.leaving_there c.in-InBasis.is
+
+pub exchange_numbers-requires-clause-pivot : goal.exchange_numbers-requires-clause-pivot
+exchange_numbers-requires-clause-pivot c = c.in_ok-value.ensures.pivot
+
+pub exchange_numbers-requires-clause-size : goal.exchange_numbers-requires-clause-size
+exchange_numbers-requires-clause-size c = c.in_ok-value.ensures.size
 
 pub exchange_numbers-requires-clause-column : goal.exchange_numbers-requires-clause-column
 exchange_numbers-requires-clause-column c = c.requires.compact.consistent.within c.args.entering c.in_ok-value.exchange.column c.in_ok-value.ensures.there.entering
@@ -130,6 +147,19 @@ exchange_columns-requires c = λ l.
     let many : length c.exchange_numbers.new.rows ≡ n = c.exchange_numbers.auto.rows ∙ c.leave.auto.rows in
     subst (λ js. count_below r js < length js) (sym c.requires.basic_are)
     (subst (λ x. count_below x (basic_from 0 n ss) < length (basic_from 0 n ss)) q (column_there 0 n r ss (omega (arith, l, many)) c.requires.leaving_there c.in_ok-value.ensures.there.leaving))
+
+pub are_combinations_small-requires-clause-positions_there : goal.are_combinations_small-requires-clause-positions_there
+are_combinations_small-requires-clause-positions_there c =
+    let many = c.exchange_numbers.auto.rows ∙ c.leave.auto.rows in
+    let ss = c.args.positions.now in
+    let k = c.in_ok-value.exchange.column in
+    length-set (set ss c.args.leaving (InColumn k)) c.args.entering InBasis ∙ length-set ss c.args.leaving (InColumn k) ∙ c.requires.positions_there ∙ ap (λ n. n + length c.args.program_rows.now) (sym many)
+
+pub are_combinations_small-requires-clause-positive : goal.are_combinations_small-requires-clause-positive
+are_combinations_small-requires-clause-positive c =
+    let x = c.in_ok-value.exchange in
+    let fs : SFits w64 x.size = search rules in
+    positive_from _ _ (to_z-of_z w64 x.size fs ∙ c.in_ok-value.ensures.size) c.in_ok-value.ensures.there.coefficient
 
 pub are_combinations_small-requires-clause-listed : goal.are_combinations_small-requires-clause-listed
 are_combinations_small-requires-clause-listed c =
@@ -211,8 +241,8 @@ returns-clause-pivoted c =
     )
 
 pub leave-requires-clause-made : goal.leave-requires-clause-made
-leave-requires-clause-made c = λ made l.
-    c.requires.made made l
+leave-requires-clause-made c = λ l.
+    c.requires.made l
     ∙ ap (λ z. get_or (expanded_rows (nat_abs z) c.args.program_rows.now c.args.positions.now c.args.rows.now) c.args.leaving []) (sym (to_z-of_z w64 c.args.denominator c.ranges.denominator))
 
 pub returns-in_default-clause-exchanged : goal.returns-in_default-clause-exchanged

@@ -16,10 +16,10 @@ use Rattle.integer_tableau.specs.IntegerTableau.{IntegerTableau, of_parts, table
 use Rattle.integer_tableau.specs.Positions.{AreNonbasic}
 use Rattle.integer_tableau.specs.Running.{running_parts, running_view}
 use Rattle.integer_tableau.proofs.running_tableau.RunningTableau.turn.Goals as goal
-use Rattle.integer_tableau.proofs.running_tableau.RunningTableau.turn.Goals.{After-self-8-1}
+use Rattle.integer_tableau.proofs.running_tableau.RunningTableau.turn.Goals.{After-turn_kept_sums}
 
 -- the parts after the turn
-module _ (c : After-self-8-1) where
+module _ (c : After-turn_kept_sums) where
   abbrev new_parts : IntegerTableau
   new_parts =
       let n = c.args.self.now in
@@ -56,7 +56,7 @@ module _ (c : After-self-8-1) where
       refl c.in-Some.ensures.pivoted.0
 
 pub returns-clause-value : goal.returns-clause-value
-returns-clause-value c = λ _. (made c).0
+returns-clause-value c = λ _. (made (goal.at.returns-clause-value c).After-turn_kept_sums).0
 
 pub returns-clause-running : goal.returns-clause-running
 returns-clause-running c = λ _.
@@ -68,7 +68,7 @@ returns-clause-running c = λ _.
     let nonbasic_are = written m.nonbasic n.nonbasic.items n.nonbasic.len (c.pivot_parts.auto.nonbasic ∙ c.deref_mut-2.ensures.len) in
     let rows_are = written m.rows n.rows.items n.rows.len (c.pivot_parts.auto.rows ∙ c.deref_mut-5.ensures.len) in
     record {
-      compact = (made c).1;
+      compact = (made (goal.at.returns-clause-running c).After-turn_kept_sums).1;
       positive = subst (λ z. pos 0 <ℤ z) (sym e) c.in-Some.ensures.pivoted.1;
       nonbasic = subst (λ (T : Type 0). T) (λ i. AreNonbasic (sym positions_are i) (sym nonbasic_are i)) c.in-Some.ensures.nonbasic;
       columns = ap length nonbasic_are ∙ c.pivot_parts.auto.nonbasic ∙ ap length c.deref_mut-2.ensures.value ∙ c.requires.running.columns

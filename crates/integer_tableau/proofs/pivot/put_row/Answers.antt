@@ -4,10 +4,10 @@ use Rattle.integer_tableau.proofs.Expanded.{row_made}
 use Rattle.integer_tableau.specs.Combined.{combined_row}
 use Rattle.integer_tableau.specs.Numbers.{IsWithin}
 use Rattle.integer_tableau.specs.Range.{size_limit}
-use Rattle.integer_tableau.proofs.pivot.take_row.Goals as goal
+use Rattle.integer_tableau.proofs.pivot.put_row.Goals as goal
 
-pub returns-else-row_made-clause-row : goal.returns-else-row_made-clause-row
-returns-else-row_made-clause-row c = λ ok.
+pub returns : goal.returns
+returns c = λ ok _.
     row_made (nat_abs c.args.denominator) c.args.program_rows.now c.args.positions.now c.args.rows.now c.requires.positions_there c.args.leaving c.index-program_rows-leaving.result c.combine_small.new.self
     c.if-leaving-columns.false c.requires.leaving_there c.requires.basic c.index-program_rows-leaving.is
     (c.combine_small.ensures ok ∙ ap (λ z. combined_row (nat_abs z) c.args.positions.now c.args.rows.now c.index-program_rows-leaving.result) (to_z-of_z w64 c.args.denominator c.ranges.denominator))
