@@ -1,14 +1,8 @@
-//! Commands over journals whose events stand in groups, and in groups that are refused.
+//! Commands over journals whose groups of events are refused.
 
-use crate::command::{Answered, Command, usual};
-use crate::models::ONE;
-use crate::shown::{More, show_command, show_hexadecimal};
 use anyhow::Result;
-use std::alloc::{AllocError, Global};
-use std::io;
-
-/// Where the gate behind the record of the model stands.
-const BEHIND_MODEL: usize = 150;
+use case_runs::{Answered, ONE, show_framed, usual};
+use std::alloc::Global;
 
 /// Frames with groups that are refused as a whole.
 const REFUSED: [(&str, &[u8]); 12] = [
@@ -62,43 +56,6 @@ const REFUSED: [(&str, &[u8]); 12] = [
     ),
 ];
 
-/// The beginning of a journal up to the gate behind the record of its model, and these frames behind it.
-pub(crate) fn with_frames(
-    alloc: Global,
-    journal: &[u8],
-    frames: &[u8],
-) -> Result<Vec<u8>, AllocError> {
-    let end = journal.len().min(BEHIND_MODEL);
-    let mut made = journal[..end].to_vec(alloc)?;
-    made.extend_from_slice(frames)?;
-    Ok(made)
-}
-
-/// Prints the length of a journal, and what stands behind the record of its model.
-fn show_behind_model<R: Print>(rt: &R, journal: &[u8]) -> io::Result<()> {
-    let length = journal.len();
-    let start = length.min(BEHIND_MODEL);
-    print!(rt; "a finished search: {length} bytes, behind the model:")?;
-    show_hexadecimal(rt, &journal[start..])
-}
-
-/// Prints what a command answers over a journal with these frames, and whether the disk is as it was.
-pub(crate) fn show_framed<R: Print + Alloc<A = Global>>(
-    rt: &R,
-    title: &str,
-    line: &str,
-    journal: &[u8],
-    frames: &[u8],
-) -> Result<()> {
-    let bytes = with_frames(rt.alloc(), journal, frames)?;
-    let command = Command {
-        bytes: &bytes,
-        ..usual(line, ONE)
-    };
-    let more = More::Same("the disk is as it was", &bytes);
-    show_command(rt, title, &command, more)
-}
-
 /// Journals of groups that are refused, with the place of the group.
 fn show_refused<R: Print + Alloc<A = Global>>(rt: &R, journal: &[u8]) -> Result<()> {
     for (title, frames) in &REFUSED {
@@ -107,10 +64,8 @@ fn show_refused<R: Print + Alloc<A = Global>>(rt: &R, journal: &[u8]) -> Result<
     Ok(())
 }
 
-/// The journal of a finished search, byte by byte, and those with other groups.
+/// Groups that are refused, behind the record of the model of a finished search.
 pub(crate) fn show<R: Print + Alloc<A = Global>>(rt: &R) -> Result<()> {
     let finished = Answered::run(rt.alloc(), &usual("solve m j c", ONE))?;
-    let journal = finished.journal(rt.alloc())?;
-    show_behind_model(rt, &journal)?;
-    show_refused(rt, &journal)
+    show_refused(rt, finished.disk.bytes())
 }

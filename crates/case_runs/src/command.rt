@@ -55,7 +55,7 @@ pub struct Command<'a> {
 }
 
 /// A command over the model of a text and an empty disk, of which no call fails.
-pub(crate) fn usual<'a>(line: &'a str, model: &'a str) -> Command<'a> {
+pub fn usual<'a>(line: &'a str, model: &'a str) -> Command<'a> {
     Command {
         line,
         model,
@@ -69,12 +69,12 @@ pub(crate) fn usual<'a>(line: &'a str, model: &'a str) -> Command<'a> {
 
 impl Command<'_> {
     /// Whether one worker does it: none of its words asks for more.
-    pub(crate) fn is_by_one(&self) -> bool {
+    pub fn is_by_one(&self) -> bool {
         !self.line.split(' ').any(|word| word == "--workers")
     }
 
     /// What it is given besides its disk.
-    pub(crate) fn given(&self, alloc: Global) -> Result<Given, AllocError> {
+    pub fn given(&self, alloc: Global) -> Result<Given, AllocError> {
         let model = self.source.source(alloc, self.model)?;
         let cert = self.cert.sink(alloc)?;
         let out = self.out.sink(alloc)?;
@@ -88,7 +88,7 @@ impl Command<'_> {
     }
 
     /// Its disk.
-    pub(crate) fn disk(&self, alloc: Global) -> Result<MemDisk, AllocError> {
+    pub fn disk(&self, alloc: Global) -> Result<MemDisk, AllocError> {
         match self.stop {
             Some(call) => MemDisk::stopping_at(alloc, self.bytes, call),
             None => MemDisk::from_bytes(alloc, self.bytes),
@@ -141,7 +141,7 @@ pub struct Answered {
 
 impl Answered {
     /// What a run answered that was given this.
-    pub(crate) fn of(ran: Ran<MemDisk>, given: Given) -> Answered {
+    pub fn of(ran: Ran<MemDisk>, given: Given) -> Answered {
         let Ran { status, disk, last } = ran;
         let kinds = kinds_of_last(&last);
         Answered {
@@ -153,41 +153,41 @@ impl Answered {
     }
 
     /// Runs a command on a disk.
-    pub(crate) fn run_on(alloc: Global, command: &Command<'_>, disk: MemDisk) -> Result<Answered> {
+    pub fn run_on(alloc: Global, command: &Command<'_>, disk: MemDisk) -> Result<Answered> {
         let given = command.given(alloc)?;
         Ok(run_given(alloc, given, disk))
     }
 
     /// Runs a command on its own disk.
-    pub(crate) fn run(alloc: Global, command: &Command<'_>) -> Result<Answered> {
+    pub fn run(alloc: Global, command: &Command<'_>) -> Result<Answered> {
         let disk = command.disk(alloc)?;
         Answered::run_on(alloc, command, disk)
     }
 
     /// The certificate.
-    pub(crate) fn certificate(&self) -> &str {
+    pub fn certificate(&self) -> &str {
         text_of(self.given.cert.bytes())
     }
 
     /// The lines.
-    pub(crate) fn lines(&self) -> &str {
+    pub fn lines(&self) -> &str {
         text_of(self.given.out.bytes())
     }
 
     /// A copy of the bytes of its disk.
-    pub(crate) fn journal(&self, alloc: Global) -> Result<Vec<u8>> {
+    pub fn journal(&self, alloc: Global) -> Result<Vec<u8>> {
         Ok(self.disk.bytes().to_vec(alloc)?)
     }
 
     /// Whether another command answered the same.
-    pub(crate) fn answers_as(&self, other: &Answered) -> bool {
+    pub fn answers_as(&self, other: &Answered) -> bool {
         self.status == other.status
             && self.given.cert.bytes() == other.given.cert.bytes()
             && self.given.out.bytes() == other.given.out.bytes()
     }
 
     /// Whether another command answered the same, and left the same.
-    pub(crate) fn is_same(&self, other: &Answered) -> bool {
+    pub fn is_same(&self, other: &Answered) -> bool {
         self.answers_as(other) && self.disk.bytes() == other.disk.bytes()
     }
 }

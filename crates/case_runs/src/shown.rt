@@ -42,7 +42,7 @@ fn show_answer<R: Print>(rt: &R, title: &str, ran: &Answered) -> io::Result<()> 
 }
 
 /// Prints the certificate.
-pub(crate) fn show_certificate<R: Print>(rt: &R, title: &str, ran: &Answered) -> io::Result<()> {
+pub fn show_certificate<R: Print>(rt: &R, title: &str, ran: &Answered) -> io::Result<()> {
     for line in ran.certificate().lines() {
         println!(rt; "{title} {line}")?;
     }
@@ -50,7 +50,7 @@ pub(crate) fn show_certificate<R: Print>(rt: &R, title: &str, ran: &Answered) ->
 }
 
 /// Prints bytes in hexadecimal and ends the line.
-pub(crate) fn show_hexadecimal<R: Print>(rt: &R, bytes: &[u8]) -> io::Result<()> {
+pub fn show_hexadecimal<R: Print>(rt: &R, bytes: &[u8]) -> io::Result<()> {
     for byte in bytes {
         print!(rt; " {byte:02x}")?;
     }
@@ -105,7 +105,7 @@ fn show_all<R: Print>(rt: &R, title: &str, ran: &Answered, more: More<'_>) -> Re
 }
 
 /// Prints what a command answers on this disk.
-pub(crate) fn show_on<R: Print + Alloc<A = Global>>(
+pub fn show_on<R: Print + Alloc<A = Global>>(
     rt: &R,
     title: &str,
     command: &Command<'_>,
@@ -117,7 +117,7 @@ pub(crate) fn show_on<R: Print + Alloc<A = Global>>(
 }
 
 /// Prints what a command answers on its own disk.
-pub(crate) fn show_command<R: Print + Alloc<A = Global>>(
+pub fn show_command<R: Print + Alloc<A = Global>>(
     rt: &R,
     title: &str,
     command: &Command<'_>,
@@ -128,7 +128,7 @@ pub(crate) fn show_command<R: Print + Alloc<A = Global>>(
 }
 
 /// Prints what the command of these words answers over the model of a text, on a disk that holds these bytes.
-pub(crate) fn show_line<'a, R: Print + Alloc<A = Global>>(
+pub fn show_line<'a, R: Print + Alloc<A = Global>>(
     rt: &R,
     title: &str,
     line: &'a str,
@@ -143,7 +143,7 @@ pub(crate) fn show_line<'a, R: Print + Alloc<A = Global>>(
 }
 
 /// The disk that a command left.
-pub(crate) fn disk_of(ran: Answered) -> MemDisk {
+pub fn disk_of(ran: Answered) -> MemDisk {
     let Answered {
         status: _,
         given: _,
@@ -154,7 +154,7 @@ pub(crate) fn disk_of(ran: Answered) -> MemDisk {
 }
 
 /// Prints what a command answers on its own disk. The disk as it left it.
-pub(crate) fn show_with_disk<R: Print + Alloc<A = Global>>(
+pub fn show_with_disk<R: Print + Alloc<A = Global>>(
     rt: &R,
     title: &str,
     command: &Command<'_>,
