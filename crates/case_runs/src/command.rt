@@ -74,7 +74,7 @@ impl Command<'_> {
     }
 
     /// What it is given besides its disk.
-    pub fn given(&self, alloc: Global) -> Result<Given, AllocError> {
+    pub(crate) fn given(&self, alloc: Global) -> Result<Given, AllocError> {
         let model = self.source.source(alloc, self.model)?;
         let cert = self.cert.sink(alloc)?;
         let out = self.out.sink(alloc)?;
@@ -88,7 +88,7 @@ impl Command<'_> {
     }
 
     /// Its disk.
-    pub fn disk(&self, alloc: Global) -> Result<MemDisk, AllocError> {
+    pub(crate) fn disk(&self, alloc: Global) -> Result<MemDisk, AllocError> {
         match self.stop {
             Some(call) => MemDisk::stopping_at(alloc, self.bytes, call),
             None => MemDisk::from_bytes(alloc, self.bytes),
@@ -141,7 +141,7 @@ pub struct Answered {
 
 impl Answered {
     /// What a run answered that was given this.
-    pub fn of(ran: Ran<MemDisk>, given: Given) -> Answered {
+    pub(crate) fn of(ran: Ran<MemDisk>, given: Given) -> Answered {
         let Ran { status, disk, last } = ran;
         let kinds = kinds_of_last(&last);
         Answered {
@@ -153,7 +153,7 @@ impl Answered {
     }
 
     /// Runs a command on a disk.
-    pub fn run_on(alloc: Global, command: &Command<'_>, disk: MemDisk) -> Result<Answered> {
+    pub(crate) fn run_on(alloc: Global, command: &Command<'_>, disk: MemDisk) -> Result<Answered> {
         let given = command.given(alloc)?;
         Ok(run_given(alloc, given, disk))
     }

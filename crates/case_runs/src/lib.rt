@@ -1,4 +1,4 @@
-//! What programs of cases on whole runs share: small models, commands over memory with what they are given and answer, and what is printed of their answers.
+//! What programs of cases on whole runs share: small models, commands over memory with what they are given and answer, and what is printed of that.
 #![tactic(auto)]
 
 mod command;
@@ -9,7 +9,7 @@ mod shown;
 mod work;
 
 pub use command::{Answered, Command, Given, SOUND, Stream, usual};
-pub use frames::{BEHIND_MODEL, show_framed, with_frames};
+pub use frames::{BEHIND_MODEL, with_frames};
 pub use kinds::Kinds;
 pub use models::{EMPTY, FAR, MOST, ODD, ONE};
 pub use shown::{

@@ -2,12 +2,11 @@
 
 use anyhow::Result;
 use case_runs::{
-    Answered, BEHIND_MODEL, Command, EMPTY, FAR, MOST, More, ODD, ONE, SOUND, Stream, show_command,
-    show_hexadecimal, show_line, show_on, show_with_disk, usual,
+    Answered, Command, EMPTY, FAR, MOST, More, ODD, ONE, SOUND, Stream, show_command, show_line,
+    show_on, show_with_disk, usual,
 };
 use outside::MemDisk;
 use std::alloc::{AllocError, Global};
-use std::io;
 
 const SOLVE: &str = "solve m j c";
 
@@ -207,23 +206,13 @@ fn show_other_journals<R: Print + Alloc<A = Global>>(rt: &R, journal: &[u8]) -> 
     show_longer(rt, journal)
 }
 
-/// Prints the length of a journal, and what stands behind the record of its model.
-fn show_behind_model<R: Print>(rt: &R, journal: &[u8]) -> io::Result<()> {
-    let length = journal.len();
-    let start = length.min(BEHIND_MODEL);
-    print!(rt; "a finished search: {length} bytes, behind the model:")?;
-    show_hexadecimal(rt, &journal[start..])
-}
-
-/// Commands over other journals than this one of a finished search, over streams and disks that fail, what is shown of this one, drills, and what this
-/// one holds.
+/// Commands over other journals than this one of a finished search, over streams and disks that fail, what is shown of this one, and drills.
 fn show_beside<R: Print + Alloc<A = Global>>(rt: &R, journal: &[u8]) -> Result<()> {
     show_other_journals(rt, journal)?;
     show_faults(rt)?;
     show_kept(rt, "a journal is shown", "show j", "", journal)?;
     show_unwritten(rt, journal)?;
-    show_drills(rt)?;
-    Ok(show_behind_model(rt, journal)?)
+    show_drills(rt)
 }
 
 /// Commands over journals that aren't begun as they should be, over streams and disks that fail, and drills.

@@ -1,9 +1,8 @@
 //! Commands over journals with the record of the upgrade, and over journals that programs wrote before there was one.
 
+use crate::groups::show_framed;
 use anyhow::Result;
-use case_runs::{
-    Answered, Command, More, ODD, ONE, show_command, show_framed, show_line, usual, with_frames,
-};
+use case_runs::{Answered, Command, More, ODD, ONE, show_command, show_line, usual, with_frames};
 use std::alloc::{AllocError, Global};
 
 const SHOW: &str = "show j";

@@ -1,15 +1,17 @@
-//! Whole runs in pieces, runs of which a call of the source or of a sink fails, and groups of events that are refused.
+//! Whole runs in pieces, runs whose source, sink or disk fails at each call in turn, and commands with several workers.
 //! The gate compares what it prints with `stdout`.
 #![tactic(auto)]
 
+mod disk_faults;
 mod faults;
-mod refusals;
 mod runs;
+mod workers;
 
 use anyhow::Result;
 
 fn main(rt: HostRuntime) -> Result<()> {
     runs::show(&rt)?;
-    refusals::show(&rt)?;
-    faults::show(&rt)
+    faults::show(&rt)?;
+    disk_faults::show(&rt)?;
+    workers::show(&rt)
 }

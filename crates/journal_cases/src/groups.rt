@@ -1,8 +1,11 @@
-//! Commands over journals whose groups of events are refused.
+//! Commands over journals whose events stand in groups, and in groups that are refused.
 
 use anyhow::Result;
-use case_runs::{Answered, ONE, show_framed, usual};
+use case_runs::{
+    Answered, BEHIND_MODEL, Command, More, ONE, show_command, show_hexadecimal, usual, with_frames,
+};
 use std::alloc::Global;
+use std::io;
 
 /// Frames with groups that are refused as a whole.
 const REFUSED: [(&str, &[u8]); 12] = [
@@ -56,6 +59,31 @@ const REFUSED: [(&str, &[u8]); 12] = [
     ),
 ];
 
+/// Prints the length of a journal, and what stands behind the record of its model.
+fn show_behind_model<R: Print>(rt: &R, journal: &[u8]) -> io::Result<()> {
+    let length = journal.len();
+    let start = length.min(BEHIND_MODEL);
+    print!(rt; "a finished search: {length} bytes, behind the model:")?;
+    show_hexadecimal(rt, &journal[start..])
+}
+
+/// Prints what a command answers over a journal with these frames, and whether the disk is as it was.
+pub(crate) fn show_framed<R: Print + Alloc<A = Global>>(
+    rt: &R,
+    title: &str,
+    line: &str,
+    journal: &[u8],
+    frames: &[u8],
+) -> Result<()> {
+    let bytes = with_frames(rt.alloc(), journal, frames)?;
+    let command = Command {
+        bytes: &bytes,
+        ..usual(line, ONE)
+    };
+    let more = More::Same("the disk is as it was", &bytes);
+    show_command(rt, title, &command, more)
+}
+
 /// Journals of groups that are refused, with the place of the group.
 fn show_refused<R: Print + Alloc<A = Global>>(rt: &R, journal: &[u8]) -> Result<()> {
     for (title, frames) in &REFUSED {
@@ -64,8 +92,10 @@ fn show_refused<R: Print + Alloc<A = Global>>(rt: &R, journal: &[u8]) -> Result<
     Ok(())
 }
 
-/// Groups that are refused, behind the record of the model of a finished search.
+/// The journal of a finished search, byte by byte, and those with other groups.
 pub(crate) fn show<R: Print + Alloc<A = Global>>(rt: &R) -> Result<()> {
     let finished = Answered::run(rt.alloc(), &usual("solve m j c", ONE))?;
-    show_refused(rt, finished.disk.bytes())
+    let journal = finished.journal(rt.alloc())?;
+    show_behind_model(rt, &journal)?;
+    show_refused(rt, &journal)
 }
