@@ -41,6 +41,7 @@ pub const SOUND: Stream<'static> = Stream {
 pub struct Command<'a> {
     /// Its words, parted by single blanks.
     pub line: &'a str,
+    /// The text of its model.
     pub model: &'a str,
     /// The source of the model.
     pub source: Stream<'a>,
@@ -114,6 +115,7 @@ fn push_words(alloc: Global, words: &mut Words, line: &str) -> Result<(), AllocE
 /// What a command is given besides its disk.
 #[derive(Drop)]
 pub struct Given {
+    /// Its words.
     pub words: Words,
     /// The source of its model.
     pub model: MemSource,
@@ -133,7 +135,9 @@ fn text_of(bytes: &[u8]) -> &str {
 pub struct Answered {
     /// The number with which it ended.
     pub status: u8,
+    /// What it was given, as it left it.
     pub given: Given,
+    /// The disk as it left it.
     pub disk: MemDisk,
     /// The kinds of the events of the search that it handed back, if it handed one back.
     pub kinds: Option<Kinds>,
@@ -158,23 +162,23 @@ impl Answered {
         Ok(run_given(alloc, given, disk))
     }
 
-    /// Runs a command on its own disk.
+    /// Runs a command on its own disk, by one worker. The one error is want of memory.
     pub fn run(alloc: Global, command: &Command<'_>) -> Result<Answered> {
         let disk = command.disk(alloc)?;
         Answered::run_on(alloc, command, disk)
     }
 
-    /// The certificate.
+    /// The certificate that it wrote.
     pub fn certificate(&self) -> &str {
         text_of(self.given.cert.bytes())
     }
 
-    /// The lines.
+    /// The lines that it wrote.
     pub fn lines(&self) -> &str {
         text_of(self.given.out.bytes())
     }
 
-    /// A copy of the bytes of its disk.
+    /// A copy of the bytes of its disk. The one error is want of memory.
     pub fn journal(&self, alloc: Global) -> Result<Vec<u8>> {
         Ok(self.disk.bytes().to_vec(alloc)?)
     }

@@ -9,6 +9,7 @@ use std::io;
 /// What is printed of an answer behind its first line.
 #[derive(Clone, Copy)]
 pub enum More<'a> {
+    /// Nothing more.
     Nothing,
     /// The certificate.
     Certificate,
@@ -41,7 +42,7 @@ fn show_answer<R: Print>(rt: &R, title: &str, ran: &Answered) -> io::Result<()> 
     show_events(rt, ran)
 }
 
-/// Prints the certificate.
+/// Prints the certificate, a line for each of its lines. An error is one of printing.
 pub fn show_certificate<R: Print>(rt: &R, title: &str, ran: &Answered) -> io::Result<()> {
     for line in ran.certificate().lines() {
         println!(rt; "{title} {line}")?;
@@ -49,7 +50,7 @@ pub fn show_certificate<R: Print>(rt: &R, title: &str, ran: &Answered) -> io::Re
     Ok(())
 }
 
-/// Prints bytes in hexadecimal and ends the line.
+/// Prints bytes in hexadecimal and ends the line. An error is one of printing.
 pub fn show_hexadecimal<R: Print>(rt: &R, bytes: &[u8]) -> io::Result<()> {
     for byte in bytes {
         print!(rt; " {byte:02x}")?;
@@ -104,7 +105,7 @@ fn show_all<R: Print>(rt: &R, title: &str, ran: &Answered, more: More<'_>) -> Re
     Ok(())
 }
 
-/// Prints what a command answers on this disk.
+/// Prints what a command answers on this disk. An error is one of printing, or want of memory.
 pub fn show_on<R: Print + Alloc<A = Global>>(
     rt: &R,
     title: &str,
@@ -116,7 +117,7 @@ pub fn show_on<R: Print + Alloc<A = Global>>(
     show_all(rt, title, &ran, more)
 }
 
-/// Prints what a command answers on its own disk.
+/// Prints what a command answers on its own disk. An error is one of printing, or want of memory.
 pub fn show_command<R: Print + Alloc<A = Global>>(
     rt: &R,
     title: &str,
@@ -127,7 +128,8 @@ pub fn show_command<R: Print + Alloc<A = Global>>(
     show_on(rt, title, command, disk, more)
 }
 
-/// Prints what the command of these words answers over the model of a text, on a disk that holds these bytes.
+/// Prints what the command of these words answers over the model of a text, on a disk that holds these bytes. An error is one of printing, or want of
+/// memory.
 pub fn show_line<'a, R: Print + Alloc<A = Global>>(
     rt: &R,
     title: &str,
@@ -153,7 +155,7 @@ pub fn disk_of(ran: Answered) -> MemDisk {
     disk
 }
 
-/// Prints what a command answers on its own disk. The disk as it left it.
+/// Prints what a command answers on its own disk. The disk as it left it. An error is one of printing, or want of memory.
 pub fn show_with_disk<R: Print + Alloc<A = Global>>(
     rt: &R,
     title: &str,

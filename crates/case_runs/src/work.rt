@@ -33,7 +33,7 @@ fn work_given<R: Threads + Wait + Sync, H: Hold + Sync>(
     Answered::of(ran, given)
 }
 
-/// Runs a command on a disk, with its workers in threads.
+/// Runs a command on a disk, with its workers in threads, each of which asks `hold` before it claims a node. The one error is want of memory.
 pub fn work_on<R: Threads + Wait + Sync, H: Hold + Sync>(
     rt: &R,
     alloc: Global,
