@@ -1,11 +1,8 @@
 //! Searches by one worker and by two, and from older journals, whose disk fails at each call in turn, once or from then on, and that are run again on what
 //! a crash might leave.
 
-use crate::command::{Answered, Command, usual};
-use crate::groups::with_frames;
-use crate::models::{ODD, ONE};
-use crate::workers::work_on;
 use anyhow::Result;
+use case_runs::{Answered, Command, ODD, ONE, usual, with_frames, work_on};
 use outside::{MemDisk, NoHold};
 use std::alloc::{AllocError, Global};
 use std::io;

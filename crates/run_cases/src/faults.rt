@@ -1,9 +1,7 @@
 //! Runs of which one call of a stream fails, each call in turn: of the model's source, of the certificate's sink, and of the lines' sink.
 
-use crate::command::{Answered, Command, SOUND, Stream, usual};
-use crate::models::ONE;
-use crate::shown::{More, show_command};
 use anyhow::Result;
+use case_runs::{Answered, Command, More, ONE, SOUND, Stream, show_command, usual};
 use std::alloc::Global;
 use std::io;
 

@@ -1,9 +1,7 @@
 //! Whole runs in pieces, and runs whose source or sink fails.
 
-use crate::command::{Answered, Command, SOUND, Stream, usual};
-use crate::models::ONE;
-use crate::shown::show_certificate;
 use anyhow::Result;
+use case_runs::{Answered, Command, ONE, SOUND, Stream, show_certificate, usual};
 use std::alloc::Global;
 use std::io;
 

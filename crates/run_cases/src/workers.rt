@@ -1,15 +1,10 @@
 //! Commands with several workers.
 
-use crate::command::{Answered, Command, Given, usual};
-use crate::kinds::Kinds;
-use crate::models::ODD;
-use crate::shown::disk_of;
 use anyhow::Result;
+use case_runs::{Answered, Command, Kinds, ODD, disk_of, usual, work_on};
 use case_tools::Meeting;
-use outside::{Hold, MemDisk, NoHold};
-use solve_top::run;
+use outside::{MemDisk, NoHold};
 use std::alloc::Global;
-use std::hash::{BuildHasherDefault, DefaultHasher};
 use std::io;
 use std::sync::Wait;
 use std::thread::Threads;
@@ -39,42 +34,6 @@ const LINES: [&str; 7] = [
     "solve m j c --workers 17",
     "show j --workers 2",
 ];
-
-/// Runs a command that is given this, with its workers in threads.
-fn work_given<R: Threads + Wait + Sync, H: Hold + Sync>(
-    rt: &R,
-    alloc: Global,
-    given: Given,
-    disk: MemDisk,
-    hold: &H,
-) -> Answered {
-    let mut given = given;
-    let keys: BuildHasherDefault<DefaultHasher> = BuildHasherDefault::new();
-    let ran = run(
-        rt,
-        alloc,
-        keys,
-        &given.words,
-        &mut given.model,
-        disk,
-        &mut given.cert,
-        &mut given.out,
-        hold,
-    );
-    Answered::of(ran, given)
-}
-
-/// Runs a command on a disk, with its workers in threads.
-pub(crate) fn work_on<R: Threads + Wait + Sync, H: Hold + Sync>(
-    rt: &R,
-    alloc: Global,
-    command: &Command<'_>,
-    disk: MemDisk,
-    hold: &H,
-) -> Result<Answered> {
-    let given = command.given(alloc)?;
-    Ok(work_given(rt, alloc, given, disk, hold))
-}
 
 /// Prints the status and the lines of a command.
 fn show_lines<R: Print>(rt: &R, line: &str, worked: &Answered) -> Result<()> {

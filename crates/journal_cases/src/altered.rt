@@ -1,9 +1,7 @@
 //! Commands over the journal of a finished search that was cut, or of which one byte was changed.
 
-use crate::command::{Answered, Command, usual};
-use crate::models::ONE;
-use crate::shown::{More, show_command};
 use anyhow::Result;
+use case_runs::{Answered, Command, More, ONE, show_command, usual};
 use std::alloc::{AllocError, Global};
 
 const SOLVE: &str = "solve m j c";

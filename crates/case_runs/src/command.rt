@@ -41,6 +41,7 @@ pub const SOUND: Stream<'static> = Stream {
 pub struct Command<'a> {
     /// Its words, parted by single blanks.
     pub line: &'a str,
+    /// The text of its model.
     pub model: &'a str,
     /// The source of the model.
     pub source: Stream<'a>,
@@ -55,7 +56,7 @@ pub struct Command<'a> {
 }
 
 /// A command over the model of a text and an empty disk, of which no call fails.
-pub(crate) fn usual<'a>(line: &'a str, model: &'a str) -> Command<'a> {
+pub fn usual<'a>(line: &'a str, model: &'a str) -> Command<'a> {
     Command {
         line,
         model,
@@ -69,7 +70,7 @@ pub(crate) fn usual<'a>(line: &'a str, model: &'a str) -> Command<'a> {
 
 impl Command<'_> {
     /// Whether one worker does it: none of its words asks for more.
-    pub(crate) fn is_by_one(&self) -> bool {
+    pub fn is_by_one(&self) -> bool {
         !self.line.split(' ').any(|word| word == "--workers")
     }
 
@@ -114,6 +115,7 @@ fn push_words(alloc: Global, words: &mut Words, line: &str) -> Result<(), AllocE
 /// What a command is given besides its disk.
 #[derive(Drop)]
 pub struct Given {
+    /// Its words.
     pub words: Words,
     /// The source of its model.
     pub model: MemSource,
@@ -133,7 +135,9 @@ fn text_of(bytes: &[u8]) -> &str {
 pub struct Answered {
     /// The number with which it ended.
     pub status: u8,
+    /// What it was given, as it left it.
     pub given: Given,
+    /// The disk as it left it.
     pub disk: MemDisk,
     /// The kinds of the events of the search that it handed back, if it handed one back.
     pub kinds: Option<Kinds>,
@@ -158,36 +162,36 @@ impl Answered {
         Ok(run_given(alloc, given, disk))
     }
 
-    /// Runs a command on its own disk.
-    pub(crate) fn run(alloc: Global, command: &Command<'_>) -> Result<Answered> {
+    /// Runs a command on its own disk, by one worker. The one error is want of memory.
+    pub fn run(alloc: Global, command: &Command<'_>) -> Result<Answered> {
         let disk = command.disk(alloc)?;
         Answered::run_on(alloc, command, disk)
     }
 
-    /// The certificate.
-    pub(crate) fn certificate(&self) -> &str {
+    /// The certificate that it wrote.
+    pub fn certificate(&self) -> &str {
         text_of(self.given.cert.bytes())
     }
 
-    /// The lines.
-    pub(crate) fn lines(&self) -> &str {
+    /// The lines that it wrote.
+    pub fn lines(&self) -> &str {
         text_of(self.given.out.bytes())
     }
 
-    /// A copy of the bytes of its disk.
-    pub(crate) fn journal(&self, alloc: Global) -> Result<Vec<u8>> {
+    /// A copy of the bytes of its disk. The one error is want of memory.
+    pub fn journal(&self, alloc: Global) -> Result<Vec<u8>> {
         Ok(self.disk.bytes().to_vec(alloc)?)
     }
 
     /// Whether another command answered the same.
-    pub(crate) fn answers_as(&self, other: &Answered) -> bool {
+    pub fn answers_as(&self, other: &Answered) -> bool {
         self.status == other.status
             && self.given.cert.bytes() == other.given.cert.bytes()
             && self.given.out.bytes() == other.given.out.bytes()
     }
 
     /// Whether another command answered the same, and left the same.
-    pub(crate) fn is_same(&self, other: &Answered) -> bool {
+    pub fn is_same(&self, other: &Answered) -> bool {
         self.answers_as(other) && self.disk.bytes() == other.disk.bytes()
     }
 }

@@ -9,6 +9,7 @@ use std::io;
 /// What is printed of an answer behind its first line.
 #[derive(Clone, Copy)]
 pub enum More<'a> {
+    /// Nothing more.
     Nothing,
     /// The certificate.
     Certificate,
@@ -41,16 +42,16 @@ fn show_answer<R: Print>(rt: &R, title: &str, ran: &Answered) -> io::Result<()> 
     show_events(rt, ran)
 }
 
-/// Prints the certificate.
-pub(crate) fn show_certificate<R: Print>(rt: &R, title: &str, ran: &Answered) -> io::Result<()> {
+/// Prints the certificate, a line for each of its lines. An error is one of printing.
+pub fn show_certificate<R: Print>(rt: &R, title: &str, ran: &Answered) -> io::Result<()> {
     for line in ran.certificate().lines() {
         println!(rt; "{title} {line}")?;
     }
     Ok(())
 }
 
-/// Prints bytes in hexadecimal and ends the line.
-pub(crate) fn show_hexadecimal<R: Print>(rt: &R, bytes: &[u8]) -> io::Result<()> {
+/// Prints bytes in hexadecimal and ends the line. An error is one of printing.
+pub fn show_hexadecimal<R: Print>(rt: &R, bytes: &[u8]) -> io::Result<()> {
     for byte in bytes {
         print!(rt; " {byte:02x}")?;
     }
@@ -104,8 +105,8 @@ fn show_all<R: Print>(rt: &R, title: &str, ran: &Answered, more: More<'_>) -> Re
     Ok(())
 }
 
-/// Prints what a command answers on this disk.
-pub(crate) fn show_on<R: Print + Alloc<A = Global>>(
+/// Prints what a command answers on this disk. An error is one of printing, or want of memory.
+pub fn show_on<R: Print + Alloc<A = Global>>(
     rt: &R,
     title: &str,
     command: &Command<'_>,
@@ -116,8 +117,8 @@ pub(crate) fn show_on<R: Print + Alloc<A = Global>>(
     show_all(rt, title, &ran, more)
 }
 
-/// Prints what a command answers on its own disk.
-pub(crate) fn show_command<R: Print + Alloc<A = Global>>(
+/// Prints what a command answers on its own disk. An error is one of printing, or want of memory.
+pub fn show_command<R: Print + Alloc<A = Global>>(
     rt: &R,
     title: &str,
     command: &Command<'_>,
@@ -127,8 +128,9 @@ pub(crate) fn show_command<R: Print + Alloc<A = Global>>(
     show_on(rt, title, command, disk, more)
 }
 
-/// Prints what the command of these words answers over the model of a text, on a disk that holds these bytes.
-pub(crate) fn show_line<'a, R: Print + Alloc<A = Global>>(
+/// Prints what the command of these words answers over the model of a text, on a disk that holds these bytes. An error is one of printing, or want of
+/// memory.
+pub fn show_line<'a, R: Print + Alloc<A = Global>>(
     rt: &R,
     title: &str,
     line: &'a str,
@@ -143,7 +145,7 @@ pub(crate) fn show_line<'a, R: Print + Alloc<A = Global>>(
 }
 
 /// The disk that a command left.
-pub(crate) fn disk_of(ran: Answered) -> MemDisk {
+pub fn disk_of(ran: Answered) -> MemDisk {
     let Answered {
         status: _,
         given: _,
@@ -153,8 +155,8 @@ pub(crate) fn disk_of(ran: Answered) -> MemDisk {
     disk
 }
 
-/// Prints what a command answers on its own disk. The disk as it left it.
-pub(crate) fn show_with_disk<R: Print + Alloc<A = Global>>(
+/// Prints what a command answers on its own disk. The disk as it left it. An error is one of printing, or want of memory.
+pub fn show_with_disk<R: Print + Alloc<A = Global>>(
     rt: &R,
     title: &str,
     command: &Command<'_>,

@@ -1,10 +1,8 @@
 //! Commands over journals with the record of the upgrade, and over journals that programs wrote before there was one.
 
-use crate::command::{Answered, Command, usual};
-use crate::groups::{show_framed, with_frames};
-use crate::models::{ODD, ONE};
-use crate::shown::{More, show_command, show_line};
+use crate::groups::show_framed;
 use anyhow::Result;
+use case_runs::{Answered, Command, More, ODD, ONE, show_command, show_line, usual, with_frames};
 use std::alloc::{AllocError, Global};
 
 const SHOW: &str = "show j";

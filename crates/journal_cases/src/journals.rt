@@ -1,9 +1,10 @@
 //! Commands over journals: begun, gone on with, shown, refused, and on disks and streams that fail.
 
-use crate::command::{Answered, Command, SOUND, Stream, usual};
-use crate::models::{EMPTY, FAR, MOST, ODD, ONE};
-use crate::shown::{More, show_command, show_line, show_on, show_with_disk};
 use anyhow::Result;
+use case_runs::{
+    Answered, Command, EMPTY, FAR, MOST, More, ODD, ONE, SOUND, Stream, show_command, show_line,
+    show_on, show_with_disk, usual,
+};
 use outside::MemDisk;
 use std::alloc::{AllocError, Global};
 

@@ -3,14 +3,20 @@
 use node_events::Event;
 use solve_top::State;
 
-/// How many events of each kind a search has, and whether each node was split or closed by the worker that claimed it.
+/// How many events of each kind a search has, and whose they are.
 #[derive(Clone, Copy)]
 pub struct Kinds {
+    /// How many events.
     pub events: usize,
+    /// How many claims of nodes.
     pub claims: u64,
+    /// How many splits.
     pub splits: u64,
+    /// How many closes.
     pub closes: u64,
+    /// How many of all other kinds.
     pub others: u64,
+    /// Whether each node was split or closed by the worker that claimed it.
     pub by_claimer: bool,
 }
 

@@ -1,14 +1,11 @@
 //! Commands over journals whose events stand in groups, and in groups that are refused.
 
-use crate::command::{Answered, Command, usual};
-use crate::models::ONE;
-use crate::shown::{More, show_command, show_hexadecimal};
 use anyhow::Result;
-use std::alloc::{AllocError, Global};
+use case_runs::{
+    Answered, BEHIND_MODEL, Command, More, ONE, show_command, show_hexadecimal, usual, with_frames,
+};
+use std::alloc::Global;
 use std::io;
-
-/// Where the gate behind the record of the model stands.
-const BEHIND_MODEL: usize = 150;
 
 /// Frames with groups that are refused as a whole.
 const REFUSED: [(&str, &[u8]); 12] = [
@@ -61,18 +58,6 @@ const REFUSED: [(&str, &[u8]); 12] = [
         b"\x01\x02\0\0\0\x07\x02\x01\x07\0\0\0\x06\x02\x06\x02\x03\x01\x04\0",
     ),
 ];
-
-/// The beginning of a journal up to the gate behind the record of its model, and these frames behind it.
-pub(crate) fn with_frames(
-    alloc: Global,
-    journal: &[u8],
-    frames: &[u8],
-) -> Result<Vec<u8>, AllocError> {
-    let end = journal.len().min(BEHIND_MODEL);
-    let mut made = journal[..end].to_vec(alloc)?;
-    made.extend_from_slice(frames)?;
-    Ok(made)
-}
 
 /// Prints the length of a journal, and what stands behind the record of its model.
 fn show_behind_model<R: Print>(rt: &R, journal: &[u8]) -> io::Result<()> {
