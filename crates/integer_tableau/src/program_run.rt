@@ -55,8 +55,9 @@ fn end_over(
 {
     let ready = store.is_ready(program_rows.len(), costs);
     let spare = &mut store.spare;
-    let Some(solution) =
-        BasicSolution::start(alloc, columns, start_sums, costs, area, bounds, spare)?
+    let Some(solution) = BasicSolution::start(
+        alloc, columns, start_sums, costs, area, bounds, spare,
+    )?
     else {
         return Ok(None);
     };
