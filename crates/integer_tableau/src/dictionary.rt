@@ -228,6 +228,7 @@ impl Dictionaries {
         })?;
         Ok(())
     }
+
     /// The dictionary at the start alone, of a linear program of so many rows. The one error is want of memory.
     pub(crate) fn at_start(
         alloc: Global,

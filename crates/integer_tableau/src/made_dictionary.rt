@@ -1,6 +1,6 @@
 // Dictionaries that are made by a pivot.
 
-ghost use Rattle.std.specs.Prelude.{◌≡◌, ◌≢◌, ℕ, ◌<◌, ◌≤◌, ◌+◌, ◌*◌, ◌-◌, ◌++◌, ◌<ℤ◌, ℤ, List, [], ◌∷◌, pos, nat_abs, length, slice_index_or, slice_range, slice_set, take, IfNone, IfSome, IsTrue};
+ghost use Rattle.std.specs.Prelude.{◌≡◌, ◌≢◌, ℕ, ◌<◌, ◌≤◌, ◌+◌, ◌*◌, ◌-◌, ◌++◌, ◌<ℤ◌, ℤ, List, [], ◌∷◌, pos, nat_abs, length, slice_index_or, slice_range, slice_set, IfNone, IfSome, IsTrue};
 ghost use Rattle.integer_tableau.specs.Arena.{AreMadeRows, IsMadeRow, row_by};
 ghost use Rattle.integer_tableau.specs.BasicColumns.{HaveRows, basic_exchanged, count_below};
 ghost use Rattle.integer_tableau.specs.Kept.{AreCombinationsSmall, IsDictionaryBehind, IsKept, KeptDictionary, costs_of, kept_at, rows_of};

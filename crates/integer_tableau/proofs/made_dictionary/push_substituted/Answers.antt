@@ -19,10 +19,10 @@ put_behind : (old front row items : List ℤ) (start many n : ℕ) → front ≡
 put_behind old front row items start many n is f m l = written (front ++ row) items n (omega (arith, length-append front row, f, m, l)) ∙ ap (λ xs. xs ++ row) is
 
 module _ (c : After-copy_from_slice) where
-  old : List ℤ
+  abbrev old : List ℤ
   old = c.args.numerators.now.items
 
-  zeros : List ℤ
+  abbrev zeros : List ℤ
   zeros = replicate (c.in_ok-end.end - c.args.numerators.now.len) (pos 0)
 
   many : c.len-start.result ≡ length old
@@ -33,15 +33,17 @@ module _ (c : After-copy_from_slice) where
       let more : length old ≤ c.in_ok-end.end = omega (arith, c.in_ok-end.ensures, many) in
       c.deref_mut.ensures.value ∙ c.resize.ensures.items ∙ ap (λ b. if b then take c.in_ok-end.end old ++ zeros else old) (sym c.in_ok-ok.ensures.variant) ∙ ap (λ xs. xs ++ zeros) (take_all c.in_ok-end.end old more)
 
-  copied : c.copy_from_slice.new.self ≡ slice_range old c.args.from (c.args.from + length c.args.solved.now)
-  copied =
-      let is = front_is old zeros c.deref_mut.result.now _ c.len-start.result grown many c.split_at_mut-before.ensures.front in
-      c.copy_from_slice.ensures.after ∙ (λ i. slice_range (is i) c.args.from (c.args.from + c.width-2.ensures i))
+  first_is : c.split_at_mut-before.result.0.now ≡ old
+  first_is = front_is old zeros c.deref_mut.result.now c.split_at_mut-before.result.0.now c.len-start.result grown many c.split_at_mut-before.ensures.front
 
-  put : (row : List ℤ) → length row ≡ length c.copy_from_slice.new.self → _
-  put row m = put_behind old _ row c.resize.new.self.items c.len-start.result (length c.deref_mut.result.now) c.resize.new.self.len
-      (front_is old zeros c.deref_mut.result.now _ c.len-start.result grown many c.split_at_mut-before.ensures.front)
-      c.split_at_mut-before.ensures.front_len (omega (arith, m, c.copy_from_slice.auto.self, c.split_at_mut-before.ensures.back_len)) c.deref_mut.ensures.len
+  copied : c.copy_from_slice.new.self ≡ slice_range old c.args.from (c.args.from + length c.args.solved.now)
+  copied = c.copy_from_slice.ensures.after ∙ (λ i. slice_range (first_is i) c.args.from (c.args.from + c.width-2.ensures i))
+
+  put : (row : List ℤ) → length row ≡ length c.copy_from_slice.new.self
+      → take c.resize.new.self.len ((c.split_at_mut-before.result.0.now ++ row) ++ drop (length (c.split_at_mut-before.result.0.now ++ row)) c.resize.new.self.items) ≡ old ++ row
+  put row m =
+      put_behind old c.split_at_mut-before.result.0.now row c.resize.new.self.items c.len-start.result (length c.deref_mut.result.now) c.resize.new.self.len first_is c.split_at_mut-before.ensures.front_len
+      (omega (arith, m, c.copy_from_slice.auto.self, c.split_at_mut-before.ensures.back_len)) c.deref_mut.ensures.len
 
 pub substitute_small-requires-clause-row_small : goal.substitute_small-requires-clause-row_small
 substitute_small-requires-clause-row_small c = subst (IsWithin (size_limit - 1)) (sym (copied (goal.at.substitute_small-requires-clause-row_small c).After-copy_from_slice)) c.requires.row_small

@@ -1,8 +1,6 @@
-use Rattle.std.proofs.Common.{ap, ◌<◌, ◌<ℤ◌, ◌*◌, ◌^◌, ◌∙◌, ℤ, pos, arith, ◌-◌, [], get_or, nat_abs, refl, sym, subst, w64}
+use Rattle.std.proofs.Common.{◌<◌, ◌<ℤ◌, ◌*◌, ◌^◌, ◌∙◌, ℤ, pos, arith, nat_abs, sym, subst, w64}
 use Rattle.std.proofs.lemmas.Int.{to_z-of_z}
-use Rattle.integer_tableau.specs.Combined.{expanded_rows}
-use Rattle.integer_tableau.specs.Numbers.{IsWithin, number_at}
-use Rattle.integer_tableau.specs.Range.{size_limit}
+use Rattle.integer_tableau.specs.Numbers.{number_at}
 use Rattle.integer_tableau.proofs.Expanded.{row_taken}
 use Rattle.integer_tableau.proofs.WaysOut.{none_then}
 use Rattle.integer_tableau.proofs.pivot.leave.Goals as goal
