@@ -1,5 +1,9 @@
 //! Commands over memory, what they are given, and what they answer.
 
+ghost use Rattle.std.specs.Prelude.{◌≡◌, IfOk, IsTrue, None};
+ghost use Rattle.outside.specs.OnDisk.{disk_now};
+ghost use Rattle.outside.specs.InMemory.{sink_taken};
+
 use crate::kinds::{Kinds, kinds_of};
 use anyhow::Result;
 use outside::{MemDisk, MemSink, MemSource};
@@ -56,7 +60,11 @@ pub struct Command<'a> {
 }
 
 /// A command over the model of a text and an empty disk, of which no call fails.
-pub fn usual<'a>(line: &'a str, model: &'a str) -> Command<'a> {
+pub fn usual<'a>(line: &'a str, model: &'a str) -> Command<'a>
+    ensures line { result.line.now ≡ line.now }
+    ensures model { result.model.now ≡ model.now }
+    ensures stop { result.stop ≡ None }
+{
     Command {
         line,
         model,
@@ -179,19 +187,27 @@ impl Answered {
     }
 
     /// A copy of the bytes of its disk. The one error is want of memory.
-    pub fn journal(&self, alloc: Global) -> Result<Vec<u8>> {
+    pub fn journal(&self, alloc: Global) -> Result<Vec<u8>>
+        ensures { IfOk result (λ bytes. bytes.items ≡ (disk_now self.now.disk).seen) }
+    {
         Ok(self.disk.bytes().to_vec(alloc)?)
     }
 
     /// Whether another command answered the same.
-    pub fn answers_as(&self, other: &Answered) -> bool {
+    pub fn answers_as(&self, other: &Answered) -> bool
+        ensures status { IsTrue result → self.now.status ≡ other.now.status }
+        ensures cert { IsTrue result → sink_taken self.now.given.cert ≡ sink_taken other.now.given.cert }
+        ensures out { IsTrue result → sink_taken self.now.given.out ≡ sink_taken other.now.given.out }
+    {
         self.status == other.status
             && self.given.cert.bytes() == other.given.cert.bytes()
             && self.given.out.bytes() == other.given.out.bytes()
     }
 
     /// Whether another command answered the same, and left the same.
-    pub fn is_same(&self, other: &Answered) -> bool {
+    pub fn is_same(&self, other: &Answered) -> bool
+        ensures { IsTrue result → (disk_now self.now.disk).seen ≡ (disk_now other.now.disk).seen }
+    {
         self.answers_as(other) && self.disk.bytes() == other.disk.bytes()
     }
 }

@@ -1,5 +1,7 @@
 //! What is printed of the answers of commands.
 
+ghost use Rattle.std.specs.Prelude.{◌≡◌};
+
 use crate::command::{Answered, Command, usual};
 use anyhow::Result;
 use outside::MemDisk;
@@ -145,7 +147,9 @@ pub fn show_line<'a, R: Print + Alloc<A = Global>>(
 }
 
 /// The disk that a command left.
-pub fn disk_of(ran: Answered) -> MemDisk {
+pub fn disk_of(ran: Answered) -> MemDisk
+    ensures { result ≡ ran.disk }
+{
     let Answered {
         status: _,
         given: _,
