@@ -15,7 +15,7 @@ use crate::show::show;
 use event_codec::laws::records_tell_apart;
 use mps_reader::Lent;
 use node_pool::Pool;
-use outside::{Disk, MemDisk, Source};
+use outside::{Disk, ScratchDisk, Source};
 use std::alloc::Global;
 use std::hash::BuildHasher;
 
@@ -26,7 +26,7 @@ pub enum Begun<D: Disk> {
     /// It searches on in this pool.
     Search(Pool<D>),
     /// It searches in this pool of a drill, and leaves its disk alone.
-    Drill(Pool<MemDisk>, D),
+    Drill(Pool<ScratchDisk>, D),
 }
 
 // A search can begin in the pool of a journal that was read. It has no effect, and LLVM leaves nothing of it: its contract is for callers' proofs.

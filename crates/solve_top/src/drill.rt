@@ -12,7 +12,7 @@ use crate::outcome::Refusal;
 use drill_instance::generate;
 use mps_reader::Lent;
 use node_pool::Pool;
-use outside::MemDisk;
+use outside::ScratchDisk;
 use std::alloc::Global;
 use std::hash::BuildHasher;
 
@@ -34,7 +34,7 @@ pub fn drilled_pool<B: BuildHasher + Drop>(
     keys: B,
     seed: u32,
     nodes: u32,
-) -> Result<Pool<MemDisk>, Refusal>
+) -> Result<Pool<ScratchDisk>, Refusal>
     requires few { nodes ≤ most_nodes }
     ensures read { IfOk result (λ p. IsReadFrom p.state) }
     ensures problem { IfOk result (λ p. Reads (generated seed) None p.state.state.problem) }
@@ -45,7 +45,7 @@ pub fn drilled_pool<B: BuildHasher + Drop>(
     ensures refused { IfErr result (IsRefusedDrill seed) }
 {
     let model = drilled_model(alloc, Lent::of(&keys), seed)?;
-    match open_of(alloc, keys, MemDisk::new(alloc), model, None, nodes) {
+    match open_of(alloc, keys, ScratchDisk::new(alloc), model, None, nodes) {
         Ok(pool) => Ok(pool),
         Err((_, _)) => Err(Refusal::Memory),
     }
