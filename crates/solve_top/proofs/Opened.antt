@@ -254,14 +254,6 @@ pub held_events : (model : List ℕ) (p : Problem) (es : List Entry) (b : List �
 held_events model p es b ps (inl was) of_model = inr (was.payloads, was.held, sym (model_upgraded p was.payloads es was.stands) ∙ ap model_in (sym was.is_now) ∙ of_model, was.stands)
 held_events model p es b ps (inr fresh) of_model = inl fresh
 
--- an empty disk held none
-pub none_held : (model : List ℕ) (p : Problem) (es : List Entry) (b : List ℕ) → b ≡ [] → IsFreshOrWith model p es b → es ≡ []
-none_held model p es b empty (inl fresh) = fresh.1
-none_held model p es b empty (inr held) =
-    let none : Intact [] ≡ Intact held.0 = ap records (sym empty) ∙ held.1 in
-    let bad : [] ≡ model_in held.0 ∷ held.3.rest = ap payloads_held none ∙ held.3.parts in
-    cc
-
 pub stands_some : (p : Problem) (es : List Entry) (b : List ℕ) → StandsWith p es b → StandsForSome b
 stands_some p es b stood = (p, (stood.0, es, stood.1, stood.2))
 

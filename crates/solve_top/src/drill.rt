@@ -1,5 +1,5 @@
 // The pool of a drill: the search of the model of a seed, with its journal on a disk in memory.
-ghost use Rattle.std.specs.Prelude.{◌≡◌, ◌≤◌, [], None, IfErr, IfOk};
+ghost use Rattle.std.specs.Prelude.{◌≡◌, ◌≤◌, ℕ, [], None, IfErr, IfOk};
 ghost use Rattle.mps_reader.specs.Reading.{Reads};
 ghost use Rattle.resume.specs.Journals.{IsReadFrom};
 ghost use Rattle.drill_instance.specs.Texts.{generated};
@@ -28,6 +28,15 @@ fn drilled_model<B: BuildHasher + Drop>(alloc: Global, keys: B, seed: u32) -> Re
     }
 }
 
+// Lets go a pool that holds a search already, which that of a drill doesn't.
+fn given_up(pool: Pool<ScratchDisk>) -> Refusal
+    ensures { (seed : ℕ) → IsRefusedDrill seed result }
+{
+    let (_, journal, _) = pool.into_parts();
+    let _ = journal.into_disk();
+    Refusal::Memory
+}
+
 /// The pool of the search of a seed's model, with its journal on a disk in memory. What that disk may fail for is want of memory.
 pub fn drilled_pool<B: BuildHasher + Drop>(
     alloc: Global,
@@ -46,7 +55,14 @@ pub fn drilled_pool<B: BuildHasher + Drop>(
 {
     let model = drilled_model(alloc, Lent::of(&keys), seed)?;
     match open_of(alloc, keys, ScratchDisk::new(alloc), model, None, nodes) {
-        Ok(pool) => Ok(pool),
+        Ok(pool) => {
+            // The disk tells a proof nothing of what it has, so the pool is asked.
+            if pool.state().history().is_empty() {
+                Ok(pool)
+            } else {
+                Err(given_up(pool))
+            }
+        }
         Err((_, _)) => Err(Refusal::Memory),
     }
 }
