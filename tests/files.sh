@@ -495,7 +495,7 @@ try 'told of standard output that is the journal' 7 'bnc solve one.mps j c >>j 2
 try 'told nothing where all is well' 0 'bnc solve one.mps j c >out 2>err' c=cert out=lines err=empty
 try 'told nothing of a refusal' 4 'cp "$texts/foreign" j; bnc show j >out 2>err' j=foreign out=NotAJournal err=empty
 try 'told nothing where standard error is full' 5 'bnc solve none j c >out 2>/dev/full' out=read c=none
-try 'a stack of 64 KB' 0 '(ulimit -s 64; "$scratch/bnc" solve one.mps j c --workers 4 >out)' out=lines c=cert
+try 'a stack of 80 KB' 0 '(ulimit -s 80; "$scratch/bnc" solve one.mps j c --workers 4 >out)' out=lines c=cert
 
 # What can't be written or read.
 try 'the certificate is a folder' 7 'mkdir c; bnc solve one.mps j c >out' out=sink
